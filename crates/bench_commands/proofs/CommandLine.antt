@@ -13,7 +13,8 @@ use Rattle.command_words.proofs.ValuesTaken.{one_taken}
 use Rattle.bench_commands.specs.declared.command.Request.{Request}
 use Rattle.bench_commands.specs.declared.command.Request.TheVariants.{Bad, Help, Record, Run}
 use Rattle.bench_commands.specs.declared.execution.Mode.TheVariants.{Replay, WhatIf}
-use Rattle.bench_commands.specs.Command.{AreTaken, Asked, a_mistake, a_recording, a_run, asked_for, asked_in, bench_app, can_run, default_span, help, is_span, span_in, tally_in}
+use Rattle.bench_commands.specs.Command.{AreTaken, Asked, a_mistake, a_recording, a_run, asked_for, asked_in, bench_app, can_run, default_span, help, is_span}
+use Rattle.bench_commands.specs.Command.{span_in, tally_in}
 use Rattle.bench_commands.specs.Run.{has_span}
 
 pub is_program : IsProgram bench_app
@@ -50,12 +51,14 @@ within (Some text) taken = number_within 1 max_span text taken
 opens : (name : Text) (options : List Row) → AreTaken options → may_open (asked_for name options) ≡ true
 opens name options taken = by_name (bytes_eq name (codes "record")) (bytes_eq name (codes "whatif"))
   where
-    by_name : (records tries : Bool) → may_open (if records then a_recording else a_run (if tries then WhatIf (span_in options) else Replay (span_in options) (tally_in options))) ≡ true
+    by_name : (records tries : Bool) → may_open (if records then a_recording else a_run
+        (if tries then WhatIf (span_in options) else Replay (span_in options) (tally_in options))) ≡ true
     by_name true tries = refl
     by_name false true = within (one_of (codes "span") options) taken.span
     by_name false false = within (one_of (codes "span") options) taken.span
 
 -- so it may with the span that a command asks for
-pub met_opens : (found : Option (Text × List Row)) (request : Request) → IsSomeAnd found (λ met. AreTaken met.1) → IfSome found (λ met. asked_in request ≡ asked_for met.0 met.1) → can_run request ≡ true
+pub met_opens : (found : Option (Text × List Row)) (request : Request) → IsSomeAnd found (λ met. AreTaken met.1) → IfSome found
+    (λ met. asked_in request ≡ asked_for met.0 met.1) → can_run request ≡ true
 met_opens None request taken is = absurd taken
 met_opens (Some met) request taken is = can_open request ∙ ap may_open is ∙ opens met.0 met.1 taken

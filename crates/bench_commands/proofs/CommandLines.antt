@@ -6,7 +6,16 @@ use Rattle.bench_commands.specs.CommandLines.{WorkedHelp, WorkedMistakes, Worked
 
 pub runs : WorkedRuns
 unfolding clap_on_literals answered_in_words
-runs = record { bare = refl; span = refl; span_with_zeros = refl; span_with_plus = refl; tally = refl; tally_and_span = refl; span_and_tally = refl; end_of_options = refl }
+runs = record {
+  bare = refl;
+  span = refl;
+  span_with_zeros = refl;
+  span_with_plus = refl;
+  tally = refl;
+  tally_and_span = refl;
+  span_and_tally = refl;
+  end_of_options = refl;
+}
 
 pub trials : WorkedTrials
 unfolding clap_on_literals answered_in_words
@@ -22,4 +31,23 @@ helps = record { of_program = refl; by_letter = refl; of_replay = refl; of_what_
 
 pub mistakes : WorkedMistakes
 unfolding clap_on_literals answered_in_words
-mistakes = record { no_command = refl; help_as_command = refl; another_word = refl; no_value = refl; span_of_none = refl; span_too_long = refl; two_spans = refl; two_tallies = refl; tally_with_value = refl; tally_of_what_if = refl; span_of_none_of_what_if = refl; word_of_what_if = refl; span_of_record = refl; tally_of_record = refl; word_of_record = refl; two_commands = refl; no_text = refl }
+mistakes = record {
+  no_command = refl;
+  help_as_command = refl;
+  another_word = refl;
+  no_value = refl;
+  span_of_none = refl;
+  span_too_long = refl;
+  two_spans =
+      refl;
+  two_tallies = refl;
+  tally_with_value = refl;
+  tally_of_what_if = refl;
+  span_of_none_of_what_if = refl;
+  word_of_what_if = refl;
+  span_of_record = refl;
+  tally_of_record = refl;
+  word_of_record = refl;
+  two_commands = refl;
+  no_text = refl;
+}

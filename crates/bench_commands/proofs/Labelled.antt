@@ -15,7 +15,8 @@ got_more (first ∷ xs) x y zero found = inl found
 got_more (first ∷ xs) x y (suc k) found =
     ⊎_elim (λ (there : slice_get xs k ≡ Some y). inl there) (λ (last : (k ≡ length xs) × (y ≡ x)). inr (ap suc last.0, last.1)) (got_more xs x y k found)
 
-pub labels_more : {X : Type 0} (bytes : X → List ℕ) (header : Header) (texts more : List X) (text : X) → more ≡ texts ++ text ∷ [] → bytes text ≡ spaced (name_of header (length texts)) → AreLabels header (map bytes texts) → AreLabels header (map bytes more)
+pub labels_more : {X : Type 0} (bytes : X → List ℕ) (header : Header) (texts more : List X) (text : X) → more ≡ texts ++ text ∷ [] → bytes text ≡ spaced
+    (name_of header (length texts)) → AreLabels header (map bytes texts) → AreLabels header (map bytes more)
 labels_more bytes header texts more text are named labels = λ task label found.
     let there = ap (λ (xs : List _). slice_get (map bytes xs) task) are ∙ ap (λ (xs : List (List ℕ)). slice_get xs task) (map-append bytes texts (text ∷ [])) in
     ⊎_elim (λ (old : slice_get (map bytes texts) task ≡ Some label). labels task label old)

@@ -1,5 +1,6 @@
 -- What is written of a rig document.
-use Rattle.std.proofs.Common.{◌≡◌, ℕ, ◌≤◌, ◌⊎◌, List, [], ◌++◌, length, true, false, None, Result, Ok, Err, IfOk, nat_lt, codes, refl, sym, ap, subst, inl, inr, ◌∙◌}
+use Rattle.std.proofs.Common.{◌≡◌, ℕ, ◌≤◌, ◌⊎◌, List, [], ◌++◌, length, true, false, None, Result, Ok, Err, IfOk, nat_lt, codes, refl, sym, ap, subst, inl, inr}
+use Rattle.std.proofs.Common.{◌∙◌}
 use Rattle.std.specs.Prelude.{IsErr}
 use Rattle.bench_types.specs.declared.entry.Entry.{Entry}
 use Rattle.bench_types.specs.declared.header.Header.{Header}
@@ -15,14 +16,16 @@ use Rattle.session_text.specs.declared.fault.Why.TheVariants.{NoMemory}
 use Rattle.session_text.specs.Rig.{rig_text}
 use Rattle.bench_types.specs.Limits.{max_input}
 use Rattle.program_io.specs.Hint.{IsRigHintWhere, too_long_line}
-use Rattle.program_io.specs.Outputs.{Told, fine, noted, refused_with}
-use Rattle.program_io.specs.Refusal.{IsToldFault, refusal_line, why_text}
+use Rattle.program_io.specs.Outputs.{Printed, fine, noted, refused_with}
+use Rattle.program_io.specs.Refusal.{IsPrintedFault, refusal_line, why_text}
 use Rattle.program_io.specs.Twice.{twice_note}
 use Rattle.bench_commands.specs.Answer.{refused}
 use Rattle.bench_commands.specs.Record.{IsAnswerWhere, IsRecorded, IsRecording, IsRecordingOf}
 
-pub is_recorded : (rig : RigScript) (header : Header) (entries : List Entry) (steps : List Step) (bytes text : List ℕ) → header ≡ rig.header → IsLegal header entries → AreByCurrent header entries → length entries ≤ rig.limit → hold_after header entries ≡ None
-    → ArePlayed header rig.limit entries rig.scripts → steps ≡ steps_of entries → bytes ≡ written header steps → text ≡ bytes ++ codes "\n" → IsRecorded rig (record { is_refused = false; text = text })
+pub is_recorded : (rig : RigScript) (header : Header) (entries : List Entry) (steps : List Step) (bytes text : List ℕ) → header ≡ rig.header → IsLegal header
+    entries → AreByCurrent header entries → length entries ≤ rig.limit → hold_after header entries ≡ None
+    → ArePlayed header rig.limit entries rig.scripts → steps ≡ steps_of entries → bytes ≡ written header steps → text ≡ bytes ++ codes "\n" → IsRecorded rig
+    (record { is_refused = false; text = text })
 is_recorded rig header entries steps bytes text is legal current few unheld played steps_are is_written longer = record {
   entries = entries;
   legal = subst (λ header. IsLegal header entries) is legal;
@@ -36,34 +39,54 @@ is_recorded rig header entries steps bytes text is legal current few unheld play
 }
 
 -- what is told of a text that was not read
-pub refused_recording : {E : Type 0} (input : List ℕ) (fault : TextFault) (result : Result Told E) → (rig_text input ≡ Err fault) ⊎ (fault ≡ record { why = NoMemory; path = []; detail = detail.None })
-    → IfOk result (λ told. IsToldFault refused_with input fault told) → (fault.why ≡ NoMemory → IsErr result) → IfOk result (λ told. IsRecordingOf input (rig_text input) told)
-refused_recording input fault (Err e) reading told memory = tt
-refused_recording input fault (Ok told) (inl read) line memory =
-    subst (λ (r : Result RigScript TextFault). IsRecordingOf input r told) (sym read)
-    (record { output = refused (why_text fault.why) fault.path; answer = refl; tells = record { hint = line.hint; is_hint = λ refused. line.is_hint; is_told = line.is_told } })
-refused_recording input fault (Ok told) (inr none) line memory = absurd (cc (memory (ap (λ (f : TextFault). f.why) none)))
+pub refused_recording : {E : Type 0} (input : List ℕ) (fault : TextFault) (result : Result Printed E) → (rig_text input ≡ Err fault) ⊎
+    (fault ≡ record { why = NoMemory; path = []; detail = detail.None })
+    → IfOk result (λ printed. IsPrintedFault refused_with input fault printed) → (fault.why ≡ NoMemory → IsErr result) → IfOk result
+    (λ printed. IsRecordingOf input (rig_text input) printed)
+refused_recording input fault (Err e) reading printed memory = tt
+refused_recording input fault (Ok printed) (inl read) line memory =
+    subst (λ (r : Result RigScript TextFault). IsRecordingOf input r printed) (sym read)
+    (record {
+      output = refused (why_text fault.why) fault.path;
+      answer = refl;
+      tells =
+          record { hint = line.hint; is_hint = λ refused. line.is_hint; is_printed = line.is_printed };
+    })
+refused_recording input fault (Ok printed) (inr none) line memory = absurd (cc (memory (ap (λ (f : TextFault). f.why) none)))
 
 -- what is told of a text that was read
-pub recording_told : (input line text : List ℕ) (rig : RigScript) (told : Told) → rig_text input ≡ Ok rig → IsRecorded rig (record { is_refused = false; text = text }) → line ≡ twice_note input → told ≡ noted (fine text) line
-    → IsRecordingOf input (rig_text input) told
-recording_told input line text rig told read recorded is_line is =
-    subst (λ (r : Result RigScript TextFault). IsRecordingOf input r told) (sym read)
-    (record { output = record { is_refused = false; text = text }; answer = recorded; tells = record { hint = []; is_hint = λ refused. absurd (cc refused); is_told = is ∙ ap (noted (fine text)) is_line } })
+pub recording_printed : (input line text : List ℕ) (rig : RigScript) (printed : Printed) → rig_text input ≡ Ok rig → IsRecorded rig
+    (record { is_refused = false; text = text }) → line ≡ twice_note input → printed ≡ noted (fine text) line
+    → IsRecordingOf input (rig_text input) printed
+recording_printed input line text rig printed read recorded is_line is =
+    subst (λ (r : Result RigScript TextFault). IsRecordingOf input r printed) (sym read)
+    (record {
+      output = record { is_refused = false; text = text };
+      answer = recorded;
+      tells =
+          record { hint = []; is_hint = λ refused. absurd (cc refused); is_printed = is ∙ ap (noted (fine text)) is_line };
+    })
 
 -- what is told of an input that is not too long
-pub short_recording : {E : Type 0} (input : List ℕ) (result : Result Told E) → nat_lt max_input (length input) ≡ false → IfOk result (λ told. IsRecordingOf input (rig_text input) told) → IfOk result (λ told. IsRecording input told)
-short_recording input (Err e) short told = tt
-short_recording input (Ok given) short told = record {
-  output = told.output;
-  answer = subst (λ long. IsAnswerWhere long input told.output) (sym short) told.answer;
-  tells = record { hint = told.tells.hint; is_hint = λ refused. subst (λ long. IsRigHintWhere long input told.tells.hint) (sym short) (told.tells.is_hint refused); is_told = told.tells.is_told };
+pub short_recording : {E : Type 0} (input : List ℕ) (result : Result Printed E) → nat_lt max_input (length input) ≡ false → IfOk result
+    (λ printed. IsRecordingOf input (rig_text input) printed) → IfOk result (λ printed. IsRecording input printed)
+short_recording input (Err e) short printed = tt
+short_recording input (Ok given) short printed = record {
+  output = printed.output;
+  answer = subst (λ long. IsAnswerWhere long input printed.output) (sym short) printed.answer;
+  tells = record {
+    hint = printed.tells.hint;
+    is_hint = λ refused. subst (λ long. IsRigHintWhere long input printed.tells.hint) (sym short)
+        (printed.tells.is_hint refused);
+    is_printed = printed.tells.is_printed;
+  };
 }
 
 -- what is told of one that is
-pub long_recording : (input hint : List ℕ) (told : Told) → nat_lt max_input (length input) ≡ true → hint ≡ too_long_line → told ≡ refused_with (refusal_line (codes "H3") []) hint → IsRecording input told
-long_recording input hint told long is_hint is = record {
+pub long_recording : (input hint : List ℕ) (printed : Printed) → nat_lt max_input (length input) ≡ true → hint ≡ too_long_line → printed ≡ refused_with
+    (refusal_line (codes "H3") []) hint → IsRecording input printed
+long_recording input hint printed long is_hint is = record {
   output = refused (codes "H3") [];
   answer = subst (λ long. IsAnswerWhere long input (refused (codes "H3") [])) (sym long) refl;
-  tells = record { hint = hint; is_hint = λ refused. subst (λ long. IsRigHintWhere long input hint) (sym long) is_hint; is_told = is };
+  tells = record { hint = hint; is_hint = λ refused. subst (λ long. IsRigHintWhere long input hint) (sym long) is_hint; is_printed = is };
 }

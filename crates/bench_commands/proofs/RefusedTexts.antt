@@ -1,5 +1,6 @@
 -- What is told of a document, whether it was read and opened or not.
-use Rattle.std.proofs.Common.{◌≡◌, ◌⊎◌, ℕ, List, [], ◌++◌, length, flat_map, Bool, true, false, Result, Ok, Err, IfOk, nat_lt, nat_le, codes, refl, sym, ap, subst, ◌∙◌, arith, inl, inr}
+use Rattle.std.proofs.Common.{◌≡◌, ◌⊎◌, ℕ, List, [], ◌++◌, length, flat_map, Bool, true, false, Result, Ok, Err, IfOk, nat_lt, nat_le, codes, refl, sym, ap}
+use Rattle.std.proofs.Common.{subst, ◌∙◌, arith, inl, inr}
 use Rattle.std.specs.Prelude.{All, IsErr, OnOk, if◌then◌else◌}
 use Rattle.std.proofs.lemmas.Bool.Decides.{nat_tests}
 use Rattle.bench_types.specs.Name.{is_within}
@@ -20,25 +21,29 @@ use Rattle.session_text.specs.declared.fault.Why.TheVariants.{NoMemory}
 use Rattle.session_text.specs.Bench.{bench_text, IsCheckedBench}
 use Rattle.bench_model.specs.Meeting.{CheckpointedSession, first_kept}
 use Rattle.program_io.specs.Hint.{IsBenchTextHint, too_many_steps_line}
-use Rattle.program_io.specs.Outputs.{Told, fine, noted, refused_with}
-use Rattle.program_io.specs.Refusal.{IsToldFault, refusal_line}
+use Rattle.program_io.specs.Outputs.{Printed, fine, noted, refused_with}
+use Rattle.program_io.specs.Refusal.{IsPrintedFault, refusal_line}
 use Rattle.program_io.specs.Twice.{twice_note, warned}
 use Rattle.program_io.specs.declared.output.OutputStatus.TheVariants.{Failed, Fine}
 use Rattle.bench_commands.specs.declared.execution.Mode.{Mode}
-use Rattle.bench_commands.specs.Answer.{IsToldAnswer, Output, bench_notes, bench_output, notes_of, output_of, output_of_bench, refused, run_notes, span_of, store_text, told_with}
+use Rattle.bench_commands.specs.Answer.{IsPrintedAnswer, Output, bench_notes, bench_output, notes_of, output_of, output_of_bench, refused, run_notes, span_of}
+use Rattle.bench_commands.specs.Answer.{store_text, printed_with}
 use Rattle.document_stores.proofs.Opened.{few_steps, opens}
 
 -- what is told of a text that was not read
-pub refused_told : {E : Type 0} (mode : Mode) (text : Bench → List ℕ) (input : List ℕ) (fault : TextFault) (result : Result Told E) → (bench_text input ≡ Err fault) ⊎ (fault ≡ record { why = NoMemory; path = []; detail = None })
-    → IfOk result (λ told. IsToldFault refused_with input fault told) → (fault.why ≡ NoMemory → IsErr result) → IfOk result (λ told. IsToldAnswer (output_of text (bench_text input)) (run_notes mode input) (IsBenchTextHint input (bench_text input)) told)
-refused_told mode text input fault (Err e) reading told memory = tt
-refused_told mode text input fault (Ok told) (inl read) line memory =
-    subst (λ (r : Result Bench TextFault). IsToldAnswer (output_of text r) (twice_note input ++ notes_of mode r) (IsBenchTextHint input r) told) (sym read)
-    (record { hint = line.hint; is_hint = λ refused. line.is_hint; is_told = line.is_told })
-refused_told mode text input fault (Ok told) (inr none) line memory = absurd (cc (memory (ap (λ (f : TextFault). f.why) none)))
+pub refused_printed : {E : Type 0} (mode : Mode) (text : Bench → List ℕ) (input : List ℕ) (fault : TextFault) (result : Result Printed E) →
+    (bench_text input ≡ Err fault) ⊎ (fault ≡ record { why = NoMemory; path = []; detail = None })
+    → IfOk result (λ printed. IsPrintedFault refused_with input fault printed) → (fault.why ≡ NoMemory → IsErr result) → IfOk result
+    (λ printed. IsPrintedAnswer (output_of text (bench_text input)) (run_notes mode input) (IsBenchTextHint input (bench_text input)) printed)
+refused_printed mode text input fault (Err e) reading printed memory = tt
+refused_printed mode text input fault (Ok printed) (inl read) line memory =
+    subst (λ (r : Result Bench TextFault). IsPrintedAnswer (output_of text r) (twice_note input ++ notes_of mode r) (IsBenchTextHint input r) printed)
+    (sym read)
+    (record { hint = line.hint; is_hint = λ refused. line.is_hint; is_printed = line.is_printed })
+refused_printed mode text input fault (Ok printed) (inr none) line memory = absurd (cc (memory (ap (λ (f : TextFault). f.why) none)))
 
 -- lines before the notes of an answer
-warned_answer : (answer : Output) (lines notes hint : List ℕ) → warned lines (told_with answer notes hint) ≡ told_with answer (lines ++ notes) hint
+warned_answer : (answer : Output) (lines notes hint : List ℕ) → warned lines (printed_with answer notes hint) ≡ printed_with answer (lines ++ notes) hint
 warned_answer answer lines notes hint = by answer.is_refused
   where
     by : (refused : Bool) → warned lines (record { status = if refused then Failed else Fine; text = answer.text; note = if refused then hint else notes })
@@ -47,22 +52,24 @@ warned_answer answer lines notes hint = by answer.is_refused
     by false = refl
 
 -- what is told of a text that was read
-pub read_told : {E : Type 0} (mode : Mode) (text : Bench → List ℕ) (input line : List ℕ) (bench : Bench) (told : Told) (result : Result Told E) → bench_text input ≡ Ok bench → line ≡ twice_note input
-    → told ≡ told_with (output_of_bench text bench) (bench_notes mode bench) too_many_steps_line → IfOk result (λ output. output ≡ warned line told)
-    → IfOk result (λ told. IsToldAnswer (output_of text (bench_text input)) (run_notes mode input) (IsBenchTextHint input (bench_text input)) told)
-read_told mode text input line bench told (Err e) read is_line is_told given = tt
-read_told mode text input line bench told (Ok output) read is_line is_told given =
-    subst (λ (r : Result Bench TextFault). IsToldAnswer (output_of text r) (twice_note input ++ notes_of mode r) (IsBenchTextHint input r) output) (sym read)
+pub read_printed : {E : Type 0} (mode : Mode) (text : Bench → List ℕ) (input line : List ℕ) (bench : Bench) (printed : Printed) (result : Result Printed E) →
+    bench_text input ≡ Ok bench → line ≡ twice_note input
+    → printed ≡ printed_with (output_of_bench text bench) (bench_notes mode bench) too_many_steps_line → IfOk result (λ output. output ≡ warned line printed)
+    → IfOk result (λ printed. IsPrintedAnswer (output_of text (bench_text input)) (run_notes mode input) (IsBenchTextHint input (bench_text input)) printed)
+read_printed mode text input line bench printed (Err e) read is_line is_printed given = tt
+read_printed mode text input line bench printed (Ok output) read is_line is_printed given =
+    subst (λ (r : Result Bench TextFault). IsPrintedAnswer (output_of text r) (twice_note input ++ notes_of mode r) (IsBenchTextHint input r) output) (sym read)
     (record {
       hint = too_many_steps_line;
       is_hint = λ refused. refl;
-      is_told =
-          given ∙ ap (warned line) is_told ∙ warned_answer (output_of_bench text bench) line (bench_notes mode bench) too_many_steps_line
-          ∙ ap (λ (first : List ℕ). told_with (output_of_bench text bench) (first ++ bench_notes mode bench) too_many_steps_line) is_line;
+      is_printed =
+          given ∙ ap (warned line) is_printed ∙ warned_answer (output_of_bench text bench) line (bench_notes mode bench) too_many_steps_line
+          ∙ ap (λ (first : List ℕ). printed_with (output_of_bench text bench) (first ++ bench_notes mode bench) too_many_steps_line) is_line;
     })
 
 -- a session that was checked is not opened only where it has too many steps
-pub too_long_output : (text : Bench → List ℕ) (bench : Bench) (span : ℕ) (why : OpenRefusal) → IsCheckedBench bench → is_within 1 max_span span ≡ true → (open_check bench.header bench.steps span ≡ Ok tt → why ≡ refusal.NoMemory) → why ≡ TooLong
+pub too_long_output : (text : Bench → List ℕ) (bench : Bench) (span : ℕ) (why : OpenRefusal) → IsCheckedBench bench → is_within 1 max_span span ≡ true →
+    (open_check bench.header bench.steps span ≡ Ok tt → why ≡ refusal.NoMemory) → why ≡ TooLong
     → refused (codes "J2") [] ≡ output_of_bench text bench
 too_long_output text bench span why checked within memory long = go (nat_lt max_steps (length bench.steps)) refl
   where
@@ -73,25 +80,32 @@ too_long_output text bench span why checked within memory long = go (nat_lt max_
         absurd (cc (memory (opens bench.header bench.steps span checked.is_session within fits), long))
 
 -- what is told of a session that was not opened
-pub not_opened_told : {E : Type 0} (text : Bench → List ℕ) (notes : List ℕ) (bench : Bench) (why : OpenRefusal) (result : Result Told E) → OnOk result (why ≡ TooLong) → IfOk result (λ told. told ≡ refused_with (refusal_line (codes "J2") []) too_many_steps_line)
-    → (why ≡ TooLong → refused (codes "J2") [] ≡ output_of_bench text bench) → IfOk result (λ told. told ≡ told_with (output_of_bench text bench) notes too_many_steps_line)
-not_opened_told text notes bench why (Err e) long line told = tt
-not_opened_told text notes bench why (Ok answer) long line told = line ∙ ap (λ (answer : Output). told_with answer notes too_many_steps_line) (told long)
+pub not_opened_printed : {E : Type 0} (text : Bench → List ℕ) (notes : List ℕ) (bench : Bench) (why : OpenRefusal) (result : Result Printed E) → OnOk result
+    (why ≡ TooLong) → IfOk result (λ printed. printed ≡ refused_with (refusal_line (codes "J2") []) too_many_steps_line)
+    → (why ≡ TooLong → refused (codes "J2") [] ≡ output_of_bench text bench) → IfOk result
+    (λ printed. printed ≡ printed_with (output_of_bench text bench) notes too_many_steps_line)
+not_opened_printed text notes bench why (Err e) long line printed = tt
+not_opened_printed text notes bench why (Ok answer) long line printed = line ∙ ap (λ (answer : Output). printed_with answer notes too_many_steps_line)
+    (printed long)
 
 -- what is told of a session that was opened
-pub opened_told : (mode : Mode) (notes : List ℕ) (bench : Bench) (span : ℕ) (kept : CheckpointedSession) (told : Told) → span ≡ span_of mode → open_check bench.header bench.steps span ≡ Ok tt
+pub opened_printed : (mode : Mode) (notes : List ℕ) (bench : Bench) (span : ℕ) (kept : CheckpointedSession) (printed : Printed) → span ≡ span_of mode →
+    open_check bench.header bench.steps span ≡ Ok tt
     → kept ≡ first_kept span (record { header = bench.header; steps = bench.steps })
-    → told ≡ noted (fine (store_text mode kept bench.edits)) notes → told ≡ told_with (output_of_bench (bench_output mode) bench) notes too_many_steps_line
-opened_told mode notes bench span kept told is accepted same given =
+    → printed ≡ noted (fine (store_text mode kept bench.edits)) notes → printed ≡ printed_with (output_of_bench (bench_output mode) bench) notes
+    too_many_steps_line
+opened_printed mode notes bench span kept printed is accepted same given =
     let few = few_steps bench.header bench.steps span accepted in
     let begin = same ∙ ap (λ n. first_kept n (record { header = bench.header; steps = bench.steps })) is in
     given ∙ ap (λ (k : CheckpointedSession). noted (fine (store_text mode k bench.edits)) notes) begin
-    ∙ sym (ap (λ (many : Bool). told_with (if many then refused (codes "J2") [] else record { is_refused = false; text = bench_output mode bench }) notes too_many_steps_line) few)
+    ∙ sym (ap (λ (many : Bool). printed_with (if many then refused (codes "J2") [] else record { is_refused = false; text = bench_output mode bench }) notes
+    too_many_steps_line) few)
 
 -- a text that is told with notes
-pub noted_told : (told given : Told) (bytes text note notes : List ℕ) → given ≡ fine bytes → told ≡ noted given note → bytes ≡ text → note ≡ notes → told ≡ noted (fine text) notes
-noted_told told given bytes text note notes is_given is_told is_text are_notes =
-    is_told ∙ ap (λ (one : Told). noted one note) is_given ∙ ap (λ (some : List ℕ). noted (fine some) note) is_text ∙ ap (noted (fine text)) are_notes
+pub noted_printed : (printed given : Printed) (bytes text note notes : List ℕ) → given ≡ fine bytes → printed ≡ noted given note → bytes ≡ text → note ≡ notes →
+    printed ≡ noted (fine text) notes
+noted_printed printed given bytes text note notes is_given is_printed is_text are_notes =
+    is_printed ∙ ap (λ (one : Printed). noted one note) is_given ∙ ap (λ (some : List ℕ). noted (fine some) note) is_text ∙ ap (noted (fine text)) are_notes
 
 -- nothing is told of no edits of a replay
 pub no_notes : (session : Session) (edits : List Edit) → edits ≡ [] → [] ≡ edit_notes session edits
@@ -99,6 +113,7 @@ unfolding edit_notes
 no_notes session edits none = sym (ap (λ (list : List Edit). flat_map refused_line (refused_edits session list)) none)
 
 -- the lines of the edits of a document, by the number of its steps in the store
-pub counted : (bench : Bench) (kept : CheckpointedSession) (span count : ℕ) → kept ≡ first_kept span (record { header = bench.header; steps = bench.steps }) → count ≡ length kept.session.steps → All (IsCheckedEdit bench.header) bench.edits
+pub counted : (bench : Bench) (kept : CheckpointedSession) (span count : ℕ) → kept ≡ first_kept span (record { header = bench.header; steps = bench.steps }) →
+    count ≡ length kept.session.steps → All (IsCheckedEdit bench.header) bench.edits
     → IsCounted count bench.edits (record { header = bench.header; steps = bench.steps })
 counted bench kept span count same is checked = record { many = sym (is ∙ ap (λ (k : CheckpointedSession). length k.session.steps) same); checked = checked }

@@ -1,5 +1,6 @@
 -- The lines of a replay, place by place.
-use Rattle.std.proofs.Common.{◌≡◌, ℕ, suc, ◌+◌, ◌≤◌, Bool, true, false, List, [], ◌∷◌, ◌++◌, length, flat_map, nat_le, if◌then◌else◌, Option, Some, None, refl, sym, ap, ◌∙◌, arith, append_assoc}
+use Rattle.std.proofs.Common.{◌≡◌, ℕ, suc, ◌+◌, ◌≤◌, Bool, true, false, List, [], ◌∷◌, ◌++◌, length, flat_map, nat_le, if◌then◌else◌, Option, Some, None, refl}
+use Rattle.std.proofs.Common.{sym, ap, ◌∙◌, arith, append_assoc}
 use Rattle.std.specs.Prelude.{option_map}
 use Rattle.std.specs.Option.{option_map_or}
 use Rattle.std.proofs.lemmas.Bool.Decides.{nat_tests}
@@ -25,12 +26,14 @@ line_with header place _ _ = []
 -- a place past the last step has no reply
 none_past : (header : Header) (steps : List Step) (place : ℕ) → length steps ≤ place → reply_at header steps place ≡ None
 unfolding reply_at
-none_past header steps place past = ap (λ (step : Option Step). option_map (λ (s : Step). (step_of s (state_at header steps place)).0) step) (slice_get_past steps place past)
+none_past header steps place past = ap (λ (step : Option Step). option_map (λ (s : Step). (step_of s (state_at header steps place)).0) step)
+    (slice_get_past steps place past)
 
 abbrev some_row : Bool → List ℕ → Option (List ℕ)
 some_row early row = if early then Some row else None
 
-pub line_of : (header : Header) (steps : List Step) (place : ℕ) (reply : Option Reply) (row : Option (List ℕ)) → reply ≡ reply_at header steps place → row ≡ running_at header steps (place + 1)
+pub line_of : (header : Header) (steps : List Step) (place : ℕ) (reply : Option Reply) (row : Option (List ℕ)) → reply ≡ reply_at header steps place → row ≡
+    running_at header steps (place + 1)
     → line_at header steps place ≡ line_with header place reply row
 unfolding running_at
 line_of header steps place reply row replied runs = go reply row replied (nat_le (place + 1) (length steps)) refl runs
@@ -47,7 +50,8 @@ line_of header steps place reply row replied runs = go reply row replied (nat_le
         ap (λ n. running (state_at header steps n).control) same
 
     go : (reply : Option Reply) (row : Option (List ℕ)) → reply ≡ reply_at header steps place → (early : Bool) → nat_le (place + 1) (length steps) ≡ early
-        → row ≡ some_row (nat_le (place + 1) (length steps)) (running (state_at header steps (place + 1)).control) → line_at header steps place ≡ line_with header place reply row
+        → row ≡ some_row (nat_le (place + 1) (length steps)) (running (state_at header steps (place + 1)).control) → line_at header steps place ≡ line_with
+        header place reply row
     go None row replied early is runs = ap line (sym replied)
     go (Some reply) None replied true is runs = absurd (cc (runs, is))
     go (Some reply) None replied false is runs =
@@ -65,10 +69,12 @@ start_is_there header steps =
     let early : nat_le 0 (length steps) ≡ true = grind (arith, nat_tests) in
     ap (λ b. some_row b (running (start header).control)) (sym early)
 
-lines_more : (header : Header) (steps : List Step) (place : ℕ) → flat_map (line_at header steps) (numbers (place + 1)) ≡ flat_map (line_at header steps) (numbers place) ++ line_at header steps place
+lines_more : (header : Header) (steps : List Step) (place : ℕ) → flat_map (line_at header steps) (numbers (place + 1)) ≡ flat_map (line_at header steps)
+    (numbers place) ++ line_at header steps place
 lines_more header steps place =
     let line = line_at header steps in
-    ap (flat_map line) (numbers_more place) ∙ flat_map-append line (numbers place) (place ∷ []) ∙ ap (λ last. flat_map line (numbers place) ++ last) (append-nil (line place))
+    ap (flat_map line) (numbers_more place) ∙ flat_map-append line (numbers place) (place ∷ []) ∙ ap (λ last. flat_map line (numbers place) ++ last)
+    (append-nil (line place))
 
 -- the lines after a text: the start, then those of the steps before a place
 abbrev pub lines_after : List ℕ → Header → List Step → ℕ → List ℕ
@@ -77,14 +83,16 @@ lines_after before header steps place = before ++ (first_line header ++ flat_map
 pub lines_start : (before : List ℕ) (header : Header) (steps : List Step) → before ++ first_line header ≡ lines_after before header steps 0
 lines_start before header steps = ap (λ first. before ++ first) (sym (append-nil (first_line header)))
 
-pub lines_next : (before : List ℕ) (header : Header) (steps : List Step) (place : ℕ) → lines_after before header steps place ++ line_at header steps place ≡ lines_after before header steps (place + 1)
+pub lines_next : (before : List ℕ) (header : Header) (steps : List Step) (place : ℕ) → lines_after before header steps place ++ line_at header steps place ≡
+    lines_after before header steps (place + 1)
 lines_next before header steps place =
     let line = line_at header steps place in
     let lines = flat_map (line_at header steps) (numbers place) in
     append_assoc before (first_line header ++ lines) line
     ∙ ap (λ rest. before ++ rest) (append_assoc (first_line header) lines line ∙ ap (λ more. first_line header ++ more) (sym (lines_more header steps place)))
 
-pub lines_end : (before : List ℕ) (header : Header) (steps : List Step) (place : ℕ) → place ≡ length steps → lines_after before header steps place ≡ before ++ replay_text header steps
+pub lines_end : (before : List ℕ) (header : Header) (steps : List Step) (place : ℕ) → place ≡ length steps → lines_after before header steps place ≡ before ++
+    replay_text header steps
 unfolding replay_text
 lines_end before header steps place all = ap (λ n. lines_after before header steps n) all
 
@@ -95,7 +103,8 @@ start_shown header steps row shown = cc (shown, start_is_there header steps)
 pub start_not_none : (header : Header) (steps : List Step) → None ≡ running_at header steps 0 → ⊥
 start_not_none header steps none = cc (none, start_is_there header steps)
 
-pub row_some : (header : Header) (steps : List Step) (place : ℕ) (row : List ℕ) → Some row ≡ running_at header steps (suc place) → Some row ≡ running_at header steps (place + 1)
-row_some header steps place row told =
+pub row_some : (header : Header) (steps : List Step) (place : ℕ) (row : List ℕ) → Some row ≡ running_at header steps (suc place) → Some row ≡ running_at header
+    steps (place + 1)
+row_some header steps place row printed =
     let next : suc place ≡ place + 1 = omega arith in
-    told ∙ ap (running_at header steps) next
+    printed ∙ ap (running_at header steps) next

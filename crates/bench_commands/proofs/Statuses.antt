@@ -8,7 +8,7 @@ use Rattle.program_io.specs.declared.ending.RunFault.TheVariants.{Memory, Read, 
 use Rattle.program_io.specs.declared.output.OutputStatus.TheVariants as went
 use Rattle.program_io.specs.Device.{AppendsPrefix}
 use Rattle.program_io.specs.Endings.{all_reads_well, all_writes_well, Bytes, EndsTelling}
-use Rattle.program_io.specs.Outputs.{Told}
+use Rattle.program_io.specs.Outputs.{Printed}
 use Rattle.bench_commands.specs.declared.execution.Mode.{Mode}
 use Rattle.bench_commands.specs.Answer.{IsRun}
 use Rattle.bench_commands.specs.Record.{EndsRecord, IsRecording}
@@ -28,7 +28,8 @@ unknown_is true e = refl
 unknown_is false e = absurd (cc e)
 
 -- a run or a recording has no other ending
-pub of_run : (Promises : List ℕ → Told → Type 0) (ending : Ending) (read_old read_new write_old write_new : Bytes) → EndsTelling Promises ending read_old read_new write_old write_new → is_of_run ending ≡ true
+pub of_run : (Promises : List ℕ → Printed → Type 0) (ending : Ending) (read_old read_new write_old write_new : Bytes) → EndsTelling Promises ending read_old
+    read_new write_old write_new → is_of_run ending ≡ true
 of_run Promises (Written status note) read_old read_new write_old write_new ended = refl
 of_run Promises (BadCommandLine text) read_old read_new write_old write_new ended = absurd ended
 of_run Promises (NotOpened line) read_old read_new write_old write_new ended = absurd ended
@@ -58,24 +59,94 @@ writes_by_status (Failed Read) is = refl
 writes_by_status (Failed Write) is = refl
 
 module _ (read_old read_new write_old write_new : Bytes) where
-  pub run_ended : (mode : Mode) (ending : Ending) → EndsTelling (IsRun mode) ending read_old read_new write_old write_new → Ran mode (status_of ending) read_old read_new write_old write_new
-  run_ended mode (Written went.Fine note) all = record { input = all.input; reads = all.reads; status = fine_is _ (sym (ap (λ (t : Told). t.status) all.promised.is_told) ∙ all.is_status); writes = subst (λ text. Appends write_old write_new text) (ap (λ (t : Told). t.text) all.promised.is_told) all.writes }
-  run_ended mode (Written went.Failed note) all = record { input = all.input; reads = all.reads; status = failed_is _ (sym (ap (λ (t : Told). t.status) all.promised.is_told) ∙ all.is_status); writes = subst (λ text. Appends write_old write_new text) (ap (λ (t : Told). t.text) all.promised.is_told) all.writes }
-  run_ended mode (Written went.Unknown note) all = record { input = all.input; reads = all.reads; status = unknown_is _ (sym (ap (λ (t : Told). t.status) all.promised.is_told) ∙ all.is_status); writes = subst (λ text. Appends write_old write_new text) (ap (λ (t : Told). t.text) all.promised.is_told) all.writes }
+  pub run_ended : (mode : Mode) (ending : Ending) → EndsTelling (IsRun mode) ending read_old read_new write_old write_new → Ran mode (status_of ending) read_old
+      read_new write_old write_new
+  run_ended mode (Written went.Fine note) all = record {
+    input = all.input;
+    reads = all.reads;
+    status = fine_is _
+        (sym (ap (λ (t : Printed). t.status) all.promised.is_printed) ∙ all.is_status);
+    writes = subst (λ text. Appends write_old write_new text)
+        (ap (λ (t : Printed). t.text) all.promised.is_printed) all.writes;
+  }
+  run_ended mode (Written went.Failed note) all = record {
+    input = all.input;
+    reads = all.reads;
+    status = failed_is _
+        (sym (ap (λ (t : Printed). t.status) all.promised.is_printed) ∙ all.is_status);
+    writes = subst (λ text. Appends write_old write_new text)
+        (ap (λ (t : Printed). t.text) all.promised.is_printed) all.writes;
+  }
+  run_ended mode (Written went.Unknown note) all = record {
+    input = all.input;
+    reads = all.reads;
+    status = unknown_is _
+        (sym (ap (λ (t : Printed). t.status) all.promised.is_printed) ∙ all.is_status);
+    writes = subst (λ text. Appends write_old write_new text)
+        (ap (λ (t : Printed). t.text) all.promised.is_printed) all.writes;
+  }
   run_ended mode (BadCommandLine text) ended = absurd ended
   run_ended mode (NotOpened line) ended = absurd ended
-  run_ended mode Gone first = record { input = first.input; reads = first.reads; writes = subst (λ text. AppendsPrefix write_old write_new text) (ap (λ (t : Told). t.text) first.promised.is_told) first.writes }
+  run_ended mode Gone first = record {
+    input = first.input;
+    reads = first.reads;
+    writes = subst (λ text. AppendsPrefix write_old write_new text)
+        (ap (λ (t : Printed). t.text) first.promised.is_printed) first.writes;
+  }
   run_ended mode (Failed Memory) nothing = nothing
   run_ended mode (Failed Read) nothing = nothing
-  run_ended mode (Failed Write) first = record { input = first.input; reads = first.reads; writes = subst (λ text. AppendsPrefix write_old write_new text) (ap (λ (t : Told). t.text) first.promised.is_told) first.writes }
+  run_ended mode (Failed Write) first = record {
+    input = first.input;
+    reads = first.reads;
+    writes = subst (λ text. AppendsPrefix write_old write_new text)
+        (ap (λ (t : Printed). t.text) first.promised.is_printed) first.writes;
+  }
 
-  pub recording_ended : (ending : Ending) → EndsTelling IsRecording ending read_old read_new write_old write_new → EndsRecord (status_of ending) read_old read_new write_old write_new
-  recording_ended (Written went.Fine note) all = record { input = all.input; reads = all.reads; output = all.promised.output; answer = all.promised.answer; status = fine_is _ (sym (ap (λ (t : Told). t.status) all.promised.tells.is_told) ∙ all.is_status); writes = subst (λ text. Appends write_old write_new text) (ap (λ (t : Told). t.text) all.promised.tells.is_told) all.writes }
-  recording_ended (Written went.Failed note) all = record { input = all.input; reads = all.reads; output = all.promised.output; answer = all.promised.answer; status = failed_is _ (sym (ap (λ (t : Told). t.status) all.promised.tells.is_told) ∙ all.is_status); writes = subst (λ text. Appends write_old write_new text) (ap (λ (t : Told). t.text) all.promised.tells.is_told) all.writes }
-  recording_ended (Written went.Unknown note) all = record { input = all.input; reads = all.reads; output = all.promised.output; answer = all.promised.answer; status = unknown_is _ (sym (ap (λ (t : Told). t.status) all.promised.tells.is_told) ∙ all.is_status); writes = subst (λ text. Appends write_old write_new text) (ap (λ (t : Told). t.text) all.promised.tells.is_told) all.writes }
+  pub recording_ended : (ending : Ending) → EndsTelling IsRecording ending read_old read_new write_old write_new → EndsRecord (status_of ending) read_old
+      read_new write_old write_new
+  recording_ended (Written went.Fine note) all = record {
+    input = all.input;
+    reads = all.reads;
+    output = all.promised.output;
+    answer = all.promised.answer;
+    status = fine_is _ (sym (ap (λ (t : Printed). t.status) all.promised.tells.is_printed) ∙ all.is_status);
+    writes = subst
+        (λ text. Appends write_old write_new text) (ap (λ (t : Printed). t.text) all.promised.tells.is_printed) all.writes;
+  }
+  recording_ended (Written went.Failed note) all = record {
+    input = all.input;
+    reads = all.reads;
+    output = all.promised.output;
+    answer = all.promised.answer;
+    status = failed_is _ (sym (ap (λ (t : Printed). t.status) all.promised.tells.is_printed) ∙ all.is_status);
+    writes = subst
+        (λ text. Appends write_old write_new text) (ap (λ (t : Printed). t.text) all.promised.tells.is_printed) all.writes;
+  }
+  recording_ended (Written went.Unknown note) all = record {
+    input = all.input;
+    reads = all.reads;
+    output = all.promised.output;
+    answer = all.promised.answer;
+    status = unknown_is _ (sym (ap (λ (t : Printed). t.status) all.promised.tells.is_printed) ∙ all.is_status);
+    writes = subst
+        (λ text. Appends write_old write_new text) (ap (λ (t : Printed). t.text) all.promised.tells.is_printed) all.writes;
+  }
   recording_ended (BadCommandLine text) ended = absurd ended
   recording_ended (NotOpened line) ended = absurd ended
-  recording_ended Gone first = record { input = first.input; reads = first.reads; output = first.promised.output; answer = first.promised.answer; writes = subst (λ text. AppendsPrefix write_old write_new text) (ap (λ (t : Told). t.text) first.promised.tells.is_told) first.writes }
+  recording_ended Gone first = record {
+    input = first.input;
+    reads = first.reads;
+    output = first.promised.output;
+    answer = first.promised.answer;
+    writes = subst
+        (λ text. AppendsPrefix write_old write_new text) (ap (λ (t : Printed). t.text) first.promised.tells.is_printed) first.writes;
+  }
   recording_ended (Failed Memory) nothing = nothing
   recording_ended (Failed Read) nothing = nothing
-  recording_ended (Failed Write) first = record { input = first.input; reads = first.reads; output = first.promised.output; answer = first.promised.answer; writes = subst (λ text. AppendsPrefix write_old write_new text) (ap (λ (t : Told). t.text) first.promised.tells.is_told) first.writes }
+  recording_ended (Failed Write) first = record {
+    input = first.input;
+    reads = first.reads;
+    output = first.promised.output;
+    answer = first.promised.answer;
+    writes = subst (λ text. AppendsPrefix write_old write_new text) (ap (λ (t : Printed). t.text) first.promised.tells.is_printed) first.writes;
+  }

@@ -22,7 +22,7 @@ use Rattle.session_text.specs.declared.fault.TextFault.{TextFault}
 use Rattle.session_text.specs.Bench.{bench_text}
 use Rattle.program_io.specs.declared.output.OutputStatus.TheVariants.{Failed, Fine}
 use Rattle.program_io.specs.Hint.{IsBenchHint}
-use Rattle.program_io.specs.Outputs.{Told}
+use Rattle.program_io.specs.Outputs.{Printed}
 use Rattle.program_io.specs.Refusal.{refusal_line, why_text}
 use Rattle.program_io.specs.Twice.{twice_note}
 use Rattle.bench_commands.specs.declared.execution.Mode.{Mode}
@@ -125,19 +125,19 @@ notes_of mode (Ok bench) = bench_notes mode bench
 notes_of mode (Err fault) = []
 
 -- an answer, with what people are told beside it, and in the place of that of a refused one
-abbrev pub told_with : Output → List ℕ → List ℕ → Told
-told_with answer notes hint = record {
+abbrev pub printed_with : Output → List ℕ → List ℕ → Printed
+printed_with answer notes hint = record {
   status = if answer.is_refused then Failed else Fine;
   text = answer.text;
   note = if answer.is_refused then hint else notes;
 }
 
 -- an answer is told with these notes, or where it is a refusal with such a hint
-pub record IsToldAnswer (answer : Output) (notes : List ℕ) (IsHint : List ℕ → Type 0)
-    (told : Told) : Type 0 where
+pub record IsPrintedAnswer (answer : Output) (notes : List ℕ) (IsHint : List ℕ → Type 0)
+    (printed : Printed) : Type 0 where
   pub hint : List ℕ
   pub is_hint : answer.is_refused ≡ true → IsHint hint
-  pub is_told : told ≡ told_with answer notes hint
+  pub is_printed : printed ≡ printed_with answer notes hint
 
 -- that a member of the input stands twice, and then by the mode a line for each edit that is
 -- refused
@@ -145,6 +145,6 @@ abbrev pub run_notes : Mode → List ℕ → List ℕ
 run_notes mode input = twice_note input ++ notes_of mode (bench_text input)
 
 -- by the mode, what a run tells of an input
-abbrev pub IsRun : Mode → List ℕ → Told → Type 0
-IsRun mode input told =
-    IsToldAnswer (output mode input) (run_notes mode input) (IsBenchHint input) told
+abbrev pub IsRun : Mode → List ℕ → Printed → Type 0
+IsRun mode input printed =
+    IsPrintedAnswer (output mode input) (run_notes mode input) (IsBenchHint input) printed

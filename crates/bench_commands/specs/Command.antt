@@ -6,7 +6,7 @@ use Rattle.clap.specs.Words.{App, Row, Rule, Text, one_of}
 use Rattle.clap.specs.declared.builder.value_parser.ValueParser.TheVariants.{Signed}
 use Rattle.command_words.specs.Answered.{Answered, answered, met, said}
 use Rattle.command_words.specs.Asking.{flag_in, helps, is_flag, number_in}
-use Rattle.command_words.specs.Told.{command_app, flag_rule, option_rule, program_app, with_commands}
+use Rattle.command_words.specs.Printed.{command_app, flag_rule, option_rule, program_app, with_commands}
 use Rattle.bench_types.specs.Limits.{max_span}
 use Rattle.bench_commands.specs.declared.execution.Mode.{Mode}
 use Rattle.bench_commands.specs.declared.execution.Mode.TheVariants.{Replay, WhatIf}

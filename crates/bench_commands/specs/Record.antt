@@ -18,9 +18,9 @@ use Rattle.program_io.specs.Refusal.{why_text}
 use Rattle.program_io.specs.Device.{ReadsInput, AppendsPrefix}
 use Rattle.program_io.specs.Endings.{WroteNothing}
 use Rattle.program_io.specs.Hint.{IsRigHint, IsRigTextHint}
-use Rattle.program_io.specs.Outputs.{Told}
+use Rattle.program_io.specs.Outputs.{Printed}
 use Rattle.program_io.specs.Twice.{twice_note}
-use Rattle.bench_commands.specs.Answer.{IsToldAnswer, Output, refused}
+use Rattle.bench_commands.specs.Answer.{IsPrintedAnswer, Output, refused}
 
 -- a session that was recorded, and a line feed
 abbrev pub recorded_text : Header → List Entry → List ℕ
@@ -53,17 +53,17 @@ abbrev pub IsAnswer : List ℕ → Output → Type 0
 IsAnswer input output = IsAnswerWhere (nat_lt max_input (length input)) input output
 
 -- what a recording tells of a text, by what that is read as
-pub record IsRecordingOf (input : List ℕ) (rig : Result RigScript TextFault) (told : Told)
+pub record IsRecordingOf (input : List ℕ) (rig : Result RigScript TextFault) (printed : Printed)
     : Type 0 where
   pub output : Output
   pub answer : IsAnswerTo rig output
-  pub tells : IsToldAnswer output (twice_note input) (IsRigTextHint input rig) told
+  pub tells : IsPrintedAnswer output (twice_note input) (IsRigTextHint input rig) printed
 
 -- what a recording tells of an input
-pub record IsRecording (input : List ℕ) (told : Told) : Type 0 where
+pub record IsRecording (input : List ℕ) (printed : Printed) : Type 0 where
   pub output : Output
   pub answer : IsAnswer input output
-  pub tells : IsToldAnswer output (twice_note input) (IsRigHint input) told
+  pub tells : IsPrintedAnswer output (twice_note input) (IsRigHint input) printed
 
 -- the input was read, and its whole answer written
 pub record WroteAnswer (read_old read_new write_old write_new : Option (List ℕ))

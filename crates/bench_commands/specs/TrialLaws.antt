@@ -12,8 +12,8 @@ PartsAreWhole =
     ≡ trials_text kept index first ++ trials_text kept (index + length first) second
 
 -- of an edit's lines the first tells its index, and nothing else of them depends on that
-abbrev pub IndexIsTold : Type 0
-IndexIsTold =
+abbrev pub IndexIsPrinted : Type 0
+IndexIsPrinted =
     (kept : CheckpointedSession) (edit : Edit)
     → (rest : List ℕ)
     × ((index : ℕ) → trial_text kept index edit ≡ codes "edit " ++ decimal index ++ rest)

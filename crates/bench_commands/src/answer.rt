@@ -7,8 +7,8 @@ ghost use Rattle.session_text.specs.declared.fault.Why.TheVariants.{NoMemory};
 ghost use Rattle.session_text.specs.Bench.{IsCheckedBench, bench_text};
 ghost use Rattle.program_io.specs.Hint.{IsBenchTextHint, too_many_steps_line};
 ghost use Rattle.program_io.specs.Outputs.{refused_with};
-ghost use Rattle.program_io.specs.Refusal.{IsToldFault, refusal_line};
-ghost use Rattle.bench_commands.specs.Answer.{IsRun, IsToldAnswer, bench_notes, bench_output, output_of, output_of_bench, run_notes, told_with};
+ghost use Rattle.program_io.specs.Refusal.{IsPrintedFault, refusal_line};
+ghost use Rattle.bench_commands.specs.Answer.{IsRun, IsPrintedAnswer, bench_notes, bench_output, output_of, output_of_bench, run_notes, printed_with};
 ghost use Rattle.bench_commands.specs.Run.{has_span};
 ghost use Rattle.bench_commands.specs.declared.execution.Mode.TheVariants.{Replay, WhatIf};
 
@@ -18,7 +18,7 @@ use crate::trials::trial_lines;
 use bench_types::MAX_INPUT;
 use edit_notes::{refused_edits, refused_trials};
 use program_io::{Output, explained, too_long, twice_note, warned};
-use session_store::{OpenRefusal, Store};
+use session_store::{NoResults, OpenRefusal, Store};
 use session_text::{Bench, Noted, TextFault, read_bench_noted};
 use smp_kernel::Meter;
 use std::alloc::{AllocError, Global};
@@ -30,7 +30,7 @@ pub(crate) fn refused_text(
     input: &[u8],
     fault: TextFault,
 ) -> Result<Output, AllocError>
-    ensures told { IfOk result (λ told. IsToldFault refused_with input.now fault told) }
+    ensures printed { IfOk result (λ printed. IsPrintedFault refused_with input.now fault printed) }
     ensures memory { fault.why ≡ NoMemory → IsErr result }
 {
     Ok(explained(alloc, input, fault)?.on_output())
@@ -40,13 +40,13 @@ pub(crate) fn refused_text(
 fn not_opened(alloc: Global, why: OpenRefusal) -> Result<Output, AllocError>
     ensures why { OnOk result (why ≡ TooLong) }
     ensures line { IfOk result
-        (λ told. told ≡ refused_with (refusal_line (codes "J2") []) too_many_steps_line) }
+        (λ printed. printed ≡ refused_with (refusal_line (codes "J2") []) too_many_steps_line) }
 {
     Ok(document_stores::not_opened(alloc, why)?.on_output())
 }
 
 // What is told of a replay of a bench document that was read. No edits are made.
-fn told_of_steps(
+fn printed_of_steps(
     alloc: Global,
     meter: &mut Meter,
     bench: Bench,
@@ -57,8 +57,8 @@ fn told_of_steps(
     requires span { is_within 1 max_span span ≡ true }
     requires none { bench.edits ≡ [] }
     ensures { IfOk result
-        (λ told. told
-        ≡ told_with (output_of_bench (bench_output (Replay span tally)) bench)
+        (λ printed. printed
+        ≡ printed_with (output_of_bench (bench_output (Replay span tally)) bench)
         (bench_notes (Replay span tally) bench) too_many_steps_line) }
 {
     let Bench {
@@ -76,7 +76,7 @@ fn told_of_steps(
 }
 
 // What is told of a replay of a bench document that was read, after its edits.
-fn told_of_edits(
+fn printed_of_edits(
     alloc: Global,
     meter: &mut Meter,
     bench: Bench,
@@ -86,8 +86,8 @@ fn told_of_edits(
     requires checked { IsCheckedBench bench }
     requires span { is_within 1 max_span span ≡ true }
     ensures { IfOk result
-        (λ told. told
-        ≡ told_with (output_of_bench (bench_output (Replay span tally)) bench)
+        (λ printed. printed
+        ≡ printed_with (output_of_bench (bench_output (Replay span tally)) bench)
         (bench_notes (Replay span tally) bench) too_many_steps_line) }
 {
     let Bench {
@@ -95,7 +95,7 @@ fn told_of_edits(
         steps,
         edits,
     } = bench;
-    match Store::open_untraced(alloc, header, steps.into_vec(), span, meter) {
+    match Store::<NoResults>::open(alloc, header, steps.into_vec(), span, meter) {
         Ok(store) => {
             let notes = refused_edits(alloc, store.len(), edits.as_slice())?;
             let text = edited_replay(alloc, meter, store, edits.as_slice(), tally)?;
@@ -106,7 +106,7 @@ fn told_of_edits(
 }
 
 // What is told of a replay of a bench document that was read.
-fn told_of_replay(
+fn printed_of_replay(
     alloc: Global,
     meter: &mut Meter,
     bench: Bench,
@@ -116,18 +116,18 @@ fn told_of_replay(
     requires checked { IsCheckedBench bench }
     requires span { is_within 1 max_span span ≡ true }
     ensures { IfOk result
-        (λ told. told
-        ≡ told_with (output_of_bench (bench_output (Replay span tally)) bench)
+        (λ printed. printed
+        ≡ printed_with (output_of_bench (bench_output (Replay span tally)) bench)
         (bench_notes (Replay span tally) bench) too_many_steps_line) }
 {
     if bench.edits.as_slice().is_empty() {
-        return told_of_steps(alloc, meter, bench, span, tally);
+        return printed_of_steps(alloc, meter, bench, span, tally);
     }
-    told_of_edits(alloc, meter, bench, span, tally)
+    printed_of_edits(alloc, meter, bench, span, tally)
 }
 
 // What is told of trials of the edits of a bench document that was read.
-fn told_of_trials<T: Threads + Sync>(
+fn printed_of_trials<T: Threads + Sync>(
     rt: &T,
     host: &HostRuntime,
     alloc: Global,
@@ -138,8 +138,8 @@ fn told_of_trials<T: Threads + Sync>(
     requires checked { IsCheckedBench bench }
     requires span { is_within 1 max_span span ≡ true }
     ensures { IfOk result
-        (λ told. told
-        ≡ told_with (output_of_bench (bench_output (WhatIf span)) bench)
+        (λ printed. printed
+        ≡ printed_with (output_of_bench (bench_output (WhatIf span)) bench)
         (bench_notes (WhatIf span) bench) too_many_steps_line) }
 {
     let Bench {
@@ -159,7 +159,7 @@ fn told_of_trials<T: Threads + Sync>(
 
 // What is told of a bench document that was read. Texts may have any number of steps, so J2 is
 // found here.
-fn told_of_bench<T: Threads + Sync>(
+fn printed_of_bench<T: Threads + Sync>(
     rt: &T,
     host: &HostRuntime,
     alloc: Global,
@@ -169,19 +169,19 @@ fn told_of_bench<T: Threads + Sync>(
     requires checked { IsCheckedBench bench }
     requires span { has_span mode ≡ true }
     ensures { IfOk result
-        (λ told. told
-        ≡ told_with (output_of_bench (bench_output mode) bench) (bench_notes mode bench)
+        (λ printed. printed
+        ≡ printed_with (output_of_bench (bench_output mode) bench) (bench_notes mode bench)
         too_many_steps_line) }
 {
     let mut meter = Meter::new(host);
     match mode {
-        Mode::Replay { span, tally } => told_of_replay(alloc, &mut meter, bench, span, tally),
-        Mode::WhatIf { span } => told_of_trials(rt, host, alloc, &mut meter, bench, span),
+        Mode::Replay { span, tally } => printed_of_replay(alloc, &mut meter, bench, span, tally),
+        Mode::WhatIf { span } => printed_of_trials(rt, host, alloc, &mut meter, bench, span),
     }
 }
 
 // What is told of a text, but for H3.
-fn told_of_text<T: Threads + Sync>(
+fn printed_of_text<T: Threads + Sync>(
     rt: &T,
     host: &HostRuntime,
     alloc: Global,
@@ -190,23 +190,23 @@ fn told_of_text<T: Threads + Sync>(
 ) -> Result<Output, AllocError>
     requires { has_span mode ≡ true }
     ensures { IfOk result
-        (λ told. IsToldAnswer (output_of (bench_output mode) (bench_text input.now))
+        (λ printed. IsPrintedAnswer (output_of (bench_output mode) (bench_text input.now))
         (run_notes mode input.now)
-        (IsBenchTextHint input.now (bench_text input.now)) told) }
+        (IsBenchTextHint input.now (bench_text input.now)) printed) }
 {
     match read_bench_noted(alloc, input) {
         Err(fault) => refused_text(alloc, input, fault),
         Ok(Noted { document, doubled }) => {
             let line = twice_note(alloc, input, doubled)?;
-            let told = told_of_bench(rt, host, alloc, document, mode)?;
-            warned(told, line)
+            let printed = printed_of_bench(rt, host, alloc, document, mode)?;
+            warned(printed, line)
         }
     }
 }
 
 /// All that a run tells of the input.
 #[tactic(auto, unfolding(crate::specs::Answer::output))]
-pub(crate) fn told_of<T: Threads + Sync>(
+pub(crate) fn printed_of<T: Threads + Sync>(
     rt: &T,
     host: &HostRuntime,
     alloc: Global,
@@ -214,10 +214,10 @@ pub(crate) fn told_of<T: Threads + Sync>(
     mode: Mode,
 ) -> Result<Output, AllocError>
     requires { has_span mode ≡ true }
-    ensures { IfOk result (λ told. IsRun mode input.now told) }
+    ensures { IfOk result (λ printed. IsRun mode input.now printed) }
 {
     if input.len() > MAX_INPUT {
         return Ok(too_long(alloc)?.on_output());
     }
-    told_of_text(rt, host, alloc, input, mode)
+    printed_of_text(rt, host, alloc, input, mode)
 }

@@ -4,13 +4,13 @@ ghost use Rattle.std.specs.Option.{IsSomeAnd};
 ghost use Rattle.clap.specs.Words.{app_of, found_of, rows_of, rule_of, subcommand_rows_of};
 ghost use Rattle.command_words.specs.Answered.{said};
 ghost use Rattle.command_words.specs.Said.{class_in};
-ghost use Rattle.command_words.specs.Told.{IsTold};
+ghost use Rattle.command_words.specs.Printed.{IsPrinted};
 ghost use Rattle.bench_commands.specs.Command.{AreTaken, asked, asked_by, asked_in, asked_for, bench_app, can_run, record_app, replay_app, span_in, span_rule, tally_in, tally_rule, what_if_app};
 
 use crate::execution::Mode;
 use bench_types::MAX_SPAN;
 use clap::{Arg, ArgMatches, Command, value_parser};
-use command_words::{Answer, Saying, answer_of, flag, option, program};
+use command_words::{Parsed, Saying, flag, option, parse_line, program};
 use std::alloc::{AllocError, Global};
 use std::convert::AsStr;
 
@@ -88,7 +88,7 @@ fn tally_flag<'a>(alloc: Global) -> Arg<'a>
 }
 
 fn replay_command<'a>(alloc: Global) -> Result<Command<'a>, AllocError>
-    ensures { IfOk result (λ command. IsTold command replay_app) }
+    ensures { IfOk result (λ command. IsPrinted command replay_app) }
 {
     Command::new(alloc, "replay")
         .about(
@@ -100,7 +100,7 @@ fn replay_command<'a>(alloc: Global) -> Result<Command<'a>, AllocError>
 }
 
 fn what_if_command<'a>(alloc: Global) -> Result<Command<'a>, AllocError>
-    ensures { IfOk result (λ command. IsTold command what_if_app) }
+    ensures { IfOk result (λ command. IsPrinted command what_if_app) }
 {
     Command::new(alloc, "whatif")
         .about(
@@ -111,7 +111,7 @@ fn what_if_command<'a>(alloc: Global) -> Result<Command<'a>, AllocError>
 }
 
 fn record_command<'a>(alloc: Global) -> Command<'a>
-    ensures { IsTold result record_app }
+    ensures { IsPrinted result record_app }
 {
     Command::new(alloc, "record")
         .about(
@@ -187,8 +187,8 @@ pub fn request_of<S: AsStr>(alloc: Global, words: Option<&[S]>) -> Result<Reques
     ensures asked { IfOk result
         (λ request. asked_in request ≡ asked (option_map (λ all. map S.text all.now) words.entry)) }
 {
-    match answer_of(alloc, bench_program(alloc)?, words)? {
-        Answer::Met(matches) => Ok(asked_for(&matches)),
-        Answer::Said(saying) => Ok(said(saying)),
+    match parse_line(alloc, bench_program(alloc)?, words)? {
+        Parsed::Met(matches) => Ok(asked_for(&matches)),
+        Parsed::Said(saying) => Ok(said(saying)),
     }
 }

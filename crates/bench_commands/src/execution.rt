@@ -5,7 +5,7 @@ ghost use Rattle.program_io.specs.Endings.{EndsOver, EndsTelling};
 ghost use Rattle.bench_commands.specs.Answer.{IsRun, span_of};
 ghost use Rattle.bench_commands.specs.Run.{Ran, has_span, is_of_run, reads_well, status_of, writes_well};
 
-use crate::answer::told_of;
+use crate::answer::printed_of;
 use program_io::{CountedRead, CountedWrite, Ending, OutputStatus, RunFault, tell_of_input};
 use std::alloc::Global;
 use std::thread::Threads;
@@ -79,7 +79,7 @@ pub(crate) fn end_of_run<T: Threads + Sync, R: CountedRead, W: CountedWrite>(
         writer,
         |input|
             requires { has_span mode.now ≡ true }
-        { told_of(rt, host, alloc, input, *mode) },
+        { printed_of(rt, host, alloc, input, *mode) },
     )
 }
 

@@ -10,7 +10,7 @@ use crate::lines::{push_edit_line, push_start_line, push_step_line};
 use crate::shown_row::ShownRow;
 use bench_types::Edit;
 use document_stores::answer_to_edit;
-use session_store::{Store, Untraced};
+use session_store::{NoResults, Store};
 use smp_kernel::Meter;
 use std::alloc::{AllocError, Global};
 
@@ -77,7 +77,7 @@ fn push_edits(
     alloc: Global,
     meter: &mut Meter,
     text: &mut String,
-    store: &mut Store<Untraced>,
+    store: &mut Store<NoResults>,
     edits: &[Edit],
 ) -> Result<(), AllocError>
     ensures lines { OnOk result
@@ -99,7 +99,7 @@ fn edited_store(
     alloc: Global,
     meter: &mut Meter,
     text: &mut String,
-    mut store: Store<Untraced>,
+    mut store: Store<NoResults>,
     edits: &[Edit],
 ) -> Result<Store, AllocError>
     ensures lines { OnOk result
@@ -109,7 +109,7 @@ fn edited_store(
         (λ edited. edited.session ≡ after_edits store.session edits.now) }
 {
     push_edits(alloc, meter, text, &mut store, edits)?;
-    let edited = store.traced(alloc, meter)?;
+    let edited = store.with_results(alloc, meter)?;
     Ok(edited)
 }
 
@@ -134,7 +134,7 @@ fn push_whole(
 pub(crate) fn edited_replay(
     alloc: Global,
     meter: &mut Meter,
-    store: Store<Untraced>,
+    store: Store<NoResults>,
     edits: &[Edit],
     tally: bool,
 ) -> Result<String, AllocError>

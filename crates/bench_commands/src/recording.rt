@@ -38,14 +38,14 @@ fn recorded<R: Threads + Wait + Sync, G: Gate>(
 }
 
 // What a recording tells of a text.
-fn told_of_text<R: Threads + Wait + Sync, G: Gate>(
+fn printed_of_text<R: Threads + Wait + Sync, G: Gate>(
     rt: &R,
     host: &HostRuntime,
     alloc: Global,
     input: &[u8],
     gate: &G,
 ) -> Result<Output, AllocError>
-    ensures { IfOk result (λ told. IsRecordingOf input.now (rig_text input.now) told) }
+    ensures { IfOk result (λ printed. IsRecordingOf input.now (rig_text input.now) printed) }
 {
     match read_rig_noted(alloc, input) {
         Err(fault) => refused_text(alloc, input, fault),
@@ -58,19 +58,19 @@ fn told_of_text<R: Threads + Wait + Sync, G: Gate>(
 }
 
 // What it tells of an input.
-fn told_of<R: Threads + Wait + Sync, G: Gate>(
+fn printed_of<R: Threads + Wait + Sync, G: Gate>(
     rt: &R,
     host: &HostRuntime,
     alloc: Global,
     input: &[u8],
     gate: &G,
 ) -> Result<Output, AllocError>
-    ensures { IfOk result (λ told. IsRecording input.now told) }
+    ensures { IfOk result (λ printed. IsRecording input.now printed) }
 {
     if input.len() > MAX_INPUT {
         return Ok(too_long(alloc)?.on_output());
     }
-    told_of_text(rt, host, alloc, input, gate)
+    printed_of_text(rt, host, alloc, input, gate)
 }
 
 /// Makes the recording, and tells what it promises of the input.
@@ -89,7 +89,7 @@ pub(crate) fn end_of_recording<R: Threads + Wait + Sync, I: CountedRead, O: Coun
         alloc,
         reader,
         writer,
-        |input| told_of(rt, host, alloc, input, gate),
+        |input| printed_of(rt, host, alloc, input, gate),
     )
 }
 

@@ -6,7 +6,7 @@ ghost use Rattle.session_store.specs.Trials.{IsTried};
 ghost use Rattle.bench_reports.specs.Lines.{tally_lines};
 ghost use Rattle.bench_commands.specs.Answer.{trial_text, trials_text};
 ghost use Rattle.bench_commands.specs.Lines.{edit_line};
-ghost use Rattle.bench_commands.specs.TrialLaws.{IndexIsTold, PartsAreWhole};
+ghost use Rattle.bench_commands.specs.TrialLaws.{IndexIsPrinted, PartsAreWhole};
 
 use crate::lines::push_edit_line;
 use bench_reports::Tallies;
@@ -80,5 +80,5 @@ pub fn laws_of_trials()
     // The lines of some edits, and then those of the edits after them, are the lines of all.
     ensures parts { PartsAreWhole }
     // Of an edit's lines the first tells its index, and nothing else depends on that.
-    ensures index { IndexIsTold }
+    ensures index { IndexIsPrinted }
 {}

@@ -36,6 +36,8 @@ SameOrder StandTogether a b =
     (i j : ℕ) → i < a.settings.tasks → j < a.settings.tasks → StandTogether a i j
     → (CameBefore a i j ↔ CameBefore b i j)
 
+-- Same without sorting, to be checked against the kernel's lists pair by pair; the law SameIsAlike
+-- says that the two agree
 pub record SamePairwise (a b : Table) : Type 0 where
   pub settings : a.settings ≡ b.settings
   -- each core's current task and flags, and each task's priorities, mask and preemption

@@ -1,5 +1,6 @@
 -- What edits make of sessions.
-use Rattle.std.specs.Prelude.{ℕ, ◌-◌, List, [], length, insert, remove, fold, Bool, true, nat_lt, nat_le, if◌then◌else◌, slice_set, slice_index_or, Result, Ok, Err, is_ok, ⊤}
+use Rattle.std.specs.Prelude.{ℕ, ◌-◌, List, [], length, insert, remove, fold, Bool, true, nat_lt, nat_le, if◌then◌else◌, slice_set, slice_index_or, Result, Ok}
+use Rattle.std.specs.Prelude.{Err, is_ok, ⊤}
 use Rattle.std.specs.Result.{result_map_both}
 use Rattle.bench_types.specs.declared.edit.Edit.{Edit}
 use Rattle.bench_types.specs.declared.edit.Edit.TheVariants.{Insert, Remove, Replace, ChangeTask}

@@ -5,7 +5,7 @@ use Rattle.bench_model.specs.Lists.{View, view_of}
 use Rattle.bench_model.specs.Sound.{IsSound}
 
 -- equal settings, tick counts, cores with their flags, control blocks and unfinished calls, and
--- equal orders
+-- equal orders: the equality that the theorems speak of, of all that can be seen
 abbrev pub Same : Table → Table → Type 0
 Same a b = view_of a ≡ view_of b
 

@@ -1,5 +1,6 @@
 -- A history: the entries that the threads of cores recorded of one kernel, in their order.
-use Rattle.std.specs.Prelude.{◌≡◌, ◌≢◌, ℕ, ◌-◌, List, ◌++◌, length, map, filter, take, All, Bool, false, ◌==◌, [], ◌∷◌, Option, is_some, option_map, if◌then◌else◌, slice_get, ⊤}
+use Rattle.std.specs.Prelude.{◌≡◌, ◌≢◌, ℕ, ◌-◌, List, ◌++◌, length, map, filter, take, All, Bool, false, ◌==◌, [], ◌∷◌, Option, is_some, option_map}
+use Rattle.std.specs.Prelude.{if◌then◌else◌, slice_get, ⊤}
 use Rattle.bench_types.specs.declared.entry.Entry.{Entry}
 use Rattle.bench_types.specs.declared.header.Header.{Header}
 use Rattle.bench_types.specs.declared.kernel_data.Hold.{Hold}

@@ -1,7 +1,8 @@
 -- What can be seen of a kernel: its orders as lists, the tick count as 32 bits, and how long each
 -- task still waits.
 use Rattle.bench_types.specs.declared.reply.Reply.{Reply}
-use Rattle.std.specs.Prelude.{ℕ, ◌+◌, ◌-◌, ◌%◌, ◌^◌, List, map, filter, find, Bool, not, ◌==◌, nat_le, Option, None, option_map, unwrap_or, is_some, ◌&&◌, ◌||◌, nat_lt, if◌then◌else◌, slice_index_or, slice_set}
+use Rattle.std.specs.Prelude.{ℕ, ◌+◌, ◌-◌, ◌%◌, ◌^◌, List, map, filter, find, Bool, not, ◌==◌, nat_le, Option, None, option_map, unwrap_or, is_some, ◌&&◌, ◌||◌}
+use Rattle.std.specs.Prelude.{nat_lt, if◌then◌else◌, slice_index_or, slice_set}
 use Rattle.std.specs.Option.{option_map_or}
 use Rattle.bench_types.specs.declared.kernel_data.Delayed.{Delayed}
 use Rattle.bench_types.specs.declared.kernel_data.MutexWait.{MutexWait}
@@ -170,4 +171,4 @@ view_of table = record {
 
 -- what can be seen of a reply and the table after it
 abbrev pub seen_of : Reply × Table → Reply × View
-seen_of outcome = (outcome.0, view_of outcome.1)
+seen_of made_step = (made_step.0, view_of made_step.1)

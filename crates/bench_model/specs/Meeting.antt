@@ -1,7 +1,8 @@
 -- What an edit makes of the checkpoints of a session, the places whose kernels are kept, and which
 -- steps are replayed for it: from a checkpoint before the edit to the first one after it from which
 -- the edited session goes on as the session did, its tick count aside where no step reads it.
-use Rattle.std.specs.Prelude.{ℕ, suc, ◌+◌, ◌-◌, ◌*◌, ◌%◌, List, length, map, filter, fold, drop, min, max, Bool, true, ◌&&◌, ◌||◌, ◌==◌, nat_lt, nat_le, if◌then◌else◌}
+use Rattle.std.specs.Prelude.{ℕ, suc, ◌+◌, ◌-◌, ◌*◌, ◌%◌, List, length, map, filter, fold, drop, min, max, Bool, true, ◌&&◌, ◌||◌, ◌==◌, nat_lt, nat_le}
+use Rattle.std.specs.Prelude.{if◌then◌else◌}
 use Rattle.std.specs.List.{list_any}
 use Rattle.bench_types.specs.declared.edit.Edit.{Edit}
 use Rattle.bench_types.specs.declared.edit.Edit.TheVariants.{Insert, Remove, Replace, ChangeTask}

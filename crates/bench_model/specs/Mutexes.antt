@@ -55,15 +55,18 @@ module _ {Orders : Type 0} (ops : QueueOps Orders) where
       blocked ops core task call ticks (Some (record { mutex = mutex; priority = priority }))
       (inherited core holder priority state)
 
-  -- Taking a mutex: a free one is taken; for one that is held, the task waits, or is told no where
-  -- it waits for 0 ticks.
+  -- Taking a mutex, by who holds it: a free one is taken; for one that is held, the task waits, or
+  -- is told no where it waits for 0 ticks.
+  abbrev pub take_from : Option ℕ → ℕ → ℕ → ℕ → ℕ → State Orders → Reply × State Orders
+  take_from None core task mutex ticks state = (Flag true, taken task mutex state)
+  take_from (Some holder) core task mutex ticks state =
+      if ticks == 0 then (Flag false, state)
+      else (Blocked, waited_at core task mutex holder (timeout_of ticks) state)
+
+  -- taking a mutex (FreeRTOS Reference Manual, xSemaphoreTake)
   unfoldable pub mutex_take : ℕ → ℕ → ℕ → ℕ → State Orders → Reply × State Orders
   mutex_take core task mutex ticks state =
-      option_map_or
-      (λ holder. if ticks == 0 then (Flag false, state)
-      else (Blocked, waited_at core task mutex holder (timeout_of ticks) state))
-      (holder_at state.holders mutex)
-      (Flag true, taken task mutex state)
+      take_from (holder_at state.holders mutex) core task mutex ticks state
 
   -- what the task owes to the first waiter of the mutex
   abbrev pub owed : ℕ → ℕ → State Orders → ℕ
@@ -85,17 +88,21 @@ module _ {Orders : Type 0} (ops : QueueOps Orders) where
       if mark && not (holder == task) && held_by state.holders holder == 1
       then after_disinherit acting holder (owed holder mutex state) state else state
 
-  -- A wait for a mutex is finished: with a free mutex, which is taken, or with none where its
-  -- deadline is reached; else the task waits again, for the ticks that are left.
+  -- A wait for a mutex is finished, by who holds it: with a free mutex, which is taken, or with
+  -- none where its deadline is reached; else the task waits again, for the ticks that are left.
+  abbrev pub finish_from : Option ℕ → ℕ → ℕ → ℕ → Bool → State Orders → Reply × State Orders
+  finish_from None core task mutex mark state =
+      (Flag true, taken task mutex (after_return ops task state))
+  finish_from (Some holder) core task mutex mark state =
+      let left = ops.deadline_left task state.orders in
+      if option_map_or (λ ticks. ticks == 0) left false
+      then (Flag false, timed_out core task mutex mark holder (after_return ops task state))
+      else (Blocked, waited_at core task mutex holder left state)
+
+  -- finishing a wait for a mutex (FreeRTOS Reference Manual, xSemaphoreTake)
   unfoldable pub take_finished : ℕ → ℕ → ℕ → Bool → State Orders → Reply × State Orders
   take_finished core task mutex mark state =
-      let left = ops.deadline_left task state.orders in
-      option_map_or
-      (λ holder. if option_map_or (λ ticks. ticks == 0) left false
-      then (Flag false, timed_out core task mutex mark holder (after_return ops task state))
-      else (Blocked, waited_at core task mutex holder left state))
-      (holder_at state.holders mutex)
-      (Flag true, taken task mutex (after_return ops task state))
+      finish_from (holder_at state.holders mutex) core task mutex mark state
 
   -- A task that holds no mutex any more has its base priority in use again (V11 tasks.c,
   -- xTaskPriorityDisinherit).
@@ -110,16 +117,18 @@ module _ {Orders : Type 0} (ops : QueueOps Orders) where
       option_map_or (λ waiter. wake ops acting waiter.task state)
       (ops.first_waiter mutex state.orders) state
 
-  -- Giving a mutex that the task holds: its first waiter is woken, and has to take it itself. A
-  -- free one is not given.
+  -- Giving a mutex, by who holds it: a free one is not given; of one that the task holds, the first
+  -- waiter is woken, and has to take it itself.
+  abbrev pub give_from : Option ℕ → ℕ → ℕ → ℕ → State Orders → Reply × State Orders
+  give_from None core task mutex state = (Flag false, state)
+  give_from (Some holder) core task mutex state = (
+    Flag true,
+    first_woken core mutex
+        (disinherited core task
+        (record state { holders = slice_set state.holders mutex None })),
+  )
+
+  -- giving a mutex (FreeRTOS Reference Manual, xSemaphoreGive)
   unfoldable pub mutex_give : ℕ → ℕ → ℕ → State Orders → Reply × State Orders
   mutex_give core task mutex state =
-      option_map_or
-      (λ holder. (
-        Flag true,
-        first_woken core mutex
-            (disinherited core task
-            (record state { holders = slice_set state.holders mutex None })),
-      ))
-      (holder_at state.holders mutex)
-      (Flag false, state)
+      give_from (holder_at state.holders mutex) core task mutex state

@@ -4,8 +4,8 @@ use Rattle.std.specs.Prelude.{ℕ, ◌+◌, ◌-◌, ◌*◌, ◌^◌, ◌%◌, 
 use Rattle.std.specs.Int.{w32, bit_not}
 use Rattle.std.specs.Int.Bits.{bit_and, bit_or}
 use Rattle.bench_types.specs.declared.kernel_data.Settings.{Settings}
-use Rattle.bench_types.specs.declared.note.Action.{Action}
-use Rattle.bench_types.specs.declared.note.Action.TheVariants.{Nothing, SetBits, Increment, Set, SetNew}
+use Rattle.bench_types.specs.declared.note.NotifyAction.{NotifyAction}
+use Rattle.bench_types.specs.declared.note.NotifyAction.TheVariants.{Nothing, SetBits, Increment, Set, SetNew}
 use Rattle.bench_types.specs.declared.note.NoteState.{NoteState}
 use Rattle.bench_types.specs.declared.note.NoteState.TheVariants.{NotWaiting, Waiting, Received}
 use Rattle.bench_types.specs.declared.note.Notification.{Notification}
@@ -40,12 +40,12 @@ without_bits bits value = bit_and value (bit_not w32 bits)
 
 -- one that must not overwrite is not passed where another has come and was not taken
 -- (eSetValueWithoutOverwrite)
-abbrev pub passes : Action → NoteState → Bool
+abbrev pub passes : NotifyAction → NoteState → Bool
 passes (SetNew value) Received = false
 passes action state = true
 
 -- the value after an action that is passed (eNotifyAction)
-abbrev pub acted : Action → ℕ → ℕ
+abbrev pub acted : NotifyAction → ℕ → ℕ
 acted Nothing value = value
 acted (SetBits bits) value = bit_or value bits
 acted Increment value = (value + 1) % 2 ^ 32
@@ -53,7 +53,7 @@ acted (Set new) value = new
 acted (SetNew new) value = new
 
 -- What a notification makes of a task's (V11 tasks.c, xTaskGenericNotify).
-unfoldable pub notified : Action → Notification → Notification
+unfoldable pub notified : NotifyAction → Notification → Notification
 notified action note = record {
   value = if passes action note.state then acted action note.value else note.value;
   state = Received;
@@ -61,8 +61,8 @@ notified action note = record {
 
 -- A wait has nothing to complete with where none has come. Then the entry bits are cleared, and the
 -- task is to wait (V11 tasks.c, xTaskGenericNotifyWait).
-unfoldable pub wait_begun : ℕ → Notification → Bool × Notification
-wait_begun entry note =
+unfoldable pub wait_entered : ℕ → Notification → Bool × Notification
+wait_entered entry note =
     if is_received note.state then (false, note)
     else (true, record { value = without_bits entry note.value; state = Waiting })
 
@@ -80,8 +80,9 @@ wait_ended exit note = let come = is_received note.state in (
 
 -- A take has nothing to complete with where the value is 0. Then the task is to wait (V11 tasks.c,
 -- ulTaskGenericNotifyTake).
-unfoldable pub take_begun : Notification → Bool × Notification
-take_begun note = if note.value == 0 then (true, record note { state = Waiting }) else (false, note)
+unfoldable pub take_entered : Notification → Bool × Notification
+take_entered note =
+    if note.value == 0 then (true, record note { state = Waiting }) else (false, note)
 
 -- It completes with the value, which it then clears or counts down.
 unfoldable pub take_ended : Bool → Notification → ℕ × Notification

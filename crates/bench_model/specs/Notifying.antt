@@ -4,8 +4,8 @@ use Rattle.bench_types.specs.declared.note.Note.{Note}
 use Rattle.bench_types.specs.declared.note.Notification.{Notification}
 use Rattle.bench_types.specs.declared.reply.Reply.{Reply}
 use Rattle.bench_types.specs.declared.reply.Reply.TheVariants.{Done, Blocked, Flag, Value, Waited, Isr}
-use Rattle.bench_types.specs.declared.step.Call.{Call}
-use Rattle.bench_types.specs.declared.step.Call.TheVariants.{NotifyWait, NotifyTake}
+use Rattle.bench_types.specs.declared.step.BlockingCall.{BlockingCall}
+use Rattle.bench_types.specs.declared.step.BlockingCall.TheVariants.{Delay, DelayUntil, NotifyWait, NotifyTake}
 use Rattle.bench_types.specs.declared.step.Unfinished.TheVariants.{Made}
 use Rattle.bench_model.specs.Control.{core_at}
 use Rattle.bench_model.specs.Notes.{note_at, is_waiting, passes, notified, wait_ended, take_ended, state_cleared, value_cleared, of_slot, slot_of}
@@ -36,16 +36,17 @@ module _ {Orders : Type 0} where
       let made = of_slot (slot_of state.settings task index) (value_cleared bits) state.notes in
       (Value made.0, record state { notes = made.1 })
 
-  -- A call completes: one that waited for a notification answers with that, every other is done
-  -- (V11 tasks.c, xTaskGenericNotifyWait and ulTaskGenericNotifyTake).
-  unfoldable pub completed : ℕ → Call → State Orders → Reply × State Orders
+  -- A call completes: one that waited for a notification answers with that, a delay is done (V11
+  -- tasks.c, xTaskGenericNotifyWait and ulTaskGenericNotifyTake).
+  unfoldable pub completed : ℕ → BlockingCall → State Orders → Reply × State Orders
   completed task (NotifyWait entry exit ticks index) state =
       let made = of_slot (slot_of state.settings task index) (wait_ended exit) state.notes in
       (Waited made.0.0 made.0.1, record state { notes = made.1 })
   completed task (NotifyTake clear ticks index) state =
       let made = of_slot (slot_of state.settings task index) (take_ended clear) state.notes in
       (Value made.0, record state { notes = made.1 })
-  completed task call state = (Done, state)
+  completed task (Delay ticks) state = (Done, state)
+  completed task (DelayUntil prev inc) state = (Done, state)
 
 module _ {Orders : Type 0} (ops : QueueOps Orders) where
   -- Notifying a task at an index; one that waits for that is woken (V11 tasks.c,
@@ -54,24 +55,26 @@ module _ {Orders : Type 0} (ops : QueueOps Orders) where
   notify acting note state =
       let slot = slot_of state.settings note.task note.index in
       let old = note_at state.notes slot in
-      let told = record state { notes = slice_set state.notes slot (notified note.action old) } in
-      if is_waiting old.state then wake ops acting note.task told else told
+      let later_state = record state {
+        notes = slice_set state.notes slot (notified note.action old);
+      } in
+      if is_waiting old.state then wake ops acting note.task later_state else later_state
 
   -- An interrupt of the core notifies a task. It answers whether that passed, and whether the core
   -- is to switch by its own request then (FreeRTOS Reference Manual, xTaskNotifyFromISR and
   -- pxHigherPriorityTaskWoken).
   unfoldable pub interrupted : ℕ → Note → State Orders → Reply × State Orders
   interrupted core note state =
-      let told = notify core note state in
-      (Isr (is_passed note state) (core_at told.control core).pend, told)
+      let later_state = notify core note state in
+      (Isr (is_passed note state) (core_at later_state.control core).pend, later_state)
 
   -- A call that has begun to wait for a notification: where it has nothing to complete with, and
   -- some ticks to wait, its task is blocked, else it completes at once (V11 tasks.c,
   -- xTaskGenericNotifyWait and ulTaskGenericNotifyTake).
   unfoldable pub awaited :
-      ℕ → ℕ → Call → ℕ → Bool × List Notification → State Orders → Reply × State Orders
-  awaited core task call ticks begun state =
-      let waiting = record state { notes = begun.1 } in
-      if begun.0 && nat_lt 0 ticks
+      ℕ → ℕ → BlockingCall → ℕ → Bool × List Notification → State Orders → Reply × State Orders
+  awaited core task call ticks entered state =
+      let waiting = record state { notes = entered.1 } in
+      if entered.0 && nat_lt 0 ticks
       then (Blocked, blocked ops core task (Made call) (timeout_of ticks) None waiting)
       else completed task call waiting

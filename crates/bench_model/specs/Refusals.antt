@@ -12,7 +12,7 @@ use Rattle.bench_types.specs.declared.step.Unfinished.{Unfinished}
 use Rattle.bench_types.specs.Limits.{max_depth}
 use Rattle.bench_model.specs.Control.{current, is_due}
 use Rattle.bench_model.specs.Holds.{is_held_by, is_held_elsewhere, depth_of}
-use Rattle.bench_model.specs.Notes.{note_at, slot_of, wait_begun, take_begun}
+use Rattle.bench_model.specs.Notes.{note_at, slot_of, wait_entered, take_entered}
 use Rattle.bench_model.specs.State.{State, QueueOps, call_at, holder_at}
 use Rattle.bench_model.specs.Until.{next_wake, is_ahead}
 
@@ -47,10 +47,10 @@ module _ {Orders : Type 0} (ops : QueueOps Orders) where
   would_block task (DelayUntil prev inc) state =
       is_ahead (ops.tick_count state.orders) prev (next_wake prev inc)
   would_block task (NotifyWait entry exit ticks index) state =
-      (wait_begun entry (note_at state.notes (slot_of state.settings task index))).0
+      (wait_entered entry (note_at state.notes (slot_of state.settings task index))).0
       && nat_lt 0 ticks
   would_block task (NotifyTake clear ticks index) state =
-      (take_begun (note_at state.notes (slot_of state.settings task index))).0 && nat_lt 0 ticks
+      (take_entered (note_at state.notes (slot_of state.settings task index))).0 && nat_lt 0 ticks
   would_block task (MutexTake mutex ticks) state =
       is_some (holder_at state.holders mutex) && nat_lt 0 ticks
   would_block task call state = false

@@ -6,16 +6,18 @@ use Rattle.bench_types.specs.declared.kernel_data.Hold.{Hold}
 use Rattle.bench_types.specs.declared.kernel_data.Settings.{Settings}
 use Rattle.bench_types.specs.declared.kernel_data.TaskControl.{TaskControl}
 use Rattle.bench_types.specs.declared.kernel_data.Waiter.{Waiter}
-use Rattle.bench_types.specs.declared.note.Action.{Action}
-use Rattle.bench_types.specs.declared.note.Action.TheVariants.{Nothing, SetBits, Increment, Set, SetNew}
+use Rattle.bench_types.specs.declared.note.NotifyAction.{NotifyAction}
+use Rattle.bench_types.specs.declared.note.NotifyAction.TheVariants.{Nothing, SetBits, Increment, Set, SetNew}
 use Rattle.bench_types.specs.declared.note.Note.{Note}
 use Rattle.bench_types.specs.declared.note.NoteState.{NoteState}
 use Rattle.bench_types.specs.declared.note.NoteState.TheVariants.{NotWaiting, Waiting, Received}
 use Rattle.bench_types.specs.declared.note.Notification.{Notification}
 use Rattle.bench_types.specs.declared.step.Call.{Call}
-use Rattle.bench_types.specs.declared.step.Call.TheVariants.{Yield, Delay, DelayUntil, PrioritySet, AffinitySet, PreemptOff, PreemptOn, Notify, NotifyWait, NotifyTake, StateClear, ValueClear, MutexTake, MutexGive, Finish, HoldOpen, HoldClose}
+use Rattle.bench_types.specs.declared.step.Call.TheVariants.{Yield, Delay, DelayUntil, PrioritySet, AffinitySet, PreemptOff, PreemptOn, Notify, NotifyWait}
+use Rattle.bench_types.specs.declared.step.Call.TheVariants.{NotifyTake, StateClear, ValueClear, MutexTake, MutexGive, Finish, HoldOpen, HoldClose}
 use Rattle.bench_types.specs.declared.step.Unfinished.{Unfinished}
 use Rattle.bench_types.specs.declared.step.Unfinished.TheVariants.{Made, Take}
+use Rattle.bench_types.specs.Step.{as_call}
 use Rattle.bench_model.specs.Control.{Control}
 use Rattle.bench_model.specs.Lists.{Lists, View, view_of}
 use Rattle.bench_model.specs.Table.{Table}
@@ -48,7 +50,7 @@ are_same_blocks a b =
     a.base == b.base && a.in_use == b.in_use && a.mask == b.mask
     && are_same_bools a.preempt b.preempt
 
-abbrev pub are_same_actions : Action → Action → Bool
+abbrev pub are_same_actions : NotifyAction → NotifyAction → Bool
 are_same_actions Nothing Nothing = true
 are_same_actions (SetBits bits) (SetBits others) = bits == others
 are_same_actions Increment Increment = true
@@ -94,7 +96,7 @@ are_same_calls HoldClose HoldClose = true
 are_same_calls a b = false
 
 abbrev pub are_same_unfinished : Unfinished → Unfinished → Bool
-are_same_unfinished (Made a) (Made b) = are_same_calls a b
+are_same_unfinished (Made a) (Made b) = are_same_calls (as_call a) (as_call b)
 are_same_unfinished (Take mutex mark) (Take other flag) =
     mutex == other && are_same_bools mark flag
 are_same_unfinished a b = false
@@ -128,6 +130,7 @@ are_same_views a b =
     && are_same_lists (are_same_options (λ m n. m == n)) a.holders b.holders
     && are_same_options are_same_holds a.hold b.hold && are_same_orders a.orders b.orders
 
--- what can be seen of the tables is equal
+-- what can be seen of the tables is equal, as a test that computes, which meetings use; the law
+-- SameIsTested says that it agrees with Same
 unfoldable pub is_same : Table → Table → Bool
 is_same a b = are_same_views (view_of a) (view_of b)

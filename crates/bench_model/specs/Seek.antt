@@ -1,10 +1,9 @@
 -- The core that is asked for a task, seeking one, and time slices. All that these rules read can be
 -- seen, so each is one definition for both ways of keeping orders.
-use Rattle.std.specs.Prelude.{ℕ, suc, List, length, filter, Bool, not, ◌&&◌, ◌||◌, ◌==◌, nat_lt, nat_le, Option, if◌then◌else◌}
-use Rattle.std.specs.List.{list_any}
+use Rattle.std.specs.Prelude.{ℕ, suc, List, length, filter, Bool, not, ◌&&◌, ◌||◌, ◌==◌, nat_lt, nat_le, Option, is_some, if◌then◌else◌}
 use Rattle.std.specs.Option.{option_map_or}
 use Rattle.list_orders.specs.Search.{numbers, best}
-use Rattle.bench_model.specs.Control.{Control, core_at, task_at, current, is_due, is_idle, in_mask, ask, ask_each}
+use Rattle.bench_model.specs.Control.{Control, task_at, current, is_due, is_idle, in_mask, ask, runs_on, ask_each}
 use Rattle.bench_model.specs.State.{State, QueueOps, after_select}
 
 -- An idle task stands below every other, below those of priority 0 too (V11 tasks.c,
@@ -14,9 +13,7 @@ effective control task = if is_idle control task then 0 else suc (task_at contro
 
 -- the task is on a core that no other core asked to switch (V11 tasks.c, taskTASK_IS_RUNNING)
 abbrev pub is_running : Control → ℕ → Bool
-is_running control task =
-    list_any (λ core. current control core == task && not (core_at control core).asked)
-    (numbers (length control.cores))
+is_running control task = is_some (runs_on control task)
 
 -- the core gives way to the task: it is not due, and its current task has preemption on and stands
 -- below the task (V11 tasks.c, prvYieldForTask; FreeRTOS SMP documentation, vTaskPreemptionDisable)

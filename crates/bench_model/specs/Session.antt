@@ -38,8 +38,8 @@ running_at header steps place =
     else None
 
 -- the replies of steps from a table on, each with the tasks that run after it
-abbrev pub trace : Table → List Step → List (Reply × List ℕ)
-trace table [] = []
-trace table (step ∷ steps) =
-    let outcome = step_of step table in
-    (outcome.0, running outcome.1.control) ∷ trace outcome.1 steps
+abbrev pub run_results : Table → List Step → List (Reply × List ℕ)
+run_results table [] = []
+run_results table (step ∷ steps) =
+    let made_step = step_of step table in
+    (made_step.0, running made_step.1.control) ∷ run_results made_step.1 steps

@@ -6,17 +6,19 @@ use Rattle.bench_types.specs.declared.reply.Reply.TheVariants.{Done, Blocked, Fl
 use Rattle.bench_types.specs.declared.step.Step.{Step}
 use Rattle.bench_types.specs.declared.step.Step.TheVariants.{Tick, Switch, Interrupt}
 use Rattle.bench_types.specs.declared.step.Step.TheVariants as steps
+use Rattle.bench_types.specs.declared.step.BlockingCall.TheVariants as blocking
 use Rattle.bench_types.specs.declared.step.Unfinished.{Unfinished}
 use Rattle.bench_types.specs.declared.step.Unfinished.TheVariants.{Made, Take}
 use Rattle.bench_types.specs.declared.step.Call.{Call}
-use Rattle.bench_types.specs.declared.step.Call.TheVariants.{Yield, Delay, DelayUntil, Finish, PrioritySet, AffinitySet, PreemptOff, PreemptOn, Notify, NotifyWait, NotifyTake, StateClear, ValueClear, MutexTake, MutexGive, HoldOpen, HoldClose}
+use Rattle.bench_types.specs.declared.step.Call.TheVariants.{Yield, Delay, DelayUntil, Finish, PrioritySet, AffinitySet, PreemptOff, PreemptOn, Notify}
+use Rattle.bench_types.specs.declared.step.Call.TheVariants.{NotifyWait, NotifyTake, StateClear, ValueClear, MutexTake, MutexGive, HoldOpen, HoldClose}
 use Rattle.bench_model.specs.Holds.{hold_opened, hold_closed}
 use Rattle.bench_model.specs.Refusals.{refusal}
 use Rattle.bench_model.specs.State.{State, QueueOps, after_return, call_at, yielded, blocked}
 use Rattle.bench_model.specs.Until.{next_wake, is_ahead, ticks_to}
 use Rattle.bench_model.specs.Seek.{wake, after_switch, sliced}
 use Rattle.bench_model.specs.PriorityAffinity.{priority_set, affinity_set, preemption_off, preemption_on}
-use Rattle.bench_model.specs.Notes.{wait_begun, take_begun, of_slot, slot_of}
+use Rattle.bench_model.specs.Notes.{wait_entered, take_entered, of_slot, slot_of}
 use Rattle.bench_model.specs.Notifying.{notify, is_passed, interrupted, state_forgotten, bits_cleared, awaited, completed}
 use Rattle.bench_model.specs.Mutexes.{mutex_take, mutex_give, take_finished}
 
@@ -46,7 +48,7 @@ module _ {Orders : Type 0} (ops : QueueOps Orders) where
       if is_ahead now prev wake
       then (
         Until true wake,
-        blocked ops core task (Made (DelayUntil prev inc))
+        blocked ops core task (Made (blocking.DelayUntil prev inc))
             (Some (ticks_to now wake)) None state,
       )
       else (Until false wake, yielded ops core state)
@@ -57,7 +59,7 @@ module _ {Orders : Type 0} (ops : QueueOps Orders) where
   called core task Yield state = (Done, yielded ops core state)
   called core task (Delay ticks) state =
       if ticks == 0 then (Done, yielded ops core state)
-      else (Blocked, blocked ops core task (Made (Delay ticks)) (Some ticks) None state)
+      else (Blocked, blocked ops core task (Made (blocking.Delay ticks)) (Some ticks) None state)
   called core task (DelayUntil prev inc) state = delayed_until core task prev inc state
   called core task Finish state =
       option_map_or (λ call. after_finish core task call state) (call_at state.calls task)
@@ -70,11 +72,11 @@ module _ {Orders : Type 0} (ops : QueueOps Orders) where
   called core task (Notify note) state =
       (Flag (is_passed note state), notify ops core note state)
   called core task (NotifyWait entry exit ticks index) state =
-      awaited ops core task (NotifyWait entry exit ticks index) ticks
-      (of_slot (slot_of state.settings task index) (wait_begun entry) state.notes) state
+      awaited ops core task (blocking.NotifyWait entry exit ticks index) ticks
+      (of_slot (slot_of state.settings task index) (wait_entered entry) state.notes) state
   called core task (NotifyTake clear ticks index) state =
-      awaited ops core task (NotifyTake clear ticks index) ticks
-      (of_slot (slot_of state.settings task index) take_begun state.notes) state
+      awaited ops core task (blocking.NotifyTake clear ticks index) ticks
+      (of_slot (slot_of state.settings task index) take_entered state.notes) state
   called core task (StateClear other index) state = state_forgotten other index state
   called core task (ValueClear other bits index) state = bits_cleared other bits index state
   called core task (MutexTake mutex ticks) state = mutex_take ops core task mutex ticks state

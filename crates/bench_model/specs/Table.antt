@@ -1,5 +1,6 @@
 -- The kernel as a flat table: one row a task, whose stamps and absolute wakes give every order.
-use Rattle.std.specs.Prelude.{ℕ, suc, ◌+◌, ◌-◌, ◌%◌, ◌^◌, List, length, Bool, true, false, ◌&&◌, ◌||◌, ◌==◌, nat_lt, nat_le, Option, None, option_map, is_some, unwrap_or, if◌then◌else◌, slice_index_or, slice_set}
+use Rattle.std.specs.Prelude.{ℕ, suc, ◌+◌, ◌-◌, ◌%◌, ◌^◌, List, length, Bool, true, false, ◌&&◌, ◌||◌, ◌==◌, nat_lt, nat_le, Option, None, option_map, is_some}
+use Rattle.std.specs.Prelude.{unwrap_or, if◌then◌else◌, slice_index_or, slice_set}
 use Rattle.std.specs.Option.{option_map_or}
 use Rattle.bench_types.specs.declared.kernel_data.MutexWait.{MutexWait}
 use Rattle.bench_types.specs.declared.kernel_data.Waiter.{Waiter}

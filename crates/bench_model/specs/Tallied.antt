@@ -58,8 +58,8 @@ module _ {Orders : Type 0} (ops : QueueOps Orders) (moment : Moment Orders) wher
 -- the step from a table
 abbrev pub moment_of : Table → Step → Moment Stamps
 moment_of table step =
-    let outcome = step_of step table in
-    record { before = table; step = step; reply = outcome.0; after = outcome.1 }
+    let made_step = step_of step table in
+    record { before = table; step = step; reply = made_step.0; after = made_step.1 }
 
 -- the tallies with the steps from a table on, one after another
 abbrev pub tallied_after : Table → List Step → List TaskTally → List TaskTally

@@ -2,7 +2,7 @@
 ghost use Rattle.std.specs.Prelude.{◌≡◌};
 ghost use Rattle.bench_model.specs.Notes.{is_received, is_waiting, without_bits, passes, acted, notified};
 
-use bench_types::{Action, NoteState, Notification};
+use bench_types::{NoteState, Notification, NotifyAction};
 
 /// Whether a notification has come that was not taken (`taskNOTIFICATION_RECEIVED`).
 pub fn is_received(state: NoteState) -> bool
@@ -33,30 +33,33 @@ pub fn without_bits(bits: u32, value: u32) -> u32
 
 /// Whether the notification passes; one that must not overwrite (`eSetValueWithoutOverwrite`) may
 /// not.
-pub fn passes(action: Action, state: NoteState) -> bool
+pub fn passes(action: NotifyAction, state: NoteState) -> bool
     ensures { result ≡ passes action state }
 {
     match action {
-        Action::SetNew(_) => !is_received(state),
-        Action::Nothing | Action::SetBits(_) | Action::Increment | Action::Set(_) => true,
+        NotifyAction::SetNew(_) => !is_received(state),
+        NotifyAction::Nothing
+        | NotifyAction::SetBits(_)
+        | NotifyAction::Increment
+        | NotifyAction::Set(_) => true,
     }
 }
 
 /// The notification value after an action that passes (`eNotifyAction`).
-pub fn acted(action: Action, value: u32) -> u32
+pub fn acted(action: NotifyAction, value: u32) -> u32
     ensures { result ≡ acted action value }
 {
     match action {
-        Action::Nothing => value,
-        Action::SetBits(bits) => value | bits,
-        Action::Increment => value.wrapping_add(1),
-        Action::Set(new) | Action::SetNew(new) => new,
+        NotifyAction::Nothing => value,
+        NotifyAction::SetBits(bits) => value | bits,
+        NotifyAction::Increment => value.wrapping_add(1),
+        NotifyAction::Set(new) | NotifyAction::SetNew(new) => new,
     }
 }
 
 /// What a notification makes of a task's (`xTaskGenericNotify`).
 #[tactic(auto, unfolding(crate::specs::Notes::notified))]
-pub fn notified(action: Action, note: Notification) -> Notification
+pub fn notified(action: NotifyAction, note: Notification) -> Notification
     ensures { result ≡ notified action note }
 {
     let value = if passes(action, note.state) {

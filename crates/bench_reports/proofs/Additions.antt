@@ -15,7 +15,8 @@ pub same_parts : {run run' : List ℕ} {counts counts' : Tally} → run ≡ run'
 same_parts run counts = cc
 
 pub same_length : (a b : List TaskTally) → shape a ≡ shape b → length a ≡ length b
-same_length a b same = sym (length-map a (λ (t : TaskTally). length t.run)) ∙ ap (λ (ns : List ℕ). length ns) same ∙ length-map b (λ (t : TaskTally). length t.run)
+same_length a b same = sym (length-map a (λ (t : TaskTally). length t.run)) ∙ ap (λ (ns : List ℕ). length ns) same ∙ length-map b
+    (λ (t : TaskTally). length t.run)
 
 -- for as many cores in both
 pub run_lengths : (a b : List TaskTally) (task : ℕ) → shape a ≡ shape b → task < length a → length (tally_at a task).run ≡ length (tally_at b task).run

@@ -19,7 +19,8 @@ abbrev pub first_counts : Control → ℕ → Tally
 first_counts control task = no_counts (task_at control task).in_use
 
 -- those of one task more
-pub firsts_more : (control : Control) (task : ℕ) (counts : List Tally) (x : Tally) (top : ℕ) → counts ≡ map (first_counts control) (numbers task) → x ≡ no_counts top → top ≡ (task_at control task).in_use
+pub firsts_more : (control : Control) (task : ℕ) (counts : List Tally) (x : Tally) (top : ℕ) → counts ≡ map (first_counts control) (numbers task) → x ≡
+    no_counts top → top ≡ (task_at control task).in_use
     → counts ++ x ∷ [] ≡ map (first_counts control) (numbers (task + 1))
 firsts_more control task counts x top so_far made is =
     ap (λ c. counts ++ c ∷ []) (made ∙ ap no_counts is)
@@ -45,5 +46,7 @@ pub first_table : (settings : Settings) (control : Control) (cores places : ℕ)
 unfolding tallies_in
 first_table settings control cores places same =
     let counts = map (first_counts control) (numbers settings.tasks) in
-    numbers_so (tally_in cores (replicate places 0) counts) (first_tally settings control) (length counts) settings.tasks (length_each (first_counts control) settings.tasks)
-    (λ task low. same_parts (zero_runs cores places task ∙ ap (λ n. replicate n 0) (same task low)) (each_at (first_counts control) settings.tasks task (no_counts 0) low))
+    numbers_so (tally_in cores (replicate places 0) counts) (first_tally settings control) (length counts) settings.tasks
+    (length_each (first_counts control) settings.tasks)
+    (λ task low. same_parts (zero_runs cores places task ∙ ap (λ n. replicate n 0) (same task low))
+    (each_at (first_counts control) settings.tasks task (no_counts 0) low))

@@ -15,7 +15,8 @@ pub record IsSetTo {X : Type 0} (f : ℕ → X) (d : X) (old : List X) (place : 
 pub set_none : {X : Type 0} (f : ℕ → X) (d : X) (old : List X) → IsSetTo f d old 0 old
 set_none f d old = record { size = refl; first = λ k low _. absurd (omega (arith, low)); others = λ k _. refl }
 
-pub set_more : {X : Type 0} (f : ℕ → X) (d : X) (old now : List X) (place : ℕ) → IsSetTo f d old place now → place < length now → IsSetTo f d old (place + 1) (slice_set now place (f place))
+pub set_more : {X : Type 0} (f : ℕ → X) (d : X) (old now : List X) (place : ℕ) → IsSetTo f d old place now → place < length now → IsSetTo f d old (place + 1)
+    (slice_set now place (f place))
 set_more f d old now place set low = record {
   size = length-set now place (f place) ∙ set.size;
   first = λ k below within. elim (cases_eq k place) [
@@ -25,7 +26,9 @@ set_more f d old now place set low = record {
   others = λ k above. get_or-set_other now place k (f place) d (λ (e : k ≡ place). absurd (omega (arith, above, e))) ∙ set.others k (omega (arith, above));
 }
 
-pub set_all : {X : Type 0} (f : ℕ → X) (d : X) (old now : List X) (place : ℕ) → IsSetTo f d old place now → length old ≤ place → now ≡ map f (numbers (length old))
+pub set_all : {X : Type 0} (f : ℕ → X) (d : X) (old now : List X) (place : ℕ) → IsSetTo f d old place now → length old ≤ place → now ≡ map f
+    (numbers (length old))
 set_all f d old now place set past =
     ext_get_or d now (map f (numbers (length old))) (set.size ∙ sym (length-map-range_with_len f 0 (length old)))
-    (λ k low. set.first k (omega (arith, low, set.size, past)) (omega (arith, low, set.size)) ∙ sym (get_or-map-range_with_len f 0 (length old) k k d (omega (arith, low, set.size)) (omega arith)))
+    (λ k low. set.first k (omega (arith, low, set.size, past)) (omega (arith, low, set.size)) ∙ sym
+    (get_or-map-range_with_len f 0 (length old) k k d (omega (arith, low, set.size)) (omega arith)))

@@ -1,5 +1,6 @@
 -- A step that is counted part by part is counted whole.
-use Rattle.std.proofs.Common.{◌≡◌, ℕ, ◌+◌, ◌-◌, ◌<◌, ◌≤◌, ◌^◌, Bool, true, false, not, ◌&&◌, ◌==◌, nat_lt, if◌then◌else◌, List, [], length, map, get_or, Option, Some, None, All, refl, sym, ap, subst, ◌∙◌, arith, inl, inr}
+use Rattle.std.proofs.Common.{◌≡◌, ℕ, ◌+◌, ◌-◌, ◌<◌, ◌≤◌, ◌^◌, Bool, true, false, not, ◌&&◌, ◌==◌, nat_lt, if◌then◌else◌, List, [], length, map, get_or, Option}
+use Rattle.std.proofs.Common.{Some, None, All, refl, sym, ap, subst, ◌∙◌, arith, inl, inr}
 use Rattle.std.specs.Prelude.{slice_set}
 use Rattle.std.proofs.Math.Bool.{and-true, and-false, and_assoc}
 use Rattle.std.proofs.lemmas.Bool.{cases_eq}
@@ -17,12 +18,14 @@ use Rattle.bench_types.specs.declared.step.Step.TheVariants as step
 use Rattle.list_orders.specs.Search.{numbers}
 use Rattle.bench_model.specs.Control.{Control, current}
 use Rattle.bench_model.specs.Lists.{View, Lists, list_queues}
-use Rattle.bench_model.specs.Tally.{TaskTally, Moment, is_tick, is_finish_of, is_displacement, outranks_some, says_run_out, is_switched_in, is_displaced, is_timeout}
+use Rattle.bench_model.specs.Tally.{TaskTally, Moment, is_tick, is_finish_of, is_displacement, outranks_some, says_run_out, is_switched_in, is_displaced}
+use Rattle.bench_model.specs.Tally.{is_timeout}
 use Rattle.bench_model.specs.Tallied.{no_counts, one_if, tally_at, tally_after, tallied, CountsBelow, AllCountsBelow}
 use Rattle.smp_kernel.specs.Kernel.{StandsForSome}
 use Rattle.session_laws.proofs.Tallies.{numbers_so, length_each, each_at, own_items}
 use Rattle.smp_kernel.specs.Kernel.{wants_core}
-use Rattle.bench_reports.specs.Counting.{found, found_tally, left_by, event_of, event_of_switch, event_of_call, is_finish, task_of, is_switch_in, is_displaced_call, is_run_out, event_tally, with_event, top_tally, topped, HasEventRoom}
+use Rattle.bench_reports.specs.Counting.{found, found_tally, left_by, event_of, event_of_switch, event_of_call, is_finish, task_of, is_switch_in}
+use Rattle.bench_reports.specs.Counting.{is_displaced_call, is_run_out, event_tally, with_event, top_tally, topped, HasEventRoom}
 use Rattle.bench_reports.proofs.TickCounts.{same_counts}
 use Rattle.bench_reports.proofs.TickFinds.{cores_stand}
 use Rattle.bench_reports.specs.declared.event.Event.{Event}
@@ -42,7 +45,8 @@ switch_test left runs task = at (runs == left) refl
 switch_only : (left runs task : ℕ) → (is_displaced_call (event_of_switch left runs) task ≡ false) × (is_run_out (event_of_switch left runs) task ≡ false)
 switch_only left runs task = at (runs == left)
   where
-    at : (b : Bool) → (is_displaced_call (if b then None else Some (SwitchedIn runs)) task ≡ false) × (is_run_out (if b then None else Some (SwitchedIn runs)) task ≡ false)
+    at : (b : Bool) → (is_displaced_call (if b then None else Some (SwitchedIn runs)) task ≡ false) ×
+        (is_run_out (if b then None else Some (SwitchedIn runs)) task ≡ false)
     at true = (refl, refl)
     at false = (refl, refl)
 
@@ -57,7 +61,8 @@ run_out_no_displacement (reply.Waited ok value) is = absurd (cc (is))
 run_out_no_displacement (reply.Until delayed wake) is = refl
 run_out_no_displacement (reply.Isr pass pend) is = refl
 
-call_displaced : (caller task : ℕ) (call : KernelCall) (reply : Reply) → is_displaced_call (event_of_call caller call reply) task ≡ (caller == task && is_displacement reply)
+call_displaced : (caller task : ℕ) (call : KernelCall) (reply : Reply) → is_displaced_call (event_of_call caller call reply) task ≡
+    (caller == task && is_displacement reply)
 call_displaced caller task call reply = at (is_displacement reply) (is_finish call && says_run_out reply) (caller == task)
   where
     at : (d r c : Bool) → is_displaced_call (if d then Some (Displaced caller) else if r then Some (RanOut caller) else None) task ≡ (caller == task && d)
@@ -73,10 +78,12 @@ call_switch caller task call reply = at (is_displacement reply) (is_finish call 
     at false true = refl
     at false false = refl
 
-call_run_out : (caller task : ℕ) (call : KernelCall) (reply : Reply) → is_run_out (event_of_call caller call reply) task ≡ (caller == task && (is_finish call && says_run_out reply))
+call_run_out : (caller task : ℕ) (call : KernelCall) (reply : Reply) → is_run_out (event_of_call caller call reply) task ≡
+    (caller == task && (is_finish call && says_run_out reply))
 call_run_out caller task call reply = at (is_displacement reply) refl (is_finish call) (says_run_out reply) refl
   where
-    at : (d : Bool) → is_displacement reply ≡ d → (f s : Bool) → says_run_out reply ≡ s → is_run_out (if d then Some (Displaced caller) else if (f && s) then Some (RanOut caller) else None) task ≡ (caller == task && (f && s))
+    at : (d : Bool) → is_displacement reply ≡ d → (f s : Bool) → says_run_out reply ≡ s → is_run_out
+        (if d then Some (Displaced caller) else if (f && s) then Some (RanOut caller) else None) task ≡ (caller == task && (f && s))
     at true is f true says = absurd (cc (run_out_no_displacement reply is, says))
     at true is true false says = sym (and-false (caller == task))
     at true is false false says = sym (and-false (caller == task))
@@ -111,7 +118,8 @@ never_both true = refl
 never_both false = refl
 
 -- a core that is none has the same task before and after
-none_past : (before after : Control) (core task : ℕ) → length before.cores ≤ core → length after.cores ≤ core → (current after core == task && not (current before core == task)) ≡ false
+none_past : (before after : Control) (core task : ℕ) → length before.cores ≤ core → length after.cores ≤ core →
+    (current after core == task && not (current before core == task)) ≡ false
 none_past before after core task one other =
     ap (λ n. n == task && not (current before core == task)) (past_current after core other)
     ∙ ap (λ n. 0 == task && not (n == task)) (past_current before core one) ∙ never_both (0 == task)
@@ -136,7 +144,8 @@ module _ (before after : View) (reply : Reply) (task : ℕ) where
   counted_alike sized later (step.Call core caller call) = record {
     switched = call_switch caller task call reply;
     displaced = call_displaced caller task call reply;
-    timeouts = call_run_out caller task call reply ∙ sym (and_assoc (caller == task) (is_finish call) (says_run_out reply)) ∙ ap (λ b. b && says_run_out reply) (finish_of caller task core call);
+    timeouts = call_run_out caller task call reply ∙ sym (and_assoc (caller == task) (is_finish call) (says_run_out reply)) ∙ ap (λ b. b && says_run_out reply)
+        (finish_of caller task core call);
   }
   counted_alike sized later (step.Switch core) = at (nat_lt core before.settings.cores) refl
     where
@@ -156,7 +165,8 @@ module _ (before after : View) (reply : Reply) (task : ℕ) where
         timeouts = ap (λ e. is_run_out e task) same ∙ (switch_only left runs task).1;
       }
       at false high = let same : event (step.Switch core) ≡ None = ap event_if high in record {
-        switched = ap (λ e. is_switch_in e task) same ∙ sym (none_past before.control after.control core task (grind (arith, nat_tests, high, sized)) (grind (arith, nat_tests, high, later)));
+        switched = ap (λ e. is_switch_in e task) same ∙ sym (none_past before.control after.control core task (grind (arith, nat_tests, high, sized))
+            (grind (arith, nat_tests, high, later)));
         displaced = ap (λ e. is_displaced_call e task) same;
         timeouts = ap (λ e. is_run_out e task) same;
       }
@@ -167,13 +177,15 @@ same_tally : {run : List ℕ} {w i s s' d d' t t' o : ℕ} → s ≡ s' → d �
     a ≡ b
 same_tally s d t = cc
 
-task_in_parts : (before after : View) (step : Step) (reply : Reply) (task : ℕ) (tally : TaskTally) → length before.control.cores ≡ before.settings.cores → length after.control.cores ≡ before.settings.cores
+task_in_parts : (before after : View) (step : Step) (reply : Reply) (task : ℕ) (tally : TaskTally) → length before.control.cores ≡ before.settings.cores →
+    length after.control.cores ≡ before.settings.cores
     → top_tally after.control task (event_tally (event_of (left_by before step) step reply after.control) task (found_tally before step task tally))
     ≡ tally_after list_queues (record { before = before; step = step; reply = reply; after = after }) task tally
 unfolding top_tally event_tally found_tally tally_after
 task_in_parts before after step reply task tally sized later =
     let alike = counted_alike before after reply task sized later step in
-    same_tally (ap (λ b. tally.counts.switched + one_if b) alike.switched) (ap (λ b. tally.counts.displaced + one_if b) alike.displaced) (ap (λ b. tally.counts.timeouts + one_if b) alike.timeouts)
+    same_tally (ap (λ b. tally.counts.switched + one_if b) alike.switched) (ap (λ b. tally.counts.displaced + one_if b) alike.displaced)
+    (ap (λ b. tally.counts.timeouts + one_if b) alike.timeouts)
 
 pub length_found : (before : View) (step : Step) (tallies : List TaskTally) → length (found before step tallies) ≡ length tallies
 unfolding found
@@ -183,15 +195,18 @@ pub length_event : (event : Option Event) (tallies : List TaskTally) → length 
 unfolding with_event
 length_event event tallies = length_each (λ task. event_tally event task (tally_at tallies task)) (length tallies)
 
-pub found_at : (before : View) (step : Step) (tallies : List TaskTally) (task : ℕ) → task < length tallies → tally_at (found before step tallies) task ≡ found_tally before step task (tally_at tallies task)
+pub found_at : (before : View) (step : Step) (tallies : List TaskTally) (task : ℕ) → task < length tallies → tally_at (found before step tallies) task ≡
+    found_tally before step task (tally_at tallies task)
 unfolding found
 found_at before step tallies task low = each_at (λ task. found_tally before step task (tally_at tallies task)) (length tallies) task nothing low
 
-pub event_at : (event : Option Event) (tallies : List TaskTally) (task : ℕ) → task < length tallies → tally_at (with_event event tallies) task ≡ event_tally event task (tally_at tallies task)
+pub event_at : (event : Option Event) (tallies : List TaskTally) (task : ℕ) → task < length tallies → tally_at (with_event event tallies) task ≡ event_tally
+    event task (tally_at tallies task)
 unfolding with_event
 event_at event tallies task low = each_at (λ task. event_tally event task (tally_at tallies task)) (length tallies) task nothing low
 
-pub counted_in_parts : (before after : View) (step : Step) (reply : Reply) (tallies : List TaskTally) → length before.control.cores ≡ before.settings.cores → length after.control.cores ≡ before.settings.cores
+pub counted_in_parts : (before after : View) (step : Step) (reply : Reply) (tallies : List TaskTally) → length before.control.cores ≡ before.settings.cores →
+    length after.control.cores ≡ before.settings.cores
     → topped after.control (with_event (event_of (left_by before step) step reply after.control) (found before step tallies))
     ≡ tallied list_queues (record { before = before; step = step; reply = reply; after = after }) tallies
 unfolding topped tallied
@@ -200,8 +215,11 @@ counted_in_parts before after step reply tallies sized later =
     let first = found before step tallies in
     let second = with_event event first in
     let long = length_event event first ∙ length_found before step tallies in
-    numbers_so (λ task. top_tally after.control task (tally_at second task)) (λ task. tally_after list_queues (record { before = before; step = step; reply = reply; after = after }) task (tally_at tallies task)) (length second) (length tallies) long
-    (λ task low. ap (top_tally after.control task) (event_at event first task (omega (arith, low, length_found before step tallies)) ∙ ap (event_tally event task) (found_at before step tallies task low))
+    numbers_so (λ task. top_tally after.control task (tally_at second task))
+    (λ task. tally_after list_queues (record { before = before; step = step; reply = reply; after = after }) task (tally_at tallies task)) (length second)
+    (length tallies) long
+    (λ task low. ap (top_tally after.control task) (event_at event first task (omega (arith, low, length_found before step tallies)) ∙ ap
+    (event_tally event task) (found_at before step tallies task low))
     ∙ task_in_parts before after step reply task (tally_at tallies task) sized later)
 
 -- What is found by a step that is no tick.
@@ -216,44 +234,58 @@ no_tick_adds before step task tally none =
       };
     } in
     ap found none
-    ∙ same_counts (numbers_so (λ core. get_or tally.run core 0 + 0) (λ core. get_or tally.run core 0) (length tally.run) (length tally.run) refl (λ core low. omega arith) ∙ own_items tally.run 0) (omega arith) (omega arith)
+    ∙ same_counts (numbers_so (λ core. get_or tally.run core 0 + 0) (λ core. get_or tally.run core 0) (length tally.run) (length tally.run) refl
+    (λ core low. omega arith) ∙ own_items tally.run 0) (omega arith) (omega arith)
 
 pub found_none : (before : View) (step : Step) (tallies : List TaskTally) → is_tick step ≡ false → found before step tallies ≡ tallies
 unfolding found
 found_none before step tallies none =
-    numbers_so (λ task. found_tally before step task (tally_at tallies task)) (tally_at tallies) (length tallies) (length tallies) refl (λ task low. no_tick_adds before step task (tally_at tallies task) none)
+    numbers_so (λ task. found_tally before step task (tally_at tallies task)) (tally_at tallies) (length tallies) (length tallies) refl
+    (λ task low. no_tick_adds before step task (tally_at tallies task) none)
     ∙ own_items tallies nothing
 
 -- What an event changes.
 other_event : (event : Event) (task : ℕ) (tally : TaskTally) → (task_of event == task) ≡ false → event_tally (Some event) task tally ≡ tally
 unfolding event_tally
-other_event (SwitchedIn other) task tally away = ap (λ b. record tally { counts = record tally.counts { switched = tally.counts.switched + one_if b; displaced = tally.counts.displaced + 0; timeouts = tally.counts.timeouts + 0 } }) away ∙ same_tally (omega arith) (omega arith) (omega arith)
-other_event (Displaced other) task tally away = ap (λ b. record tally { counts = record tally.counts { switched = tally.counts.switched + 0; displaced = tally.counts.displaced + one_if b; timeouts = tally.counts.timeouts + 0 } }) away ∙ same_tally (omega arith) (omega arith) (omega arith)
-other_event (RanOut other) task tally away = ap (λ b. record tally { counts = record tally.counts { switched = tally.counts.switched + 0; displaced = tally.counts.displaced + 0; timeouts = tally.counts.timeouts + one_if b } }) away ∙ same_tally (omega arith) (omega arith) (omega arith)
+other_event (SwitchedIn other) task tally away = ap (λ b. record tally {
+  counts = record tally.counts { switched = tally.counts.switched + one_if b; displaced = tally.counts.displaced + 0; timeouts = tally.counts.timeouts + 0 };
+}) away ∙ same_tally (omega arith) (omega arith) (omega arith)
+other_event (Displaced other) task tally away = ap (λ b. record tally {
+  counts = record tally.counts { switched = tally.counts.switched + 0; displaced = tally.counts.displaced + one_if b; timeouts = tally.counts.timeouts + 0 };
+}) away ∙ same_tally (omega arith) (omega arith) (omega arith)
+other_event (RanOut other) task tally away = ap (λ b. record tally {
+  counts = record tally.counts { switched = tally.counts.switched + 0; displaced = tally.counts.displaced + 0; timeouts = tally.counts.timeouts + one_if b };
+}) away ∙ same_tally (omega arith) (omega arith) (omega arith)
 
 pub event_none : (tallies : List TaskTally) → with_event None tallies ≡ tallies
 unfolding with_event event_tally
 event_none tallies =
-    numbers_so (λ task. event_tally None task (tally_at tallies task)) (tally_at tallies) (length tallies) (length tallies) refl (λ task low. same_tally (omega arith) (omega arith) (omega arith)) ∙ own_items tallies nothing
+    numbers_so (λ task. event_tally None task (tally_at tallies task)) (tally_at tallies) (length tallies) (length tallies) refl
+    (λ task low. same_tally (omega arith) (omega arith) (omega arith)) ∙ own_items tallies nothing
 
 pub event_past : (event : Event) (tallies : List TaskTally) → length tallies ≤ task_of event → with_event (Some event) tallies ≡ tallies
 unfolding with_event
 event_past event tallies past =
-    numbers_so (λ task. event_tally (Some event) task (tally_at tallies task)) (tally_at tallies) (length tallies) (length tallies) refl (λ task low. other_event event task (tally_at tallies task) (grind (arith, nat_tests, low, past)))
+    numbers_so (λ task. event_tally (Some event) task (tally_at tallies task)) (tally_at tallies) (length tallies) (length tallies) refl
+    (λ task low. other_event event task (tally_at tallies task) (grind (arith, nat_tests, low, past)))
     ∙ own_items tallies nothing
 
 pub event_set : (event : Event) (tallies : List TaskTally) (tally : TaskTally) → task_of event < length tallies → tally ≡ get_or tallies (task_of event) nothing
     → with_event (Some event) tallies ≡ slice_set tallies (task_of event) (event_tally (Some event) (task_of event) tally)
 event_set event tallies tally low is =
     let one = event_tally (Some event) (task_of event) tally in
-    ext_get_or nothing (with_event (Some event) tallies) (slice_set tallies (task_of event) one) (length_event (Some event) tallies ∙ sym (length-set tallies (task_of event) one))
-    (λ k within. let below : k < length tallies = omega (arith, within, length_event (Some event) tallies) in event_at (Some event) tallies k below ∙ elim (cases_eq k (task_of event)) [
-      | inl here ↦ subst (λ j. event_tally (Some event) j (tally_at tallies j) ≡ get_or (slice_set tallies (task_of event) one) j nothing) (sym here) (ap (event_tally (Some event) (task_of event)) (sym is) ∙ sym (get_or-set_same tallies (task_of event) one nothing low))
+    ext_get_or nothing (with_event (Some event) tallies) (slice_set tallies (task_of event) one)
+    (length_event (Some event) tallies ∙ sym (length-set tallies (task_of event) one))
+    (λ k within. let below : k < length tallies = omega (arith, within, length_event (Some event) tallies) in event_at (Some event) tallies k below ∙
+    elim (cases_eq k (task_of event)) [
+      | inl here ↦ subst (λ j. event_tally (Some event) j (tally_at tallies j) ≡ get_or (slice_set tallies (task_of event) one) j nothing) (sym here)
+          (ap (event_tally (Some event) (task_of event)) (sym is) ∙ sym (get_or-set_same tallies (task_of event) one nothing low))
       | inr away ↦ other_event event k (tally_at tallies k) (grind (arith, nat_tests, away)) ∙ sym (get_or-set_other tallies (task_of event) k one nothing away)
     ])
 
 -- Where each count has room before a step, there is room for an event after what it finds.
-pub room_after_found : (before : View) (step : Step) (tallies : List TaskTally) → AllCountsBelow (2 ^ 32 - 1) tallies → All HasEventRoom (found before step tallies)
+pub room_after_found : (before : View) (step : Step) (tallies : List TaskTally) → AllCountsBelow (2 ^ 32 - 1) tallies → All HasEventRoom
+    (found before step tallies)
 unfolding found found_tally
 room_after_found before step tallies room task d low =
     let f = λ (task : ℕ). found_tally before step task (tally_at tallies task) in
@@ -262,8 +294,10 @@ room_after_found before step tallies room task d low =
     subst HasEventRoom (sym (each_at f (length tallies) task d below)) (record { switched = old.switched; displaced = old.displaced; timeouts = old.timeouts })
 
 -- what is left to one who counts in parts: the task that a switch finds, what the step finds, its event, and the rest
-pub counted_whole : (before after : View) (step : Step) (reply : Reply) (old mid new : List TaskTally) (left : Option (ℕ × ℕ)) (event : Option Event) → StandsForSome before → StandsForSome after → after.settings.cores ≡ before.settings.cores
-    → left ≡ left_by before step → mid ≡ found before step old → event ≡ event_of left step reply after.control → new ≡ topped after.control (with_event event mid)
+pub counted_whole : (before after : View) (step : Step) (reply : Reply) (old mid new : List TaskTally) (left : Option (ℕ × ℕ)) (event : Option Event) →
+    StandsForSome before → StandsForSome after → after.settings.cores ≡ before.settings.cores
+    → left ≡ left_by before step → mid ≡ found before step old → event ≡ event_of left step reply after.control → new ≡ topped after.control
+    (with_event event mid)
     → new ≡ tallied list_queues (record { before = before; step = step; reply = reply; after = after }) old
 counted_whole before after step reply old mid new left event some other same left_is mid_is event_is new_is =
     let control = after.control in

@@ -9,7 +9,8 @@ use Rattle.list_orders.specs.Search.{numbers}
 use Rattle.bench_model.specs.Control.{Control}
 use Rattle.bench_model.specs.State.{QueueOps}
 use Rattle.bench_model.specs.Tally.{TaskTally, Moment, is_displaced, is_found_on, is_found_waiting, is_inverted, is_switched_in, is_timeout}
-use Rattle.bench_model.specs.Tallied.{added, added_tally, first_tallies, first_tally, one_if, run_at, shape, shape_of, tallied, tally_after, tally_at, CountsBelow, AllCountsBelow}
+use Rattle.bench_model.specs.Tallied.{added, added_tally, first_tallies, first_tally, one_if, run_at, shape, shape_of, tallied, tally_after, tally_at}
+use Rattle.bench_model.specs.Tallied.{CountsBelow, AllCountsBelow}
 use Rattle.session_laws.proofs.Shapes.{shape_of_each}
 use Rattle.session_laws.proofs.Tallies.{each_at, length_each, numbers_agree}
 use Rattle.bench_reports.proofs.Additions.{nothing, same_length, run_lengths}
@@ -19,7 +20,8 @@ pub first_shape : (settings : Settings) (control : Control) → shape (first_tal
 first_shape settings control =
     let tasks = settings.tasks in
     shape_of_each (first_tally settings control) (numbers tasks)
-    ∙ numbers_agree (λ task. length (first_tally settings control task).run) (λ task. settings.cores) tasks (λ task low. length-replicate {A = ℕ} settings.cores 0)
+    ∙ numbers_agree (λ task. length (first_tally settings control task).run) (λ task. settings.cores) tasks
+    (λ task low. length-replicate {A = ℕ} settings.cores 0)
     ∙ sym (splat_is_map (numbers tasks) tasks settings.cores (length-range_with_len 0 tasks))
 
 pub first_room : (settings : Settings) (control : Control) → AllCountsBelow 1 (first_tallies settings control)
@@ -66,7 +68,8 @@ module _ {Orders : Type 0} (ops : QueueOps Orders) (moment : Moment Orders) wher
       (one_step task bound (tally_at tallies task) (All-get_or (CountsBelow bound) tallies task nothing below room))
 
 -- The numbers of two parts are below the sum of their bounds.
-sum_below : (a b : TaskTally) (bound more : ℕ) → length a.run ≡ length b.run → CountsBelow (suc bound) a → CountsBelow (suc more) b → CountsBelow (suc (bound + more)) (added_tally a b)
+sum_below : (a b : TaskTally) (bound more : ℕ) → length a.run ≡ length b.run → CountsBelow (suc bound) a → CountsBelow (suc more) b → CountsBelow
+    (suc (bound + more)) (added_tally a b)
 unfolding added_tally
 sum_below a b bound more same one other = record {
   run = λ core d within.
@@ -80,7 +83,8 @@ sum_below a b bound more same one other = record {
   timeouts = omega (arith, one.timeouts, other.timeouts);
 }
 
-pub sum_room : (a b : List TaskTally) (bound more : ℕ) → shape a ≡ shape b → AllCountsBelow (suc bound) a → AllCountsBelow (suc more) b → AllCountsBelow (suc (bound + more)) (added a b)
+pub sum_room : (a b : List TaskTally) (bound more : ℕ) → shape a ≡ shape b → AllCountsBelow (suc bound) a → AllCountsBelow (suc more) b → AllCountsBelow
+    (suc (bound + more)) (added a b)
 unfolding added
 sum_room a b bound more same one other task d low =
     let f = λ (task : ℕ). added_tally (tally_at a task) (tally_at b task) in

@@ -61,20 +61,23 @@ module _ (control : Control) (old now : List TaskTally) (place : ℕ) (so_far : 
 
     more_counts : (task : ℕ) → (tally_at more task).counts ≡ (tally_at old task).counts
     more_counts task = elim (cases_eq task runner) [
-      | inl here ↦ subst (λ j. (tally_at more j).counts ≡ (tally_at old j).counts) (sym here) (ap (λ (t : TaskTally). t.counts) at_runner ∙ so_far.counts runner)
+      | inl here ↦ subst (λ j. (tally_at more j).counts ≡ (tally_at old j).counts) (sym here)
+          (ap (λ (t : TaskTally). t.counts) at_runner ∙ so_far.counts runner)
       | inr away ↦ ap (λ (t : TaskTally). t.counts) (at_other task away) ∙ so_far.counts task
     ]
 
     more_cores : (task : ℕ) → length (tally_at more task).run ≡ length (tally_at old task).run
     more_cores task = elim (cases_eq task runner) [
-      | inl here ↦ subst (λ j. length (tally_at more j).run ≡ length (tally_at old j).run) (sym here) (ap (λ (t : TaskTally). length t.run) at_runner ∙ length-set x.run place (run_at x place + 1) ∙ so_far.cores runner)
+      | inl here ↦ subst (λ j. length (tally_at more j).run ≡ length (tally_at old j).run) (sym here)
+          (ap (λ (t : TaskTally). length t.run) at_runner ∙ length-set x.run place (run_at x place + 1) ∙ so_far.cores runner)
       | inr away ↦ ap (λ (t : TaskTally). length t.run) (at_other task away) ∙ so_far.cores task
     ]
 
     -- another core of each task is as it was
     more_elsewhere : (task core : ℕ) → (core ≡ place → ⊥) → run_at (tally_at more task) core ≡ run_at (tally_at now task) core
     more_elsewhere task core apart = elim (cases_eq task runner) [
-      | inl here ↦ subst (λ j. run_at (tally_at more j) core ≡ run_at (tally_at now j) core) (sym here) (ap (λ (t : TaskTally). run_at t core) at_runner ∙ get_or-set_other x.run place core (run_at x place + 1) 0 apart)
+      | inl here ↦ subst (λ j. run_at (tally_at more j) core ≡ run_at (tally_at now j) core) (sym here)
+          (ap (λ (t : TaskTally). run_at t core) at_runner ∙ get_or-set_other x.run place core (run_at x place + 1) 0 apart)
       | inr away ↦ ap (λ (t : TaskTally). run_at t core) (at_other task away)
     ]
 
@@ -83,7 +86,8 @@ module _ (control : Control) (old now : List TaskTally) (place : ℕ) (so_far : 
       | inl here ↦ subst (λ j. run_at (tally_at more j) place ≡ run_at (tally_at old j) place + one_if (runner == j)) (sym here)
           (ap (λ (t : TaskTally). run_at t place) at_runner ∙ get_or-set_same x.run place (run_at x place + 1) 0 inside
           ∙ ap (λ n. n + 1) (so_far.others runner place (omega arith)) ∙ ap (λ n. run_at (tally_at old runner) place + n) (sym (if_same runner runner refl)))
-      | inr away ↦ ap (λ (t : TaskTally). run_at t place) (at_other task away) ∙ so_far.others task place (omega arith) ∙ omega (arith, if_apart runner task away)
+      | inr away ↦ ap (λ (t : TaskTally). run_at t place) (at_other task away) ∙ so_far.others task place (omega arith) ∙ omega
+          (arith, if_apart runner task away)
     ]
 
     pub run_more : IsRunTo control old (place + 1) more
@@ -95,13 +99,17 @@ module _ (control : Control) (old now : List TaskTally) (place : ℕ) (so_far : 
         | inl here ↦ subst (λ j. run_at (tally_at more task) j ≡ run_at (tally_at old task) j + one_if (current control j == task)) (sym here) (more_here task)
         | inr apart ↦ more_elsewhere task core apart ∙ so_far.first task core (omega (arith, below, apart)) within
       ];
-      others = λ task core past. more_elsewhere task core (λ (e : core ≡ place). absurd (omega (arith, past, e))) ∙ so_far.others task core (omega (arith, past));
+      others = λ task core past. more_elsewhere task core (λ (e : core ≡ place). absurd (omega (arith, past, e))) ∙ so_far.others task core
+          (omega (arith, past));
     }
 
-pub run_on : (control : Control) (old now : List TaskTally) (place task : ℕ) → IsRunTo control old place now → task ≡ current control place → task < length now → place < length (tally_at now task).run
-    → IsRunTo control old (place + 1) (slice_set now task (record (tally_at now task) { run = slice_set (tally_at now task).run place (run_at (tally_at now task) place + 1) }))
+pub run_on : (control : Control) (old now : List TaskTally) (place task : ℕ) → IsRunTo control old place now → task ≡ current control place → task < length now
+    → place < length (tally_at now task).run
+    → IsRunTo control old (place + 1) (slice_set now task (record (tally_at now task)
+    { run = slice_set (tally_at now task).run place (run_at (tally_at now task) place + 1) }))
 run_on control old now place task so_far runs low inside =
-    subst (λ j. IsRunTo control old (place + 1) (slice_set now j (record (tally_at now j) { run = slice_set (tally_at now j).run place (run_at (tally_at now j) place + 1) }))) (sym runs)
+    subst (λ j. IsRunTo control old (place + 1) (slice_set now j
+    (record (tally_at now j) { run = slice_set (tally_at now j).run place (run_at (tally_at now j) place + 1) }))) (sym runs)
     (run_more control old now place so_far (subst (λ j. j < length now) runs low) (subst (λ j. place < length (tally_at now j).run) runs inside))
 
 -- before its core is counted a task has as many cores as at first, and as many ticks on that one
@@ -114,7 +122,8 @@ module _ (old now : List TaskTally) (control : Control) (place task : ℕ) (so_f
       let ticks = All-get_or (λ n. n < bound) (tally_at old task).run place 0 inside (All-get_or (CountsBelow bound) old task nothing low room).run in
       omega (arith, ticks, so_far.others task place (omega arith))
 
-pub run_all : (control : Control) (old now : List TaskTally) (place : ℕ) → IsRunTo control old place now → ((task : ℕ) → task < length old → length (tally_at old task).run ≤ place) → now ≡ ran control old
+pub run_all : (control : Control) (old now : List TaskTally) (place : ℕ) → IsRunTo control old place now →
+    ((task : ℕ) → task < length old → length (tally_at old task).run ≤ place) → now ≡ ran control old
 unfolding ran
 run_all control old now place so_far past =
     let each = λ (task : ℕ). record (tally_at old task) { run = runs_after control task (tally_at old task).run } in
@@ -124,6 +133,7 @@ run_all control old now place so_far past =
     let ticks = λ (core : ℕ). run_at (tally_at old task) core + one_if (current control core == task) in
     let cores = length (tally_at old task).run in
     same_parts (ext_get_or 0 (tally_at now task).run (map ticks (numbers cores)) (so_far.cores task ∙ sym (length_each ticks cores))
-    (λ core within. let inside : core < cores = omega (arith, within, so_far.cores task) in so_far.first task core (omega (arith, inside, past task below)) inside ∙ sym (each_at ticks cores core 0 inside)))
+    (λ core within. let inside : core < cores = omega (arith, within, so_far.cores task) in so_far.first task core (omega (arith, inside, past task below))
+    inside ∙ sym (each_at ticks cores core 0 inside)))
     (so_far.counts task)
     ∙ sym (each_at each (length old) task nothing below))

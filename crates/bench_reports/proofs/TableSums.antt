@@ -16,9 +16,11 @@ use Rattle.bench_reports.proofs.Tables.{length_runs, length_tallies, place_withi
 
 -- ---- bounds
 
-module _ (cores : ℕ) (runs : List ℕ) (counts : List Tally) (bound : ℕ) (size : length runs ≡ length counts * cores) (room : AllCountsBelow bound (tallies_in cores runs counts)) where
+module _ (cores : ℕ) (runs : List ℕ) (counts : List Tally) (bound : ℕ) (size : length runs ≡ length counts * cores)
+    (room : AllCountsBelow bound (tallies_in cores runs counts)) where
   tally_room : (task : ℕ) → task < length counts → CountsBelow bound (tally_in cores runs counts task)
-  tally_room task low = subst (CountsBelow bound) (tally_there cores runs counts task low) (room task nothing (omega (arith, low, length_tallies cores runs counts)))
+  tally_room task low = subst (CountsBelow bound) (tally_there cores runs counts task low)
+      (room task nothing (omega (arith, low, length_tallies cores runs counts)))
 
   -- each place is one of a task and a core
   task_of_place : (place : ℕ) → place < length runs → 0 < cores → place / cores < length counts
@@ -64,7 +66,8 @@ module _ (cores : ℕ) (runs : List ℕ) (counts : List Tally) (size : length ru
     (cores' : ℕ) (more : List ℕ) (others : List Tally) (more_size : length more ≡ length others * cores')
     (same : shape (tallies_in cores runs counts) ≡ shape (tallies_in cores' more others)) where
   pub same_tasks : length counts ≡ length others
-  same_tasks = sym (length_tallies cores runs counts) ∙ same_length (tallies_in cores runs counts) (tallies_in cores' more others) same ∙ length_tallies cores' more others
+  same_tasks = sym (length_tallies cores runs counts) ∙ same_length (tallies_in cores runs counts) (tallies_in cores' more others) same ∙ length_tallies cores'
+      more others
 
   same_cores : (task : ℕ) → task < length counts → cores ≡ cores'
   same_cores task low =
@@ -79,11 +82,14 @@ module _ (cores : ℕ) (runs : List ℕ) (counts : List Tally) (size : length ru
         omega (arith, size, more_size, ap (λ n. n * cores) no, ap (λ n. n * cores') (sym same_tasks ∙ no))
   ]
 
-  runs_summed : (task : ℕ) → task < length counts → runs_of cores (sums_of runs more) task ≡ map (λ core. get_or (runs_of cores runs task) core 0 + get_or (runs_of cores' more task) core 0) (numbers (length (runs_of cores runs task)))
+  runs_summed : (task : ℕ) → task < length counts → runs_of cores (sums_of runs more) task ≡ map
+      (λ core. get_or (runs_of cores runs task) core 0 + get_or (runs_of cores' more task) core 0) (numbers (length (runs_of cores runs task)))
   unfolding runs_of
   runs_summed task low =
       let sum : ℕ → ℕ = λ place. get_or runs place 0 + get_or more place 0 in
-      numbers_so (λ core. get_or (sums_of runs more) (task * cores + core) 0) (λ core. get_or (runs_of cores runs task) core 0 + get_or (runs_of cores' more task) core 0) cores (length (runs_of cores runs task)) (sym (length_runs cores runs task))
+      numbers_so (λ core. get_or (sums_of runs more) (task * cores + core) 0)
+      (λ core. get_or (runs_of cores runs task) core 0 + get_or (runs_of cores' more task) core 0) cores (length (runs_of cores runs task))
+      (sym (length_runs cores runs task))
       (λ core within.
       let inside : core < cores = omega (arith, within, length_runs cores runs task) in
       let within' : core < cores' = omega (arith, inside, same_cores task low) in
@@ -92,7 +98,8 @@ module _ (cores : ℕ) (runs : List ℕ) (counts : List Tally) (size : length ru
       each_at sum (length runs) (task * cores + core) 0 (omega (arith, size, place_within cores task (length counts) core low inside))
       ∙ ap₂ (λ n m. n + m) (sym (run_there cores runs task core 0 inside)) there)
 
-  one_summed : (task : ℕ) → task < length counts → tally_in cores (sums_of runs more) (all_added_counts counts others) task ≡ added_tally (tally_in cores runs counts task) (tally_in cores' more others task)
+  one_summed : (task : ℕ) → task < length counts → tally_in cores (sums_of runs more) (all_added_counts counts others) task ≡ added_tally
+      (tally_in cores runs counts task) (tally_in cores' more others task)
   unfolding added_tally
   one_summed task low =
       same_parts (runs_summed task low) (each_at (λ task. added_counts (counts_of counts task) (counts_of others task)) (length counts) task (no_counts 0) low)
@@ -103,7 +110,8 @@ module _ (cores : ℕ) (runs : List ℕ) (counts : List Tally) (size : length ru
       let a = tallies_in cores runs counts in
       let b = tallies_in cores' more others in
       let tasks = length_each (λ task. added_counts (counts_of counts task) (counts_of others task)) (length counts) in
-      numbers_so (tally_in cores (sums_of runs more) (all_added_counts counts others)) (λ task. added_tally (tally_at a task) (tally_at b task)) (length (all_added_counts counts others)) (length a)
+      numbers_so (tally_in cores (sums_of runs more) (all_added_counts counts others)) (λ task. added_tally (tally_at a task) (tally_at b task))
+      (length (all_added_counts counts others)) (length a)
       (tasks ∙ sym (length_tallies cores runs counts))
       (λ task within.
       let low : task < length counts = omega (arith, within, length_tallies cores runs counts) in

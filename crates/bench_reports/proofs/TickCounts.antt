@@ -25,7 +25,8 @@ pub length_ran : (control : Control) (tallies : List TaskTally) → length (ran 
 unfolding ran
 length_ran control tallies = length_each (ran_tally control tallies) (length tallies)
 
-ran_at : (control : Control) (tallies : List TaskTally) (task : ℕ) (d : TaskTally) → task < length tallies → get_or (ran control tallies) task d ≡ ran_tally control tallies task
+ran_at : (control : Control) (tallies : List TaskTally) (task : ℕ) (d : TaskTally) → task < length tallies → get_or (ran control tallies) task d ≡ ran_tally
+    control tallies task
 unfolding ran
 ran_at control tallies task d low = each_at (ran_tally control tallies) (length tallies) task d low
 
@@ -36,11 +37,13 @@ pub length_waited : (before : View) (tallies : List TaskTally) → length (waite
 unfolding waited
 length_waited before tallies = length_each (waited_tally before tallies) (length tallies)
 
-waited_at : (before : View) (tallies : List TaskTally) (task : ℕ) (d : TaskTally) → task < length tallies → get_or (waited before tallies) task d ≡ waited_tally before tallies task
+waited_at : (before : View) (tallies : List TaskTally) (task : ℕ) (d : TaskTally) → task < length tallies → get_or (waited before tallies) task d ≡ waited_tally
+    before tallies task
 unfolding waited
 waited_at before tallies task d low = each_at (waited_tally before tallies) (length tallies) task d low
 
-tick_parts : (before : View) (task : ℕ) (tally : TaskTally) → with_inversion (is_inverted before task) (with_wait (wants_core before task) (record tally { run = runs_after before.control task tally.run })) ≡ found_tally before Tick task tally
+tick_parts : (before : View) (task : ℕ) (tally : TaskTally) → with_inversion (is_inverted before task)
+    (with_wait (wants_core before task) (record tally { run = runs_after before.control task tally.run })) ≡ found_tally before Tick task tally
 unfolding found_tally
 tick_parts before task tally = refl
 
@@ -50,10 +53,12 @@ counted_tick before tallies =
     let first = ran before.control tallies in
     let mid = waited before first in
     let long = length_waited before first ∙ length_ran before.control tallies in
-    numbers_so (λ task. with_inversion (is_inverted before task) (tally_at mid task)) (λ task. found_tally before Tick task (tally_at tallies task)) (length mid) (length tallies) long
+    numbers_so (λ task. with_inversion (is_inverted before task) (tally_at mid task)) (λ task. found_tally before Tick task (tally_at tallies task))
+    (length mid) (length tallies) long
     (λ task low.
     let under : task < length tallies = omega (arith, low, long) in
-    ap (with_inversion (is_inverted before task)) (waited_at before first task nothing (omega (arith, under, length_ran before.control tallies)) ∙ ap (with_wait (wants_core before task)) (ran_at before.control tallies task nothing under))
+    ap (with_inversion (is_inverted before task)) (waited_at before first task nothing (omega (arith, under, length_ran before.control tallies)) ∙ ap
+    (with_wait (wants_core before task)) (ran_at before.control tallies task nothing under))
     ∙ tick_parts before task (tally_at tallies task))
 
 -- There is room for a wait after the cores are counted.
@@ -64,7 +69,8 @@ room_after_runs control tallies room task d low =
     subst HasWaitRoom (sym (ran_at control tallies task d below)) (record { wait = old.wait; inverted = old.inverted })
 
 -- and for an inversion after the waits
-pub room_after_waits : (before : View) (tallies : List TaskTally) → All HasWaitRoom tallies → (task : ℕ) → task < length tallies → (tally_at (waited before tallies) task).counts.inverted < 2 ^ 32 - 1
+pub room_after_waits : (before : View) (tallies : List TaskTally) → All HasWaitRoom tallies → (task : ℕ) → task < length tallies →
+    (tally_at (waited before tallies) task).counts.inverted < 2 ^ 32 - 1
 room_after_waits before tallies room task low =
     let old = All-get_or HasWaitRoom tallies task nothing low room in
     subst (λ (t : TaskTally). t.counts.inverted < 2 ^ 32 - 1) (sym (waited_at before tallies task nothing low)) old.inverted

@@ -19,13 +19,17 @@ cores_stand view some =
     sym (ap (λ (v : View). length v.control.cores) some.1.shows) ∙ some.1.sound.consistent.sized.cores ∙ ap (λ (v : View). v.settings.cores) some.1.shows
 
 -- a task whose effective priority is not above the lowest of the current tasks stands above none
-pub outranks_none : (control : Control) (cores lowest task : ℕ) → length control.cores ≡ cores → IsLowest control cores lowest → effective control task ≤ lowest → false ≡ outranks_some control task
+pub outranks_none : (control : Control) (cores lowest task : ℕ) → length control.cores ≡ cores → IsLowest control cores lowest → effective control task ≤ lowest
+    → false ≡ outranks_some control task
 outranks_none control cores lowest task size lowest_is above =
     let test = λ (core : ℕ). is_allowed control core task && nat_lt (effective control (current control core)) (effective control task) in
     sym (list_any_none test (numbers (length control.cores))
-    (All-from_recursion (λ core. test core ≡ false) (numbers (length control.cores)) (All-weaker (λ core. core < length control.cores) (λ core. test core ≡ false)
-    (λ core low. at core (is_allowed control core task) (lowest_is core (omega (arith, low, size)))) (numbers (length control.cores)) (numbers_below (length control.cores)))))
+    (All-from_recursion (λ core. test core ≡ false) (numbers (length control.cores))
+    (All-weaker (λ core. core < length control.cores) (λ core. test core ≡ false)
+    (λ core low. at core (is_allowed control core task) (lowest_is core (omega (arith, low, size)))) (numbers (length control.cores))
+    (numbers_below (length control.cores)))))
   where
-    at : (core : ℕ) (b : Bool) → lowest ≤ effective control (current control core) → (b && nat_lt (effective control (current control core)) (effective control task)) ≡ false
+    at : (core : ℕ) (b : Bool) → lowest ≤ effective control (current control core) →
+        (b && nat_lt (effective control (current control core)) (effective control task)) ≡ false
     at core true low = grind (arith, nat_tests, low, above)
     at core false low = refl

@@ -11,7 +11,8 @@ shape_length tallies settings same =
     sym (length-map tallies (λ (t : TaskTally). length t.run)) ∙ ap (λ (ns : List ℕ). length ns) same ∙ length-replicate settings.tasks settings.cores
 
 -- the numbers of cores are those of the settings
-pub shape_runs : (tallies : List TaskTally) (settings : Settings) (task : ℕ) → shape tallies ≡ shape_of settings → task < length tallies → length (tally_at tallies task).run ≡ settings.cores
+pub shape_runs : (tallies : List TaskTally) (settings : Settings) (task : ℕ) → shape tallies ≡ shape_of settings → task < length tallies → length
+    (tally_at tallies task).run ≡ settings.cores
 shape_runs tallies settings task same low =
     sym (get_or-map (λ (t : TaskTally). length t.run) tallies task nothing 0 low) ∙ ap (λ ns. get_or ns task 0) same
     ∙ get_or-replicate settings.tasks task settings.cores 0 (omega (arith, low, shape_length tallies settings same))

@@ -17,8 +17,8 @@ use Rattle.bench_reports.specs.declared.event.Event.{Event}
 use Rattle.bench_reports.proofs.Additions.{nothing}
 use Rattle.bench_reports.proofs.Parts.{length_found, length_event, found_at, event_at}
 
-pub begun_tops : (settings : Settings) (control : Control) → HasTops control (first_tallies settings control)
-begun_tops settings control task low =
+pub initial_tops : (settings : Settings) (control : Control) → HasTops control (first_tallies settings control)
+initial_tops settings control task low =
     let first = first_tally settings control in
     let below : task < settings.tasks = omega (arith, low, length_each first settings.tasks) in
     omega (arith, ap (λ (t : TaskTally). t.counts.top) (each_at first settings.tasks task nothing below))
@@ -32,18 +32,27 @@ event_top : (event : Option Event) (task : ℕ) (tally : TaskTally) → (event_t
 unfolding event_tally
 event_top event task tally = refl
 
-pub found_tops : (control : Control) (before : View) (step : Step) (tallies : List TaskTally) → HasTops control tallies → HasTops control (found before step tallies)
+pub found_tops : (control : Control) (before : View) (step : Step) (tallies : List TaskTally) → HasTops control tallies → HasTops control
+    (found before step tallies)
 found_tops control before step tallies tops task low =
     let below : task < length tallies = omega (arith, low, length_found before step tallies) in
-    omega (arith, tops task below, ap (λ (t : TaskTally). t.counts.top) (found_at before step tallies task below), found_top before step task (tally_at tallies task))
+    omega (
+      arith,
+      tops task below,
+      ap (λ (t : TaskTally). t.counts.top) (found_at before step tallies task below),
+      found_top before step task
+          (tally_at tallies task),
+    )
 
-pub event_tops : (raised : Option ℕ) (control : Control) (event : Option Event) (tallies : List TaskTally) → HasOtherTops raised control tallies → HasOtherTops raised control (with_event event tallies)
+pub event_tops : (raised : Option ℕ) (control : Control) (event : Option Event) (tallies : List TaskTally) → HasOtherTops raised control tallies → HasOtherTops
+    raised control (with_event event tallies)
 event_tops raised control event tallies tops task low other =
     let below : task < length tallies = omega (arith, low, length_event event tallies) in
     omega (arith, tops task below other, ap (λ (t : TaskTally). t.counts.top) (event_at event tallies task below), event_top event task (tally_at tallies task))
 
 -- after a step that raises one task at most
-pub step_tops : (raised : Option ℕ) (before after : Control) (tallies : List TaskTally) → HasTops before tallies → KeepsOthers raised before after → HasOtherTops raised after tallies
+pub step_tops : (raised : Option ℕ) (before after : Control) (tallies : List TaskTally) → HasTops before tallies → KeepsOthers raised before after →
+    HasOtherTops raised after tallies
 step_tops raised before after tallies tops kept task low other = omega (arith, tops task low, kept task other)
 
 -- looking at a task whose greatest is at least the one in use changes nothing
@@ -53,7 +62,8 @@ top_kept control task tally low =
     let same : max tally.counts.top (task_at control task).in_use ≡ tally.counts.top = omega (arith, low) in
     ap (λ top. record tally { counts = record tally.counts { top = top } }) same
 
-topped_at : (control : Control) (tallies : List TaskTally) (task : ℕ) → task < length tallies → tally_at (topped control tallies) task ≡ top_tally control task (tally_at tallies task)
+topped_at : (control : Control) (tallies : List TaskTally) (task : ℕ) → task < length tallies → tally_at (topped control tallies) task ≡ top_tally control task
+    (tally_at tallies task)
 unfolding topped
 topped_at control tallies task low = each_at (λ task. top_tally control task (tally_at tallies task)) (length tallies) task nothing low
 
@@ -67,13 +77,16 @@ topped_none control tallies tops =
     numbers_so (λ task. top_tally control task (tally_at tallies task)) (tally_at tallies) (length tallies) (length tallies) refl
     (λ task low. top_kept control task (tally_at tallies task) (tops task low (λ same. cc (same)))) ∙ own_items tallies nothing
 
-pub topped_one : (control : Control) (raised : ℕ) (tallies : List TaskTally) (tally : TaskTally) → raised < length tallies → tally ≡ get_or tallies raised nothing
+pub topped_one : (control : Control) (raised : ℕ) (tallies : List TaskTally) (tally : TaskTally) → raised < length tallies → tally ≡ get_or tallies raised
+    nothing
     → HasOtherTops (Some raised) control tallies → topped control tallies ≡ slice_set tallies raised (top_tally control raised tally)
 topped_one control raised tallies tally low is tops =
     let one = top_tally control raised tally in
     ext_get_or nothing (topped control tallies) (slice_set tallies raised one) (length_topped control tallies ∙ sym (length-set tallies raised one))
-    (λ k within. let below : k < length tallies = omega (arith, within, length_topped control tallies) in topped_at control tallies k below ∙ elim (cases_eq k raised) [
-      | inl here ↦ subst (λ j. top_tally control j (tally_at tallies j) ≡ get_or (slice_set tallies raised one) j nothing) (sym here) (ap (top_tally control raised) (sym is) ∙ sym (get_or-set_same tallies raised one nothing low))
+    (λ k within. let below : k < length tallies = omega (arith, within, length_topped control tallies) in topped_at control tallies k below ∙
+    elim (cases_eq k raised) [
+      | inl here ↦ subst (λ j. top_tally control j (tally_at tallies j) ≡ get_or (slice_set tallies raised one) j nothing) (sym here)
+          (ap (top_tally control raised) (sym is) ∙ sym (get_or-set_same tallies raised one nothing low))
       | inr away ↦ top_kept control k (tally_at tallies k) (tops k below (λ same. away (cc (same)))) ∙ sym (get_or-set_other tallies raised k one nothing away)
     ])
 

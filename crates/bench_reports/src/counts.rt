@@ -55,7 +55,7 @@ impl CountTable {
     }
 
     /// The numbers become those before any step of the kernel. No memory is taken.
-    pub(crate) fn begin_again(&mut self, kernel: &Kernel)
+    pub(crate) fn reset(&mut self, kernel: &Kernel)
         requires { shape self.old ≡ shape_of kernel.now.settings }
         ensures { self.new ≡ first_tallies kernel.now.settings kernel.now.control }
     {

@@ -54,14 +54,14 @@ impl Tallies {
 
     /// These become those before any step of the kernel, which has as many tasks and as many cores.
     /// No memory is taken.
-    pub fn begin_again(&mut self, kernel: &Kernel)
+    pub fn reset(&mut self, kernel: &Kernel)
         requires { shape self.old ≡ shape_of kernel.now.settings }
         ensures tallies { self.new ≡ first_tallies kernel.now.settings kernel.now.control }
         ensures shape { shape self.new ≡ shape_of kernel.now.settings }
         ensures room { AllCountsBelow 1 self.new }
         ensures tops { HasTops kernel.now.control self.new }
     {
-        self.tasks.begin_again(kernel);
+        self.tasks.reset(kernel);
     }
 
     /// Counts a step, which the kernel `before` answered with this reply, and after which it is
@@ -86,35 +86,7 @@ impl Tallies {
         self.leave(event_of(left, step, reply, after), after);
     }
 
-    /// Makes a step of the kernel and counts it.
-    pub fn make(&mut self, kernel: &mut Kernel, meter: &mut Meter, step: &Step) -> Reply
-        requires checked { step_check kernel.old.settings step.now ≡ Ok tt }
-        requires shape { shape self.old ≡ shape_of kernel.old.settings }
-        requires room { AllCountsBelow (2 ^ 32 - 1) self.old }
-        ensures reply { (table : Table) → StandsFor kernel.old table
-            → result ≡ (step_of step.now table).0 }
-        ensures state { (table : Table) → StandsFor kernel.old table
-            → StandsFor kernel.new (step_of step.now table).1 }
-        ensures meter { meter.new ≡ min (meter.old + 1) (2 ^ 64 - 1) }
-        ensures shape { kernel.new.settings ≡ kernel.old.settings }
-        ensures counted { self.new ≡ tallied list_queues (record {
-          before = kernel.old;
-          step = step.now;
-          reply = result;
-          after = kernel.new;
-        }) self.old }
-        ensures kept { shape self.new ≡ shape self.old }
-        ensures grown { (bound : ℕ) → AllCountsBelow bound self.old
-            → AllCountsBelow (suc bound) self.new }
-    {
-        let left = left_by(kernel, step);
-        self.find(kernel, step);
-        let reply = kernel.step(meter, step);
-        self.leave(event_of(left, step, reply, kernel), kernel);
-        reply
-    }
-
-    /// Makes a step of the kernel and counts it, as [`Tallies::make`] does. Each task's greatest
+    /// Makes a step of the kernel and counts it as [`Tallies::step`] does. Each task's greatest
     /// priority in use so far has to be no less than the one that it has in use, as it is after
     /// [`Tallies::begin`] and after this function. So only the task that the step may raise is
     /// looked at.

@@ -179,7 +179,7 @@ const JOINED: [Case<'static>; 4] = [
 ];
 
 /// Where two spans without one get a checkpoint.
-const PARTED: [Case<'static>; 7] = [
+const SPLIT: [Case<'static>; 7] = [
     Case {
         edits: &[tick!(3, 2, 5), tick!(3, 2, 6)],
         checkpoints: &[0, 2, 4, 6],
@@ -239,8 +239,8 @@ fn checkpoints_join(rt: HostRuntime) -> Result<(), Fail> {
 }
 
 #[test]
-fn spans_are_parted(rt: HostRuntime) -> Result<(), Fail> {
-    check_cases(&rt, &rt, &PARTED)
+fn spans_are_split(rt: HostRuntime) -> Result<(), Fail> {
+    check_cases(&rt, &rt, &SPLIT)
 }
 
 /// A call of A that delays until the tick count 7.

@@ -11,6 +11,8 @@ mod kernel;
 #[cfg(test)]
 mod largest;
 #[cfg(test)]
+mod no_results;
+#[cfg(test)]
 mod random;
 #[cfg(test)]
 mod replays;
@@ -30,5 +32,3 @@ mod store_edits;
 mod store_openings;
 #[cfg(test)]
 mod trials;
-#[cfg(test)]
-mod untraced;

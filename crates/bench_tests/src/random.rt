@@ -3,7 +3,7 @@ ghost use Rattle.std.specs.Prelude.{◌≡◌, ◌<◌, ◌^◌, IfOk};
 ghost use Rattle.bench_types.specs.Step.{settings_of};
 
 use bench_samples::numbered_header;
-use bench_types::{Action, Call, Config, Header, Note, Reply, Row, Step};
+use bench_types::{Call, Config, Header, Note, NotifyAction, Reply, Row, Step};
 use smp_kernel::{Kernel, Meter};
 use std::alloc::{AllocError, Global};
 use std::process::Abort;
@@ -344,12 +344,12 @@ fn some_note(choice: u32, index: u32) -> Note
 {
     let number = choice / 1024 % 8;
     let action = match choice / 64 % 16 {
-        0..=2 => Action::Nothing,
-        3..=5 => Action::SetBits(number),
-        6..=9 => Action::Increment,
-        10 => Action::Set(4_294_967_295),
-        11..=12 => Action::Set(number),
-        _ => Action::SetNew(number),
+        0..=2 => NotifyAction::Nothing,
+        3..=5 => NotifyAction::SetBits(number),
+        6..=9 => NotifyAction::Increment,
+        10 => NotifyAction::Set(4_294_967_295),
+        11..=12 => NotifyAction::Set(number),
+        _ => NotifyAction::SetNew(number),
     };
     Note {
         task: 8 + choice % 64,

@@ -15,7 +15,7 @@ use std::alloc::{AllocError, Global};
 use std::process::Abort;
 use std::test::Fail;
 
-const BEGUN: &str = "\
+const INITIAL: &str = "\
 task IDLE0 run 0 0 wait 0 inverted 0 in 0 displaced 0 timeouts 0 top 0
 task IDLE1 run 0 0 wait 0 inverted 0 in 0 displaced 0 timeouts 0 top 0
 task A run 0 0 wait 0 inverted 0 in 0 displaced 0 timeouts 0 top 2
@@ -23,25 +23,25 @@ task B run 0 0 wait 0 inverted 0 in 0 displaced 0 timeouts 0 top 1
 task C run 0 0 wait 0 inverted 0 in 0 displaced 0 timeouts 0 top 1
 ";
 
-fn begun(host: &HostRuntime, header: &Header) -> Result<Tallies, Fail> {
+fn initial(host: &HostRuntime, header: &Header) -> Result<Tallies, Fail> {
     let kernel = Kernel::start(host.alloc(), header)?;
     Ok(Tallies::begin(host.alloc(), &kernel)?)
 }
 
 #[test]
 fn tallies_as_text(rt: HostRuntime) -> Result<(), Fail> {
-    check_begun(&rt, &rt, &three_tasks(rt.alloc(), 2, true)?)
+    check_initial(&rt, &rt, &three_tasks(rt.alloc(), 2, true)?)
 }
 
-fn check_begun(rt: &impl Abort, host: &HostRuntime, header: &Header) -> Result<(), Fail> {
-    let tallies = begun(host, header)?;
-    assert_has_text(rt, host.alloc(), header, &tallies, BEGUN)?;
+fn check_initial(rt: &impl Abort, host: &HostRuntime, header: &Header) -> Result<(), Fail> {
+    let tallies = initial(host, header)?;
+    assert_has_text(rt, host.alloc(), header, &tallies, INITIAL)?;
     assert_has_text(
         rt,
         host.alloc(),
         header,
         &tallies.copy(host.alloc())?,
-        BEGUN,
+        INITIAL,
     )
 }
 
@@ -126,23 +126,6 @@ fn tallied(
     ensures shape { IfOk result (λ tallies. shape tallies ≡ shape_of kernel.old.settings) }
     ensures room { IfOk result (AllCountsBelow 1000) }
     ensures settings { kernel.new.settings ≡ kernel.old.settings }
-{
-    let mut tallies = Tallies::begin(alloc, kernel)?;
-    for step in steps {
-        tallies.make(kernel, meter, step);
-    }
-    Ok(tallies)
-}
-
-// What they take, each made and counted after the one before it.
-fn tallied_in_turn(
-    alloc: Global,
-    kernel: &mut Kernel,
-    meter: &mut Meter,
-    steps: &[Step],
-) -> Result<Tallies, AllocError>
-    requires steps { All (λ step. step_check kernel.old.settings step ≡ Ok tt) steps.now }
-    requires few { length steps.now < 1000 }
 {
     let mut tallies = Tallies::begin(alloc, kernel)?;
     for step in steps {
@@ -246,7 +229,7 @@ fn check_copies_from(
 }
 
 #[test]
-fn tallies_begin_again(rt: HostRuntime) -> Result<(), Fail> {
+fn tallies_are_reset(rt: HostRuntime) -> Result<(), Fail> {
     check_again(&rt, &rt, &three_tasks(rt.alloc(), 2, true)?)
 }
 
@@ -265,8 +248,8 @@ fn check_again_from(
     need_checked(rt, header, &SHARED);
     let mut tallies = tallied(host.alloc(), kernel, &mut Meter::new(host), &SHARED)?;
     assert!(rt; tallies.len() == kernel.settings().tasks as usize);
-    tallies.begin_again(kernel);
-    assert_has_text(rt, host.alloc(), header, &tallies, BEGUN)
+    tallies.reset(kernel);
+    assert_has_text(rt, host.alloc(), header, &tallies, INITIAL)
 }
 
 fn check_in_turn(
@@ -294,7 +277,7 @@ fn check_in_turn_from(
     requires fits { kernel.old.settings ≡ settings_of header.now }
 {
     need_checked(rt, header, steps);
-    let tallies = tallied_in_turn(host.alloc(), kernel, &mut Meter::new(host), steps)?;
+    let tallies = tallied(host.alloc(), kernel, &mut Meter::new(host), steps)?;
     assert_has_text(rt, host.alloc(), header, &tallies, wanted)
 }
 

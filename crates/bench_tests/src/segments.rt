@@ -5,7 +5,7 @@ ghost use Rattle.bench_types.specs.Limits.{max_cores, max_steps};
 ghost use Rattle.bench_types.specs.Step.{settings_of, IsCheckedStep};
 ghost use Rattle.segment_laws.specs.Segments.{all_steps};
 ghost use Rattle.smp_kernel.specs.Kernel.{StandsForSome};
-ghost use Rattle.session_segments.specs.Again.{HasSettings};
+ghost use Rattle.session_segments.specs.Replaying.{HasSettings};
 
 use crate::samples::{
     A_DELAYS, SWITCH_0, SWITCH_1, assert_at, assert_is, assert_same, assert_text, three_tasks,
@@ -257,7 +257,7 @@ fn check_twice(
 {
     let mut segment: Segment = Segment::replay(alloc, kernel, steps, meter)?;
     assert!(rt; segment.settings() == kernel.settings());
-    segment.replay_again(kernel, meter);
+    segment.replay_in_place(kernel, meter);
     let ticks = (tick_of(alloc, &segment)?, kernel.tick());
     assert_same(rt, "ticks", &ticks, &(1, 2));
     assert_same(rt, "steps", &meter.count(), &6);

@@ -4,7 +4,7 @@ use crate::samples::{
     assert_steps, three_tasks, tick_at, ticks,
 };
 use bench_types::{Call, Fault, Header, Items, MAX_SPAN, MAX_STEPS, Reply, Step};
-use session_store::{OpenFault, OpenRefusal, Store};
+use session_store::{OpenFault, OpenRefusal, Results, Store};
 use smp_kernel::Meter;
 use std::alloc::Global;
 use std::process::Abort;
@@ -171,7 +171,7 @@ fn check_fault(rt: &impl Abort, case: &Case<'_>, fault: &OpenFault) {
 fn refused(alloc: Global, case: &Case<'_>, meter: &mut Meter) -> Result<OpenFault, Fail> {
     let header = first_tasks(three_tasks(alloc, 2, false)?, case.tasks);
     let steps = ticks_and(alloc, case.ticks, case.steps)?;
-    match Store::open(alloc, header, steps, case.span, meter) {
+    match Store::<Results>::open(alloc, header, steps, case.span, meter) {
         Ok(_) => Err(Fail::new("opened")),
         Err(fault) => Ok(fault),
     }

@@ -7,24 +7,15 @@ use Rattle.std.proofs.lemmas.Option.{same_Some}
 use Rattle.bench_types.specs.declared.kernel_data.CoreLook.{CoreLook}
 use Rattle.bench_types.specs.declared.kernel_data.Delayed.{Delayed}
 use Rattle.bench_types.specs.declared.kernel_data.TaskControl.{TaskControl}
-use Rattle.bench_types.specs.declared.note.Action.{Action}
-use Rattle.bench_types.specs.declared.note.Action.TheVariants.{Nothing, SetBits, Increment, Set, SetNew}
-use Rattle.bench_types.specs.declared.note.Note.{Note}
 use Rattle.bench_types.specs.declared.note.Notification.{Notification}
 use Rattle.bench_types.specs.declared.note.NoteState.{NoteState}
 use Rattle.bench_types.specs.declared.note.NoteState.TheVariants.{NotWaiting, Waiting, Received}
-use Rattle.bench_types.specs.declared.step.Call.{Call}
-use Rattle.bench_types.specs.declared.step.Call.TheVariants.{Notify}
 use Rattle.bench_types.specs.declared.step.Unfinished.{Unfinished}
-use Rattle.bench_types.specs.declared.step.Unfinished.TheVariants.{Made}
 use Rattle.bench_types.specs.contracts.kernel_data.CoreLookPartialEq.TheImpl as looks
 use Rattle.bench_types.specs.contracts.kernel_data.DelayedPartialEq.TheImpl as entries
 use Rattle.bench_types.specs.contracts.kernel_data.TaskControlPartialEq.TheImpl as blocks
-use Rattle.bench_types.specs.contracts.note.ActionPartialEq.TheImpl as actions
-use Rattle.bench_types.specs.contracts.note.NotePartialEq.TheImpl as notes
 use Rattle.bench_types.specs.contracts.note.NotificationPartialEq.TheImpl as notifications
 use Rattle.bench_types.specs.contracts.note.NoteStatePartialEq.TheImpl as states
-use Rattle.bench_types.specs.contracts.step.CallPartialEq.TheImpl as calls
 use Rattle.bench_types.specs.contracts.step.UnfinishedPartialEq.TheImpl as unfinished
 
 -- A test that holds of equal values alone, and of each value and itself, decides equality.
@@ -52,7 +43,8 @@ pub entry_decides : (a b : Delayed) → Decides (entries.eq-value.it a b) (a ≡
 entry_decides = decides_equality same_entry (λ a. grind (arith, nat_tests))
 
 same_look : (a b : CoreLook) → looks.eq-value.it a b ≡ true → a ≡ b
-same_look a b same = at a.current b.current a.pend b.pend a.asked b.asked (grind (arith, nat_tests, same)) (grind (arith, nat_tests, same)) (grind (arith, nat_tests, same))
+same_look a b same = at a.current b.current a.pend b.pend a.asked b.asked (grind (arith, nat_tests, same)) (grind (arith, nat_tests, same))
+    (grind (arith, nat_tests, same))
   where
     look : ℕ → Bool → Bool → CoreLook
     look current pend asked = record { current = current; pend = pend; asked = asked }
@@ -64,7 +56,8 @@ pub look_decides : (a b : CoreLook) → Decides (looks.eq-value.it a b) (a ≡ b
 look_decides = decides_equality same_look (λ a. grind (arith, nat_tests))
 
 same_block : (a b : TaskControl) → blocks.eq-value.it a b ≡ true → a ≡ b
-same_block a b same = at a.base b.base a.in_use b.in_use a.mask b.mask a.preempt b.preempt (grind (arith, nat_tests, same)) (grind (arith, nat_tests, same)) (grind (arith, nat_tests, same)) (grind (arith, nat_tests, same))
+same_block a b same = at a.base b.base a.in_use b.in_use a.mask b.mask a.preempt b.preempt (grind (arith, nat_tests, same)) (grind (arith, nat_tests, same))
+    (grind (arith, nat_tests, same)) (grind (arith, nat_tests, same))
   where
     block : ℕ → ℕ → ℕ → Bool → TaskControl
     block base in_use mask preempt = record { base = base; in_use = in_use; mask = mask; preempt = preempt }
@@ -100,43 +93,10 @@ pub notification_decides : (a b : Notification) → Decides (notifications.eq-va
 notification_decides = decides_equality same_notification (λ a. grind (arith, nat_tests, state_itself a.state))
 
 -- Calls that are not finished.
-same_action : (a b : Action) → actions.eq-value.it a b ≡ true → a ≡ b
-same_action Nothing Nothing same = refl
-same_action Increment Increment same = refl
-same_action (SetBits x) (SetBits y) same = ap (λ n. SetBits n) (grind (arith, nat_tests, same))
-same_action (Set x) (Set y) same = ap (λ n. Set n) (grind (arith, nat_tests, same))
-same_action (SetNew x) (SetNew y) same = ap (λ n. SetNew n) (grind (arith, nat_tests, same))
-same_action a b same = absurd (cc same)
-
-action_itself : (a : Action) → actions.eq-value.it a a ≡ true
-action_itself a = grind (arith, nat_tests)
-
-same_note : (a b : Note) → notes.eq-value.it a b ≡ true → a ≡ b
-same_note a b same = at a.task b.task a.index b.index a.action b.action (grind (arith, nat_tests, same)) (grind (arith, nat_tests, same)) (same_action a.action b.action (grind (arith, nat_tests, same)))
-  where
-    note : ℕ → ℕ → Action → Note
-    note task index action = record { task = task; action = action; index = index }
-
-    at : (i j k l : ℕ) (s t : Action) → i ≡ j → k ≡ l → s ≡ t → note i k s ≡ note j l t
-    at i j k l s t one two three = cc
-
-note_itself : (a : Note) → notes.eq-value.it a a ≡ true
-note_itself a = grind (arith, nat_tests, action_itself a.action)
-
-same_call : (a b : Call) → calls.eq-value.it a b ≡ true → a ≡ b
-same_call (Notify x) (Notify y) same = ap (λ n. Notify n) (same_note x y same)
-same_call a b same = grind (arith, nat_tests, same)
-
-call_itself : (a : Call) → calls.eq-value.it a a ≡ true
-call_itself (Notify note) = note_itself note
-call_itself a = grind (arith, nat_tests)
-
 same_unfinished : (a b : Unfinished) → unfinished.eq-value.it a b ≡ true → a ≡ b
-same_unfinished (Made x) (Made y) same = ap (λ c. Made c) (same_call x y same)
 same_unfinished a b same = grind (arith, nat_tests, same)
 
 unfinished_itself : (a : Unfinished) → unfinished.eq-value.it a a ≡ true
-unfinished_itself (Made call) = call_itself call
 unfinished_itself a = grind (arith, nat_tests)
 
 pub unfinished_decides : (a b : Unfinished) → Decides (unfinished.eq-value.it a b) (a ≡ b)

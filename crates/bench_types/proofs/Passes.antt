@@ -1,5 +1,6 @@
 -- What checks that passed say.
-use Rattle.std.proofs.Common.{◌≡◌, ℕ, zero, ◌^◌, sym, ◌<◌, ◌≤◌, ◌==◌, Bool, true, false, not, ◌&&◌, cond, ltb, leb, List, [], ◌∷◌, length, Option, Some, None, Result, Ok, Err, refl, ap, arith}
+use Rattle.std.proofs.Common.{◌≡◌, ℕ, zero, ◌^◌, sym, ◌<◌, ◌≤◌, ◌==◌, Bool, true, false, not, ◌&&◌, cond, ltb, leb, List, [], ◌∷◌, length, Option, Some, None}
+use Rattle.std.proofs.Common.{Result, Ok, Err, refl, ap, arith}
 use Rattle.std.specs.Prelude.{All, IfNone, is_none, option_map}
 use Rattle.std.specs.List.{list_all}
 use Rattle.std.specs.Option.{option_or}
@@ -15,7 +16,8 @@ use Rattle.bench_types.specs.declared.header.Header.{Header}
 use Rattle.bench_types.specs.declared.header.TaskArgs.{TaskArgs}
 use Rattle.bench_types.specs.declared.kernel_data.Settings.{Settings}
 use Rattle.bench_types.specs.declared.note.Note.{Note}
-use Rattle.bench_types.specs.Flaw.{args_flaw, config_flaw, count_of_name, header_flaw, limits_flaw, mask_flaw, name_flaw, numbers_flaw, place_of_mask, place_of_no_name, place_of_priority, place_of_shared_name, priority_flaw, shared_flaw}
+use Rattle.bench_types.specs.Flaw.{args_flaw, config_flaw, count_of_name, header_flaw, limits_flaw, mask_flaw, name_flaw, numbers_flaw, location_of_mask}
+use Rattle.bench_types.specs.Flaw.{location_of_no_name, location_of_priority, location_of_shared_name, priority_flaw, shared_flaw}
 use Rattle.bench_types.specs.Header.{header_check, is_header, has_valid_numbers, IsCheckedHeader}
 use Rattle.bench_types.specs.Limits.{min_cores, max_cores, max_priorities, max_tasks, max_mutexes, max_notes}
 use Rattle.bench_types.specs.Mask.{cores_of_mask}
@@ -146,7 +148,8 @@ module _ (config : Config) where
       let some : ltb 0 (cores_of_mask config.cores task.mask) ≡ true = grind (arith, nat_tests, other.0) in
       rw (low, some, all_valid tasks one.1 other.1) refl
 
-  valid_all : (tasks : List TaskArgs) → list_all (has_valid_args config) tasks ≡ true → (passes_none no_priority tasks ≡ true) × (passes_none no_core tasks ≡ true)
+  valid_all : (tasks : List TaskArgs) → list_all (has_valid_args config) tasks ≡ true → (passes_none no_priority tasks ≡ true) ×
+      (passes_none no_core tasks ≡ true)
   valid_all [] all = (refl, refl)
   valid_all (task ∷ tasks) all =
       let both = and_parts (has_valid_args config task) (list_all (has_valid_args config) tasks) all in
@@ -189,8 +192,9 @@ no_flaw_facts header none =
     let last = neither (option_or (option_or names low) masks) (shared_flaw tasks) whole.1 in
     let third = neither (option_or names low) masks last.0 in
     let first = neither names low third.0 in
-    let priority = none_there (no_priority config) tasks (unmapped (λ task. Priority task config.priorities) (place_of_priority config.priorities tasks) first.1) in
-    let mask = none_there (no_core config) tasks (unmapped (λ task. Mask task config.cores) (place_of_mask config.cores tasks) third.1) in
+    let priority = none_there (no_priority config) tasks (unmapped (λ task. Priority task config.priorities) (location_of_priority config.priorities tasks)
+    first.1) in
+    let mask = none_there (no_core config) tasks (unmapped (λ task. Mask task config.cores) (location_of_mask config.cores tasks) third.1) in
     record {
       some_core = omega (arith, in_cores.0);
       enough_cores = in_cores.0;
@@ -202,9 +206,9 @@ no_flaw_facts header none =
       few_notes = in_notes.1;
       some_task = omega (arith, in_count.0);
       few_tasks = in_count.1;
-      named = all_named tasks (none_there (λ task. not (is_name task.name)) tasks (unmapped NoName (place_of_no_name tasks) first.0));
+      named = all_named tasks (none_there (λ task. not (is_name task.name)) tasks (unmapped NoName (location_of_no_name tasks) first.0));
       args = all_valid config tasks priority mask;
-      once = single_once tasks (none_there (λ task. ltb 1 (count_of_name tasks task.name)) tasks (unmapped SharedName (place_of_shared_name tasks) last.1));
+      once = single_once tasks (none_there (λ task. ltb 1 (count_of_name tasks task.name)) tasks (unmapped SharedName (location_of_shared_name tasks) last.1));
     }
 
 pub header_facts : (header : Header) → is_header header ≡ true → IsWithinLimits header
@@ -252,7 +256,8 @@ pub numbers_decide : (header : Header) (flaw : HeaderFlaw) → numbers_flaw head
 unfolding header_flaw
 numbers_decide header flaw some = rw some refl
 
-pub names_decide : (header : Header) (place : ℕ) → numbers_flaw header.config (length header.tasks) ≡ None → place_of_no_name header.tasks ≡ Some place → header_flaw header ≡ Some (NoName place)
+pub names_decide : (header : Header) (place : ℕ) → numbers_flaw header.config (length header.tasks) ≡ None → location_of_no_name header.tasks ≡ Some place →
+    header_flaw header ≡ Some (NoName place)
 unfolding header_flaw
 names_decide header place none some = rw (none, some) refl
 
@@ -261,7 +266,8 @@ unfolding header_flaw
 tasks_decide header none = rw none refl
 
 -- what is known of a header besides that it has no flaw
-pub checked_where : (header : Header) (flaw : Option HeaderFlaw) → flaw ≡ header_flaw header → header.config.tick < 2 ^ 32 → IfNone flaw (All (λ task. task.mask < 2 ^ 32) header.tasks) → IfNone flaw (IsCheckedHeader header)
+pub checked_where : (header : Header) (flaw : Option HeaderFlaw) → flaw ≡ header_flaw header → header.config.tick < 2 ^ 32 → IfNone flaw
+    (All (λ task. task.mask < 2 ^ 32) header.tasks) → IfNone flaw (IsCheckedHeader header)
 checked_where header (Some flaw) is tick masks = tt
 checked_where header None is tick masks =
     let named = AllPass-from_list_all (λ (task : TaskArgs). is_name task.name) header.tasks (no_flaw_facts header (sym is)).named in

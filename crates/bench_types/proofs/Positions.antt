@@ -1,5 +1,6 @@
 -- A search through a list that finds nothing.
-use Rattle.std.proofs.Common.{◌≡◌, ℕ, suc, ◌+◌, ◌<◌, ◌≤◌, Bool, true, false, not, cond, List, [], ◌∷◌, length, drop, get_or, Some, None, refl, sym, ap, ap₂, ◌∙◌, arith, add-one, drop-cons}
+use Rattle.std.proofs.Common.{◌≡◌, ℕ, suc, ◌+◌, ◌<◌, ◌≤◌, Bool, true, false, not, cond, List, [], ◌∷◌, length, drop, get_or, Some, None, refl, sym, ap, ap₂}
+use Rattle.std.proofs.Common.{◌∙◌, arith, add-one, drop-cons}
 use Rattle.std.specs.List.{list_all, position, position_from}
 use Rattle.std.proofs.lemmas.Bool.{and_parts}
 use Rattle.std.proofs.lemmas.List.{drop_all}
@@ -36,17 +37,20 @@ module _ {X : Type 0} (p : X → Bool) where
   abbrev pub IsSoughtTo : List X → ℕ → Type 0
   IsSoughtTo xs i = position_from p i (drop i xs) ≡ position_from p 0 xs
 
-  here : (xs : List X) (i : ℕ) (x : X) → i < length xs → x ≡ get_or xs i x → position_from p i (drop i xs) ≡ cond (p x) (Some i) (position_from p (i + 1) (drop (i + 1) xs))
+  here : (xs : List X) (i : ℕ) (x : X) → i < length xs → x ≡ get_or xs i x → position_from p i (drop i xs) ≡ cond (p x) (Some i)
+      (position_from p (i + 1) (drop (i + 1) xs))
   here xs i x within is =
       let front : drop i xs ≡ get_or xs i x ∷ drop (suc i) xs = drop-cons xs i x within in
       let first : drop i xs ≡ x ∷ drop (i + 1) xs = front ∙ ap₂ (λ y n. y ∷ drop n xs) (sym is) (sym (add-one i)) in
       ap (position_from p i) first
 
   pub sought_on : (xs : List X) (i : ℕ) (x : X) → i < length xs → x ≡ get_or xs i x → p x ≡ false → IsSoughtTo xs i → IsSoughtTo xs (i + 1)
-  sought_on xs i x within is not_this so_far = sym (here xs i x within is ∙ ap (λ b. cond b (Some i) (position_from p (i + 1) (drop (i + 1) xs))) not_this) ∙ so_far
+  sought_on xs i x within is not_this so_far = sym (here xs i x within is ∙ ap (λ b. cond b (Some i) (position_from p (i + 1) (drop (i + 1) xs))) not_this) ∙
+      so_far
 
   pub sought_here : (xs : List X) (i : ℕ) (x : X) → i < length xs → x ≡ get_or xs i x → p x ≡ true → IsSoughtTo xs i → Some i ≡ position p xs
-  sought_here xs i x within is this so_far = sym (here xs i x within is ∙ ap (λ b. cond b (Some i) (position_from p (i + 1) (drop (i + 1) xs))) this) ∙ so_far ∙ sym (position_from-zero p xs)
+  sought_here xs i x within is this so_far = sym (here xs i x within is ∙ ap (λ b. cond b (Some i) (position_from p (i + 1) (drop (i + 1) xs))) this) ∙ so_far ∙
+      sym (position_from-zero p xs)
 
   pub sought_whole : (xs : List X) (i : ℕ) → length xs ≤ i → IsSoughtTo xs i → None ≡ position p xs
   sought_whole xs i past so_far = sym (ap (position_from p i) (drop_all i xs past)) ∙ so_far ∙ sym (position_from-zero p xs)

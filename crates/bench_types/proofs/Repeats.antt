@@ -26,7 +26,8 @@ is_single all task = not (ltb 1 (count_of_name all task.name))
 abbrev pub are_single : List TaskArgs → List TaskArgs → Bool
 are_single all tasks = list_all (λ task. not (ltb 1 (count_of_name all task.name))) tasks
 
-counted : (name : List ℕ) (task : TaskArgs) (tasks : List TaskArgs) → count_of_name (task ∷ tasks) name ≡ cond (bytes_eq name task.name) 1 0 + count_of_name tasks name
+counted : (name : List ℕ) (task : TaskArgs) (tasks : List TaskArgs) → count_of_name (task ∷ tasks) name ≡ cond (bytes_eq name task.name) 1 0 + count_of_name
+    tasks name
 counted name task tasks = sum_by-cons (λ (task : TaskArgs). cond (bytes_eq name task.name) 1 0) task tasks
 
 none_counted : (b : Bool) (n : ℕ) → cond b 1 0 + n ≡ 0 → (b ≡ false) × (n ≡ 0)
@@ -64,18 +65,21 @@ pub single_once : (tasks : List TaskArgs) → are_single tasks tasks ≡ true �
 single_once [] single = refl
 single_once (task ∷ tasks) single =
     let both = and_parts (is_single (task ∷ tasks) task) (are_single (task ∷ tasks) tasks) single in
-    let own : count_of_name (task ∷ tasks) task.name ≡ 1 + count_of_name tasks task.name = counted task.name task tasks ∙ ap (λ b. cond b 1 0 + count_of_name tasks task.name) (nat_list_eq_equiv.refl task.name) in
+    let own : count_of_name (task ∷ tasks) task.name ≡ 1 + count_of_name tasks task.name = counted task.name task tasks ∙ ap
+    (λ b. cond b 1 0 + count_of_name tasks task.name) (nat_list_eq_equiv.refl task.name) in
     let none = one_counted (count_of_name tasks task.name) (ap (λ n. not (ltb 1 n)) (sym own) ∙ both.0) in
     rw (free_uncounted task.name tasks none, single_once tasks (fewer_single task tasks tasks both.1)) refl
 
 -- one more task, whose name none of these has
-more_single : (first : TaskArgs) (all tasks : List TaskArgs) → is_taken first.name tasks ≡ false → are_single all tasks ≡ true → are_single (first ∷ all) tasks ≡ true
+more_single : (first : TaskArgs) (all tasks : List TaskArgs) → is_taken first.name tasks ≡ false → are_single all tasks ≡ true → are_single (first ∷ all) tasks
+    ≡ true
 more_single first all [] free single = refl
 more_single first all (task ∷ tasks) free single =
     let parts = or_parts (bytes_eq first.name task.name) (is_taken first.name tasks) free in
     let both = and_parts (is_single all task) (are_single all tasks) single in
     let other : bytes_eq task.name first.name ≡ false = nat_list_eq_equiv.symm task.name first.name ∙ parts.0 in
-    let same : count_of_name (first ∷ all) task.name ≡ count_of_name all task.name = counted task.name first all ∙ ap (λ b. cond b 1 0 + count_of_name all task.name) other ∙ zero-add (count_of_name all task.name) in
+    let same : count_of_name (first ∷ all) task.name ≡ count_of_name all task.name = counted task.name first all ∙ ap
+    (λ b. cond b 1 0 + count_of_name all task.name) other ∙ zero-add (count_of_name all task.name) in
     let here : is_single (first ∷ all) task ≡ true = ap (λ n. not (ltb 1 n)) same ∙ both.0 in
     rw (here, more_single first all tasks parts.1 both.1) refl
 
@@ -83,6 +87,7 @@ pub once_single : (tasks : List TaskArgs) → repeats_name tasks ≡ false → a
 once_single [] once = refl
 once_single (task ∷ tasks) once =
     let parts = or_parts (is_taken task.name tasks) (repeats_name tasks) once in
-    let own : count_of_name (task ∷ tasks) task.name ≡ 1 = counted task.name task tasks ∙ ap₂ (λ b n. cond b 1 0 + n) (nat_list_eq_equiv.refl task.name) (uncounted task.name tasks parts.0) in
+    let own : count_of_name (task ∷ tasks) task.name ≡ 1 = counted task.name task tasks ∙ ap₂ (λ b n. cond b 1 0 + n) (nat_list_eq_equiv.refl task.name)
+    (uncounted task.name tasks parts.0) in
     let here : is_single (task ∷ tasks) task ≡ true = ap (λ n. not (ltb 1 n)) own in
     rw (here, more_single task tasks tasks parts.0 (once_single tasks parts.1)) refl

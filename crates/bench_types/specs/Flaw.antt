@@ -32,37 +32,37 @@ numbers_flaw config count =
     option_or (config_flaw config) (limits_flaw 1 max_tasks count (TaskCount count))
 
 -- the place of the first task whose name is none
-abbrev pub place_of_no_name : List TaskArgs → Option ℕ
-place_of_no_name tasks = position (λ task. not (is_name task.name)) tasks
+abbrev pub location_of_no_name : List TaskArgs → Option ℕ
+location_of_no_name tasks = position (λ task. not (is_name task.name)) tasks
 
 -- of the first task with a priority that is not below their number
-abbrev pub place_of_priority : ℕ → List TaskArgs → Option ℕ
-place_of_priority priorities tasks = position (λ task. nat_le priorities task.priority) tasks
+abbrev pub location_of_priority : ℕ → List TaskArgs → Option ℕ
+location_of_priority priorities tasks = position (λ task. nat_le priorities task.priority) tasks
 
 -- of the first task that may run on none of so many cores
-abbrev pub place_of_mask : ℕ → List TaskArgs → Option ℕ
-place_of_mask cores tasks = position (λ task. cores_of_mask cores task.mask == 0) tasks
+abbrev pub location_of_mask : ℕ → List TaskArgs → Option ℕ
+location_of_mask cores tasks = position (λ task. cores_of_mask cores task.mask == 0) tasks
 
 -- how many tasks have the name
 abbrev pub count_of_name : List TaskArgs → List ℕ → ℕ
 count_of_name tasks name = count_by (λ task. bytes_eq name task.name) tasks
 
 -- the place of the first task whose name more tasks have
-abbrev pub place_of_shared_name : List TaskArgs → Option ℕ
-place_of_shared_name tasks = position (λ task. nat_lt 1 (count_of_name tasks task.name)) tasks
+abbrev pub location_of_shared_name : List TaskArgs → Option ℕ
+location_of_shared_name tasks = position (λ task. nat_lt 1 (count_of_name tasks task.name)) tasks
 
 abbrev pub name_flaw : List TaskArgs → Option HeaderFlaw
-name_flaw tasks = option_map NoName (place_of_no_name tasks)
+name_flaw tasks = option_map NoName (location_of_no_name tasks)
 
 abbrev pub priority_flaw : ℕ → List TaskArgs → Option HeaderFlaw
 priority_flaw priorities tasks =
-    option_map (λ task. Priority task priorities) (place_of_priority priorities tasks)
+    option_map (λ task. Priority task priorities) (location_of_priority priorities tasks)
 
 abbrev pub mask_flaw : ℕ → List TaskArgs → Option HeaderFlaw
-mask_flaw cores tasks = option_map (λ task. Mask task cores) (place_of_mask cores tasks)
+mask_flaw cores tasks = option_map (λ task. Mask task cores) (location_of_mask cores tasks)
 
 abbrev pub shared_flaw : List TaskArgs → Option HeaderFlaw
-shared_flaw tasks = option_map SharedName (place_of_shared_name tasks)
+shared_flaw tasks = option_map SharedName (location_of_shared_name tasks)
 
 -- the first flaw of tasks whose number is within its limits
 abbrev pub args_flaw : Config → List TaskArgs → Option HeaderFlaw

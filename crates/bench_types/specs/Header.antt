@@ -1,5 +1,6 @@
 -- Which headers a session may start from, and the names of its tasks.
-use Rattle.std.specs.Prelude.{◌≡◌, ℕ, ◌-◌, ◌<◌, ◌^◌, All, IsTrue, List, [], ◌++◌, Bool, ◌&&◌, nat_lt, is_none, codes, decimal, slice_index_or, Result, Ok, Err, if◌then◌else◌, ⊤}
+use Rattle.std.specs.Prelude.{◌≡◌, ℕ, ◌-◌, ◌<◌, ◌^◌, All, IsTrue, List, [], ◌++◌, Bool, ◌&&◌, nat_lt, is_none, codes, decimal, slice_index_or, Result, Ok, Err}
+use Rattle.std.specs.Prelude.{if◌then◌else◌, ⊤}
 use Rattle.bench_types.specs.Flaw.{header_flaw}
 pub use Rattle.bench_types.specs.Mask.{cores_of_mask}
 use Rattle.bench_types.specs.Name.{is_name}

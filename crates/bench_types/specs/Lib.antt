@@ -1,4 +1,4 @@
-pub mod Act
+pub mod CoreAction
 pub mod Codes
 pub mod Edit
 pub mod Flaw

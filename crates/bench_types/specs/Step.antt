@@ -5,13 +5,15 @@ use Rattle.bench_types.specs.declared.fault.Fault.TheVariants.{BadCore, BadTask,
 use Rattle.bench_types.specs.Header.{cores_of_mask}
 use Rattle.bench_types.specs.declared.header.Header.{Header}
 use Rattle.bench_types.specs.declared.kernel_data.Settings.{Settings}
-use Rattle.bench_types.specs.declared.note.Action.{Action}
+use Rattle.bench_types.specs.declared.note.NotifyAction.{NotifyAction}
 use Rattle.bench_types.specs.declared.note.Note.{Note}
-use Rattle.bench_types.specs.declared.note.Action.TheVariants.{Nothing, SetBits, Increment, Set, SetNew}
+use Rattle.bench_types.specs.declared.note.NotifyAction.TheVariants.{Nothing, SetBits, Increment, Set, SetNew}
 use Rattle.bench_types.specs.declared.step.Step.{Step}
 use Rattle.bench_types.specs.declared.step.Step.TheVariants as step
 use Rattle.bench_types.specs.declared.step.Call.{Call}
 use Rattle.bench_types.specs.declared.step.Call.TheVariants as call
+use Rattle.bench_types.specs.declared.step.BlockingCall.{BlockingCall}
+use Rattle.bench_types.specs.declared.step.BlockingCall.TheVariants as blocking
 use Rattle.bench_types.specs.declared.step.Unfinished.{Unfinished}
 use Rattle.bench_types.specs.declared.step.Unfinished.TheVariants as unfinished
 
@@ -103,12 +105,12 @@ step_check settings (step.Interrupt core note) =
     core_check settings core >> note_check settings note
 
 -- the number of an action is one of 32 bits
-abbrev pub IsActionOfWord : Action → Type 0
-IsActionOfWord Nothing = ⊤
-IsActionOfWord (SetBits bits) = bits < 2 ^ 32
-IsActionOfWord Increment = ⊤
-IsActionOfWord (Set value) = value < 2 ^ 32
-IsActionOfWord (SetNew value) = value < 2 ^ 32
+abbrev pub IsNotifyActionOfWord : NotifyAction → Type 0
+IsNotifyActionOfWord Nothing = ⊤
+IsNotifyActionOfWord (SetBits bits) = bits < 2 ^ 32
+IsNotifyActionOfWord Increment = ⊤
+IsNotifyActionOfWord (Set value) = value < 2 ^ 32
+IsNotifyActionOfWord (SetNew value) = value < 2 ^ 32
 
 -- every number of a call is one of 32 bits
 abbrev pub IsOfWords : Call → Type 0
@@ -122,7 +124,7 @@ IsOfWords (call.PrioritySet task priority) = priority < 2 ^ 32
 IsOfWords (call.AffinitySet task mask) = mask < 2 ^ 32
 IsOfWords (call.PreemptOff task) = ⊤
 IsOfWords (call.PreemptOn task) = ⊤
-IsOfWords (call.Notify note) = IsActionOfWord note.action
+IsOfWords (call.Notify note) = IsNotifyActionOfWord note.action
 IsOfWords (call.NotifyWait entry exit ticks index) =
     (entry < 2 ^ 32) × (exit < 2 ^ 32) × (ticks < 2 ^ 32)
 IsOfWords (call.NotifyTake clear ticks index) = ticks < 2 ^ 32
@@ -135,15 +137,22 @@ abbrev pub IsStepOfWords : Step → Type 0
 IsStepOfWords step.Tick = ⊤
 IsStepOfWords (step.Switch core) = core < 2 ^ 32
 IsStepOfWords (step.Call core task call) = IsOfWords call
-IsStepOfWords (step.Interrupt core note) = IsActionOfWord note.action
+IsStepOfWords (step.Interrupt core note) = IsNotifyActionOfWord note.action
 
 -- a call and a step that were checked against the settings
 pub record IsCheckedCall (settings : Settings) (call : Call) : Type 0 where
   pub passes : call_check settings call ≡ Ok tt
   pub words : IsOfWords call
 
+-- a call that blocks its task, as a call
+abbrev pub as_call : BlockingCall → Call
+as_call (blocking.Delay ticks) = call.Delay ticks
+as_call (blocking.DelayUntil prev inc) = call.DelayUntil prev inc
+as_call (blocking.NotifyWait entry exit ticks index) = call.NotifyWait entry exit ticks index
+as_call (blocking.NotifyTake clear ticks index) = call.NotifyTake clear ticks index
+
 abbrev pub IsCheckedUnfinished : Settings → Unfinished → Type 0
-IsCheckedUnfinished settings (unfinished.Made call) = IsCheckedCall settings call
+IsCheckedUnfinished settings (unfinished.Made call) = IsCheckedCall settings (as_call call)
 IsCheckedUnfinished settings (unfinished.Take mutex mark) = mutex < settings.mutexes
 
 pub record IsCheckedStep (settings : Settings) (step : Step) : Type 0 where

@@ -2,8 +2,8 @@
 -- which its faults are tried.
 use Rattle.std.specs.Prelude.{ℕ, ◌==◌, ◌&&◌, nat_lt, nat_le, Option, Some, None, Result, Ok, Err, if◌then◌else◌, ⊤}
 use Rattle.std.specs.Option.{option_or}
-use Rattle.bench_types.specs.declared.act.Act.{Act}
-use Rattle.bench_types.specs.declared.act.Act.TheVariants as act
+use Rattle.bench_types.specs.declared.core_action.CoreAction.{CoreAction}
+use Rattle.bench_types.specs.declared.core_action.CoreAction.TheVariants as core_action
 use Rattle.bench_types.specs.declared.edit.Edit.{Edit}
 use Rattle.bench_types.specs.declared.edit.Edit.TheVariants as edit
 use Rattle.bench_types.specs.declared.fault.Fault.{Fault}
@@ -34,9 +34,9 @@ flaw_fault (NewPriority priority priorities) = BadHeader
 flaw_fault (NewMask mask cores) = BadHeader
 
 -- what a check answers where this is the first one
-abbrev pub judged : Option StepFlaw → Result ⊤ Fault
-judged None = Ok tt
-judged (Some flaw) = Err (flaw_fault flaw)
+abbrev pub check_of : Option StepFlaw → Result ⊤ Fault
+check_of None = Ok tt
+check_of (Some flaw) = Err (flaw_fault flaw)
 
 abbrev pub core_flaw : Settings → ℕ → Option StepFlaw
 core_flaw settings core =
@@ -98,11 +98,11 @@ step_flaw settings (step.Interrupt core note) =
     option_or (core_flaw settings core) (note_flaw settings note)
 
 -- of what the core would do
-abbrev pub act_flaw : Settings → ℕ → Act → Option StepFlaw
-act_flaw settings core (act.Call call) = call_flaw settings call
-act_flaw settings core (act.Interrupt note) = note_flaw settings note
-act_flaw settings core act.Tick = if core == 0 then None else Some (TickCore core)
-act_flaw settings core act.Switch = None
+abbrev pub core_action_flaw : Settings → ℕ → CoreAction → Option StepFlaw
+core_action_flaw settings core (core_action.Call call) = call_flaw settings call
+core_action_flaw settings core (core_action.Interrupt note) = note_flaw settings note
+core_action_flaw settings core core_action.Tick = if core == 0 then None else Some (TickCore core)
+core_action_flaw settings core core_action.Switch = None
 
 -- of a task's new numbers
 abbrev pub numbers_flaw : Config → ℕ → ℕ → Option StepFlaw

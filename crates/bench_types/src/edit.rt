@@ -1,11 +1,11 @@
 //! Edits of a session, and for what they are not accepted.
 ghost use Rattle.std.specs.Prelude.{◌≡◌, OnOk};
 ghost use Rattle.bench_types.specs.Edit.{edit_check, IsCheckedEdit, IsEditOfWords};
-ghost use Rattle.bench_types.specs.StepFlaw.{edit_flaw, judged, numbers_flaw};
+ghost use Rattle.bench_types.specs.StepFlaw.{edit_flaw, check_of, numbers_flaw};
 
 use crate::header::allows_core;
 use crate::step::task_flaw;
-use crate::step_flaw::judged;
+use crate::step_flaw::check_of;
 use crate::{Config, Fault, Header, Step, StepFlaw};
 use thiserror::Error;
 
@@ -52,11 +52,11 @@ pub enum Edit {
 impl Edit {
     /// The first thing for which the edit is not accepted: that of its step; of a changed task the
     /// task, then the priority, then the mask.
-    #[tactic(auto, using(crate::proofs::StepFlaws::edit_judged))]
+    #[tactic(auto, using(crate::proofs::StepFlaws::edit_check_of))]
     pub fn flaw(&self, header: &Header) -> Option<StepFlaw>
         ensures value { result ≡ edit_flaw header.now self.now }
         // There is one exactly where the check is a fault, and it is that fault.
-        ensures law { edit_check header.now self.now ≡ judged result }
+        ensures law { edit_check header.now self.now ≡ check_of result }
         ensures words { IsEditOfWords self.now }
     {
         match *self {
@@ -78,7 +78,7 @@ impl Edit {
         ensures value { result ≡ edit_check header.now self.now }
         ensures checked { OnOk result (IsCheckedEdit header.now self.now) }
     {
-        judged(self.flaw(header))
+        check_of(self.flaw(header))
     }
 }
 

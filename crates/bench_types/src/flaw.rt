@@ -1,6 +1,6 @@
 //! For what a header is not accepted.
 ghost use Rattle.std.specs.Prelude.{◌≡◌, ◌==◌, ◌<◌, ◌^◌, nat_lt, All, IfNone};
-ghost use Rattle.bench_types.specs.Flaw.{args_flaw, config_flaw, count_of_name, limits_flaw, mask_flaw, name_flaw, numbers_flaw, place_of_mask, place_of_no_name, place_of_priority, place_of_shared_name, priority_flaw, shared_flaw};
+ghost use Rattle.bench_types.specs.Flaw.{args_flaw, config_flaw, count_of_name, limits_flaw, mask_flaw, name_flaw, numbers_flaw, location_of_mask, location_of_no_name, location_of_priority, location_of_shared_name, priority_flaw, shared_flaw};
 ghost use Rattle.bench_types.specs.Mask.{cores_of_mask as cores_in};
 ghost use Rattle.bench_types.specs.Name.{is_within};
 
@@ -91,8 +91,8 @@ fn config_flaw(config: Config) -> Option<HeaderFlaw>
     .or(limits_flaw(1, MAX_NOTES, notes as usize, HeaderFlaw::Notes(notes)))
 }
 
-fn place_of_no_name(tasks: &[TaskArgs]) -> Option<usize>
-    ensures { result ≡ place_of_no_name tasks.now }
+fn location_of_no_name(tasks: &[TaskArgs]) -> Option<usize>
+    ensures { result ≡ location_of_no_name tasks.now }
 {
     tasks
         .iter()
@@ -102,14 +102,14 @@ fn place_of_no_name(tasks: &[TaskArgs]) -> Option<usize>
 fn name_flaw(tasks: &[TaskArgs]) -> Option<HeaderFlaw>
     ensures { result ≡ name_flaw tasks.now }
 {
-    match place_of_no_name(tasks) {
+    match location_of_no_name(tasks) {
         Some(task) => Some(HeaderFlaw::NoName(task)),
         None => None,
     }
 }
 
-fn place_of_priority(priorities: u32, tasks: &[TaskArgs]) -> Option<usize>
-    ensures { result ≡ place_of_priority priorities tasks.now }
+fn location_of_priority(priorities: u32, tasks: &[TaskArgs]) -> Option<usize>
+    ensures { result ≡ location_of_priority priorities tasks.now }
 {
     tasks.iter().position(|task| priorities <= task.priority)
 }
@@ -117,7 +117,7 @@ fn place_of_priority(priorities: u32, tasks: &[TaskArgs]) -> Option<usize>
 fn priority_flaw(priorities: u32, tasks: &[TaskArgs]) -> Option<HeaderFlaw>
     ensures { result ≡ priority_flaw priorities tasks.now }
 {
-    match place_of_priority(priorities, tasks) {
+    match location_of_priority(priorities, tasks) {
         Some(task) => Some(HeaderFlaw::Priority { task, priorities }),
         None => None,
     }
@@ -132,8 +132,8 @@ fn means_no_core(cores: u32, mask: u32) -> bool
 }
 
 /// The place of the first task that may run on none of so many cores.
-fn place_of_mask(cores: u32, tasks: &[TaskArgs]) -> Option<usize>
-    ensures value { result ≡ place_of_mask cores tasks.now }
+fn location_of_mask(cores: u32, tasks: &[TaskArgs]) -> Option<usize>
+    ensures value { result ≡ location_of_mask cores tasks.now }
     ensures words { IfNone result (All (λ task. task.mask < 2 ^ 32) tasks.now) }
 {
     for (place, task) in tasks.iter().enumerate() {
@@ -148,7 +148,7 @@ fn mask_flaw(cores: u32, tasks: &[TaskArgs]) -> Option<HeaderFlaw>
     ensures value { result ≡ mask_flaw cores tasks.now }
     ensures words { IfNone result (All (λ task. task.mask < 2 ^ 32) tasks.now) }
 {
-    match place_of_mask(cores, tasks) {
+    match location_of_mask(cores, tasks) {
         Some(task) => Some(HeaderFlaw::Mask { task, cores }),
         None => None,
     }
@@ -170,8 +170,8 @@ fn shares_name(tasks: &[TaskArgs], task: &TaskArgs) -> bool
     1 < count_of_name(tasks, task.name.as_str())
 }
 
-fn place_of_shared_name(tasks: &[TaskArgs]) -> Option<usize>
-    ensures { result ≡ place_of_shared_name tasks.now }
+fn location_of_shared_name(tasks: &[TaskArgs]) -> Option<usize>
+    ensures { result ≡ location_of_shared_name tasks.now }
 {
     tasks.iter().position(|task| shares_name(tasks, task))
 }
@@ -179,7 +179,7 @@ fn place_of_shared_name(tasks: &[TaskArgs]) -> Option<usize>
 fn shared_flaw(tasks: &[TaskArgs]) -> Option<HeaderFlaw>
     ensures { result ≡ shared_flaw tasks.now }
 {
-    match place_of_shared_name(tasks) {
+    match location_of_shared_name(tasks) {
         Some(task) => Some(HeaderFlaw::SharedName(task)),
         None => None,
     }

@@ -2,8 +2,8 @@
 //! the checks of their limits.
 #![tactic(auto)]
 
-mod act;
 mod code;
+mod core_action;
 mod edit;
 mod entry;
 mod fault;
@@ -20,7 +20,7 @@ mod step;
 mod step_flaw;
 mod tally;
 
-pub use act::Act;
+pub use core_action::CoreAction;
 pub use edit::{Edit, EditFault};
 pub use entry::Entry;
 pub use fault::Fault;
@@ -36,8 +36,8 @@ pub use limits::{
 };
 pub use mask::cores_of_mask;
 pub use name::Name;
-pub use note::{Action, Note, NoteState, Notification};
+pub use note::{Note, NoteState, Notification, NotifyAction};
 pub use reply::{Refusal, Reply, Row};
-pub use step::{Call, Step, Unfinished};
+pub use step::{BlockingCall, Call, Step, Unfinished};
 pub use step_flaw::StepFlaw;
 pub use tally::Tally;

@@ -22,7 +22,7 @@ pub struct Notification {
 
 /// What a notification does to the value of the task that it is for (`eNotifyAction`).
 #[derive(Clone, Copy, Debug, PartialEq, Eq, Hash)]
-pub enum Action {
+pub enum NotifyAction {
     /// The value stays (`eNoAction`).
     Nothing,
     /// These bits are set (`eSetBits`).
@@ -40,6 +40,6 @@ pub enum Action {
 #[derive(Clone, Copy, Debug, PartialEq, Eq, Hash)]
 pub struct Note {
     pub task: u32,
-    pub action: Action,
+    pub action: NotifyAction,
     pub index: u32,
 }

@@ -1,11 +1,11 @@
 //! The steps of a session, and for what they are not accepted.
 ghost use Rattle.std.specs.Prelude.{◌≡◌, OnOk};
-ghost use Rattle.bench_types.specs.Step.{core_of, settings_of, call_check, step_check, IsActionOfWord, IsCheckedCall, IsCheckedStep, IsOfWords, IsStepOfWords};
-ghost use Rattle.bench_types.specs.StepFlaw.{call_flaw, core_flaw, increment_flaw, index_flaw, judged, mask_flaw, mutex_flaw, note_flaw, step_flaw, task_flaw};
+ghost use Rattle.bench_types.specs.Step.{core_of, settings_of, call_check, step_check, IsNotifyActionOfWord, IsCheckedCall, IsCheckedStep, IsOfWords, IsStepOfWords};
+ghost use Rattle.bench_types.specs.StepFlaw.{call_flaw, core_flaw, increment_flaw, index_flaw, check_of, mask_flaw, mutex_flaw, note_flaw, step_flaw, task_flaw};
 
 use crate::header::allows_core;
-use crate::step_flaw::judged;
-use crate::{Action, Fault, Header, Note, StepFlaw};
+use crate::step_flaw::check_of;
+use crate::{Fault, Header, Note, NotifyAction, StepFlaw};
 
 /// One event of a session.
 #[derive(Clone, Copy, Debug, PartialEq, Eq, Hash)]
@@ -92,11 +92,37 @@ pub enum Call {
     HoldClose,
 }
 
+/// A call that blocks its task for some ticks or until a notification comes. What is kept of one
+/// that takes a mutex is [`Unfinished::Take`].
+#[derive(Clone, Copy, Debug, PartialEq, Eq, Hash)]
+pub enum BlockingCall {
+    /// `vTaskDelay`, as [`Call::Delay`].
+    Delay(u32),
+    /// `xTaskDelayUntil`, as [`Call::DelayUntil`].
+    DelayUntil {
+        prev: u32,
+        inc: u32,
+    },
+    /// `xTaskNotifyWaitIndexed`, as [`Call::NotifyWait`].
+    NotifyWait {
+        entry: u32,
+        exit: u32,
+        ticks: u32,
+        index: u32,
+    },
+    /// `ulTaskNotifyTakeIndexed`, as [`Call::NotifyTake`].
+    NotifyTake {
+        clear: bool,
+        ticks: u32,
+        index: u32,
+    },
+}
+
 /// A call that has not returned, with what of it still counts.
 #[derive(Clone, Copy, Debug, PartialEq, Eq, Hash)]
 pub enum Unfinished {
     /// The call waits for some ticks or for a notification.
-    Made(Call),
+    Made(BlockingCall),
     /// The call takes the mutex. `mark` says that the base priority of its holder was below the
     /// priority in use of the task when the task began to wait, so the holder may have inherited.
     Take { mutex: u32, mark: bool },
@@ -116,11 +142,11 @@ impl Step {
 
     /// The first thing for which the step is not accepted, in the order in which they are tried:
     /// its core, its caller, then the arguments of its call.
-    #[tactic(auto, using(crate::proofs::StepFlaws::step_judged))]
+    #[tactic(auto, using(crate::proofs::StepFlaws::step_check_of))]
     pub fn flaw(&self, header: &Header) -> Option<StepFlaw>
         ensures value { result ≡ step_flaw (settings_of header.now) self.now }
         // There is one exactly where the check is a fault, and it is that fault.
-        ensures law { step_check (settings_of header.now) self.now ≡ judged result }
+        ensures law { step_check (settings_of header.now) self.now ≡ check_of result }
         ensures words { IsStepOfWords self.now }
     {
         match *self {
@@ -139,17 +165,17 @@ impl Step {
         ensures value { result ≡ step_check (settings_of header.now) self.now }
         ensures checked { OnOk result (IsCheckedStep (settings_of header.now) self.now) }
     {
-        judged(self.flaw(header))
+        check_of(self.flaw(header))
     }
 }
 
 impl Call {
     /// The first thing for which the call's arguments are not accepted: the task that it is for,
     /// then the mask, the ticks between wakes, the index or the mutex.
-    #[tactic(auto, using(crate::proofs::StepFlaws::call_judged))]
+    #[tactic(auto, using(crate::proofs::StepFlaws::call_check_of))]
     pub fn flaw(&self, header: &Header) -> Option<StepFlaw>
         ensures value { result ≡ call_flaw (settings_of header.now) self.now }
-        ensures law { call_check (settings_of header.now) self.now ≡ judged result }
+        ensures law { call_check (settings_of header.now) self.now ≡ check_of result }
         ensures words { IsOfWords self.now }
     {
         // A number that may be any is bound too: so it is known to be one of 32 bits.
@@ -200,7 +226,7 @@ impl Call {
         ensures value { result ≡ call_check (settings_of header.now) self.now }
         ensures checked { OnOk result (IsCheckedCall (settings_of header.now) self.now) }
     {
-        judged(self.flaw(header))
+        check_of(self.flaw(header))
     }
 }
 
@@ -231,11 +257,11 @@ pub(crate) fn task_flaw(task: u32, header: &Header) -> Option<StepFlaw>
 // Any action will do, whatever its number.
 pub(crate) fn note_flaw(note: Note, header: &Header) -> Option<StepFlaw>
     ensures value { result ≡ note_flaw (settings_of header.now) note }
-    ensures words { IsActionOfWord note.action }
+    ensures words { IsNotifyActionOfWord note.action }
 {
     match note.action {
-        Action::Nothing | Action::Increment => address_flaw(note, header),
-        Action::SetBits(_any) | Action::Set(_any) | Action::SetNew(_any) => {
+        NotifyAction::Nothing | NotifyAction::Increment => address_flaw(note, header),
+        NotifyAction::SetBits(_any) | NotifyAction::Set(_any) | NotifyAction::SetNew(_any) => {
             address_flaw(note, header)
         }
     }

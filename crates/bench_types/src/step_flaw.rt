@@ -1,6 +1,6 @@
 //! For what a step, an act or an edit is not accepted.
 ghost use Rattle.std.specs.Prelude.{◌≡◌};
-ghost use Rattle.bench_types.specs.StepFlaw.{flaw_fault, judged};
+ghost use Rattle.bench_types.specs.StepFlaw.{flaw_fault, check_of};
 
 use crate::Fault;
 
@@ -45,8 +45,8 @@ impl StepFlaw {
 }
 
 /// What a check answers where this is the first flaw.
-pub(crate) fn judged(flaw: Option<StepFlaw>) -> Result<(), Fault>
-    ensures { result ≡ judged flaw }
+pub(crate) fn check_of(flaw: Option<StepFlaw>) -> Result<(), Fault>
+    ensures { result ≡ check_of flaw }
 {
     match flaw {
         None => Ok(()),

@@ -2,5 +2,5 @@ mod ClapAnswers
 pub mod NumberTexts
 pub mod OptionsRead
 pub mod ProgramAnswers
-pub mod Told
+pub mod Printed
 pub mod ValuesTaken

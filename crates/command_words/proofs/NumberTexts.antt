@@ -1,5 +1,6 @@
 -- Texts that clap takes as numbers of a range, and what is read of them.
-use Rattle.std.proofs.Common.{◌≡◌, ◌∙◌, ◌&&◌, ◌<◌, ℕ, ◌^◌, ◌==◌, Bool, true, false, true≢false, List, [], ◌∷◌, cond, drop, nat_le, pos, Option, Some, None, Result, Ok, Err, unwrap_or, refl, sym, ap, subst, arith}
+use Rattle.std.proofs.Common.{◌≡◌, ◌∙◌, ◌&&◌, ◌<◌, ℕ, ◌^◌, ◌==◌, Bool, true, false, true≢false, List, [], ◌∷◌, cond, drop, nat_le, pos, Option, Some, None}
+use Rattle.std.proofs.Common.{Result, Ok, Err, unwrap_or, refl, sym, ap, subst, arith}
 use Rattle.std.proofs.lemmas.Bool.{ne_eqb}
 use Rattle.std.proofs.lemmas.Int.{ints}
 use Rattle.std.proofs.lemmas.Str.Parse.{digit_from_value}
@@ -54,13 +55,16 @@ in_range least most text taken = subst (λ (t : Text). IsUnsignedIn least most t
         rw minus (numeral, omega (arith, ints, fits.sfits), omega (arith, ints), omega (arith, ints))
 
 -- what the typed getters read of a text that clap takes
-pub number_taken : (least most : ℕ) (text : Text) → accepts false (Signed (pos least) (pos most)) text ≡ true → is_unsigned_in least most (without_minus text) ≡ true
-number_taken least most text e = Accepts-accepts false (Unsigned least most) (without_minus text) (in_range least most text (accepts-Accepts false (Signed (pos least) (pos most)) text e))
+pub number_taken : (least most : ℕ) (text : Text) → accepts false (Signed (pos least) (pos most)) text ≡ true → is_unsigned_in least most (without_minus text) ≡
+    true
+number_taken least most text e = Accepts-accepts false (Unsigned least most) (without_minus text)
+    (in_range least most text (accepts-Accepts false (Signed (pos least) (pos most)) text e))
 
 -- ---- the number that a text writes
 
 -- it is in the range
-pub number_within : (least most : ℕ) (text : Text) → is_unsigned_in least most text ≡ true → (nat_le least (number_of text) && nat_le (number_of text) most) ≡ true
+pub number_within : (least most : ℕ) (text : Text) → is_unsigned_in least most text ≡ true → (nat_le least (number_of text) && nat_le (number_of text) most) ≡
+    true
 number_within least most text e = (both _ _ (both _ _ e).1).1
 
 -- what `parse` says of an unsigned number of k bits
@@ -77,7 +81,8 @@ module _ (k least most : ℕ) (fits : most < 2 ^ k) where
   number_is text taken (Ok n) parses = ap (λ (n : ℕ). Ok n) parses.0.1
   number_is text taken (Err e) parses = absurd (parses.0 (is_read text taken))
 
-  number_read : (other : ℕ) (found : Option Text) → IfSome found (λ text. is_unsigned_in least most text ≡ true) → (read : Option ℕ) → (found ≡ None → read ≡ None) → ((text : Text) → found ≡ Some text → ReadsOne (Parses k) text read)
+  number_read : (other : ℕ) (found : Option Text) → IfSome found (λ text. is_unsigned_in least most text ≡ true) → (read : Option ℕ) →
+      (found ≡ None → read ≡ None) → ((text : Text) → found ≡ Some text → ReadsOne (Parses k) text read)
       → unwrap_or read other ≡ option_map_or number_of found other
   number_read other None taken read none some = ap (λ r. unwrap_or r other) (none refl)
   number_read other (Some text) taken (Some n) none some = (some text refl).0.1
@@ -86,14 +91,17 @@ module _ (k least most : ℕ) (fits : most < 2 ^ k) where
       absurd (error.1.0 (is_read text taken))
 
   -- what is read of an option, or else this number, is what its row says
-  pub number_is_read : (found : Found) (id : Text) (other : ℕ) → IfSome (one_of id (rows_of found)) (λ text. is_unsigned_in least most text ≡ true) → (read : Option ℕ) → (one_text found id ≡ None → read ≡ None)
+  pub number_is_read : (found : Found) (id : Text) (other : ℕ) → IfSome (one_of id (rows_of found)) (λ text. is_unsigned_in least most text ≡ true) →
+      (read : Option ℕ) → (one_text found id ≡ None → read ≡ None)
       → ((text : Text) → one_text found id ≡ Some text → ReadsOne (Parses k) text read) → unwrap_or read other ≡ number_in id (rows_of found) other
   number_is_read found id other taken read none some =
       let row = one_text-rows found id in
-      number_read other (one_text found id) (subst (λ (text : Option Text). IfSome text (λ text. is_unsigned_in least most text ≡ true)) (sym row) taken) read none some ∙ ap (λ (text : Option Text). option_map_or number_of text other) row
+      number_read other (one_text found id) (subst (λ (text : Option Text). IfSome text (λ text. is_unsigned_in least most text ≡ true)) (sym row) taken) read
+      none some ∙ ap (λ (text : Option Text). option_map_or number_of text other) row
 
   -- no value that is left fails to be read
-  pub none_fails : (before after : List Text) (r : Result ℕ ParseIntError) (e : ParseIntError) → StepsValues (Parses k) before after (Some r) → list_all (is_unsigned_in least most) before ≡ true → r ≡ Err e → ⊥
+  pub none_fails : (before after : List Text) (r : Result ℕ ParseIntError) (e : ParseIntError) → StepsValues (Parses k) before after (Some r) → list_all
+      (is_unsigned_in least most) before ≡ true → r ≡ Err e → ⊥
   none_fails [] after r e steps taken is = steps
   none_fails (text ∷ texts) after r e steps taken is =
       let parts = both (is_unsigned_in least most text) (list_all (is_unsigned_in least most) texts) taken in

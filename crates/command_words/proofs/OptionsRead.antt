@@ -29,7 +29,8 @@ simple_is_local a e =
     is_false false e = refl
 
 -- what is read of the text of a flag
-flag_read : (found : Option Text) → IfSome found (λ text. is_flag text ≡ true) → (read : Bool) → (found ≡ None → read ≡ false) → (found ≡ Some (codes "true") → read ≡ true)
+flag_read : (found : Option Text) → IfSome found (λ text. is_flag text ≡ true) → (read : Bool) → (found ≡ None → read ≡ false) →
+    (found ≡ Some (codes "true") → read ≡ true)
     → (found ≡ Some (codes "false") → read ≡ false) → read ≡ option_map_or (bytes_eq (codes "true")) found false
 flag_read None taken read none given others = none refl
 flag_read (Some text) taken read none given others = go (bytes_eq text (codes "true")) (bytes_eq text (codes "false")) refl refl
@@ -44,8 +45,10 @@ flag_read (Some text) taken read none given others = go (bytes_eq text (codes "t
     go false false is_a is_b = absurd (true≢false (sym taken ∙ ap (λ (is : Bool). is || bytes_eq text (codes "false")) is_a ∙ is_b))
 
 -- what is read of a flag is what its row says
-pub flag_is_read : (found : Found) (id : Text) → IfSome (one_of id (rows_of found)) (λ text. is_flag text ≡ true) → (read : Bool) → (one_text found id ≡ None → read ≡ false) → (one_text found id ≡ Some (codes "true") → read ≡ true)
+pub flag_is_read : (found : Found) (id : Text) → IfSome (one_of id (rows_of found)) (λ text. is_flag text ≡ true) → (read : Bool) →
+    (one_text found id ≡ None → read ≡ false) → (one_text found id ≡ Some (codes "true") → read ≡ true)
     → (one_text found id ≡ Some (codes "false") → read ≡ false) → read ≡ flag_in id (rows_of found)
 flag_is_read found id taken read none given others =
     let row = one_text-rows found id in
-    flag_read (one_text found id) (subst (λ (text : Option Text). IfSome text (λ text. is_flag text ≡ true)) (sym row) taken) read none given others ∙ ap (λ (text : Option Text). option_map_or (bytes_eq (codes "true")) text false) row
+    flag_read (one_text found id) (subst (λ (text : Option Text). IfSome text (λ text. is_flag text ≡ true)) (sym row) taken) read none given others ∙ ap
+    (λ (text : Option Text). option_map_or (bytes_eq (codes "true")) text false) row

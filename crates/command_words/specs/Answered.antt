@@ -1,8 +1,8 @@
 -- What clap answers to the words of a command line.
 use Rattle.std.specs.Prelude.{List, [], ◌∷◌, Option, Some, None}
 use Rattle.clap.specs.Words.{App, Kinds, Row, Text, fault_of, subcommand_of, subcommand_rows_of}
-use Rattle.command_words.specs.declared.answer.Answer.{Answer}
-use Rattle.command_words.specs.declared.answer.Answer.TheVariants.{Met, Said}
+use Rattle.command_words.specs.declared.parsed.Parsed.{Parsed}
+use Rattle.command_words.specs.declared.parsed.Parsed.TheVariants.{Met, Said}
 use Rattle.command_words.specs.Asking.{Class, class_of, mistakes}
 use Rattle.command_words.specs.Said.{class_in}
 
@@ -28,6 +28,6 @@ answered program (Some words) = answered_in_words program words
 answered program None = said mistakes
 
 -- what an answer says
-abbrev pub answered_in : Answer → Answered
+abbrev pub answered_in : Parsed → Answered
 answered_in (Said saying) = said (class_in saying)
 answered_in (Met matches) = answered_by [] (subcommand_rows_of matches)

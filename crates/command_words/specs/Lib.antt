@@ -2,4 +2,4 @@ pub mod Answered
 pub mod Asking
 pub mod Said
 pub mod Taken
-pub mod Told
+pub mod Printed

@@ -8,8 +8,8 @@ use Rattle.clap.specs.Walk.{arg_by_id, reading_by}
 use Rattle.clap.specs.Words.{App, Row, Rule, Shape, Text, built, is_simple_and_free, subcommand_rows_of}
 use Rattle.clap.specs.declared.builder.value_parser.Reading.{Reading}
 use Rattle.clap.specs.declared.builder.value_parser.Reading.TheVariants.{AsWritten}
-use Rattle.command_words.specs.declared.answer.Answer.{Answer}
-use Rattle.command_words.specs.declared.answer.Answer.TheVariants.{Met, Said}
+use Rattle.command_words.specs.declared.parsed.Parsed.{Parsed}
+use Rattle.command_words.specs.declared.parsed.Parsed.TheVariants.{Met, Said}
 
 -- the program and its commands
 abbrev pub shapes_of : App → List Shape
@@ -51,7 +51,7 @@ abbrev pub AreTaken : App → List Row → Type 0
 AreTaken program rows = AllByRecursion (IsTaken program) rows
 
 -- where a command is met, its options took their values
-abbrev pub HasTaken : App → Answer → Type 0
+abbrev pub HasTaken : App → Parsed → Type 0
 HasTaken program (Said saying) = ⊤
 HasTaken program (Met matches) =
     IsSomeAnd (subcommand_rows_of matches) (λ met. AreTaken program met.1)

@@ -1,7 +1,7 @@
 //! What clap is told of options and of a program.
 ghost use Rattle.std.specs.Prelude.{◌≡◌};
 ghost use Rattle.clap.specs.Words.{app_of, rule_of};
-ghost use Rattle.command_words.specs.Told.{flag_rule, option_rule, program_app};
+ghost use Rattle.command_words.specs.Printed.{flag_rule, option_rule, program_app};
 
 use clap::{Arg, ArgAction, Command};
 use std::alloc::Global;

@@ -1,5 +1,6 @@
 -- What is so at the end of a rig.
-use Rattle.std.proofs.Common.{◌≡◌, ℕ, ◌+◌, ◌<◌, ◌==◌, ◌&&◌, Bool, true, false, cond, eqb, List, [], ◌∷◌, length, map, get_or, Option, Some, None, Result, Ok, Err, refl, sym, ap, subst, ◌∙◌, arith, All}
+use Rattle.std.proofs.Common.{◌≡◌, ℕ, ◌+◌, ◌<◌, ◌==◌, ◌&&◌, Bool, true, false, cond, eqb, List, [], ◌∷◌, length, map, get_or, Option, Some, None, Result, Ok}
+use Rattle.std.proofs.Common.{Err, refl, sym, ap, subst, ◌∙◌, arith, All}
 use Rattle.std.specs.Prelude.{⊤, ◌↔◌, ltb, sum_by}
 use Rattle.std.specs.List.{list_all}
 use Rattle.std.proofs.lemmas.Bool.Decides.{nat_tests}
@@ -84,8 +85,10 @@ module _ (cores : ℕ) (seats : List CoreView) (is : close_check cores seats ≡
   -- the pair's own test passes
   pub pair_check : locks.close_check cores inner ≡ Ok tt
   pair_check =
-      ap (λ n. cond ((n == cores) && locks.has_all_numbers cores inner) (cond (locks.are_free inner) (Ok tt) (Err lock_faults.Owned)) (Err lock_faults.WrongSeats)) (length-map seats at_rest)
-      ∙ ap (λ b. cond (b && locks.has_all_numbers cores inner) (cond (locks.are_free inner) (Ok tt) (Err lock_faults.Owned)) (Err lock_faults.WrongSeats)) tests.0
+      ap (λ n. cond ((n == cores) && locks.has_all_numbers cores inner) (cond (locks.are_free inner) (Ok tt) (Err lock_faults.Owned))
+      (Err lock_faults.WrongSeats)) (length-map seats at_rest)
+      ∙ ap (λ b. cond (b && locks.has_all_numbers cores inner) (cond (locks.are_free inner) (Ok tt) (Err lock_faults.Owned)) (Err lock_faults.WrongSeats))
+      tests.0
       ∙ ap (λ b. cond b (cond (locks.are_free inner) (Ok tt) (Err lock_faults.Owned)) (Err lock_faults.WrongSeats)) all_numbers
       ∙ ap (λ b. cond b (Ok tt) (Err lock_faults.Owned)) all_free
 
@@ -100,7 +103,8 @@ module _ (cores : ℕ) (seats : List CoreView) (is : close_check cores seats ≡
       )
 
 -- what all seats say of a history
-pub ends_of : (history : List Entry) (seats : List CoreView) (inner : List (SeatView RecordingView)) → inner ≡ map at_rest seats → All (locks.IsEndOf history) inner → All (IsEndOf history) seats
+pub ends_of : (history : List Entry) (seats : List CoreView) (inner : List (SeatView RecordingView)) → inner ≡ map at_rest seats → All (locks.IsEndOf history)
+    inner → All (IsEndOf history) seats
 ends_of history seats held is all k d less =
     subst (λ (seat : SeatView RecordingView). locks.IsEndOf history seat) (get_or-map at_rest seats k d)
     (subst (All (locks.IsEndOf history)) is all k (at_rest d) (omega (arith, less, length-map seats at_rest)))
@@ -109,11 +113,14 @@ ends_of history seats held is all k d less =
 none_made_above : (core cores : ℕ) (entries : List Entry) → All (λ entry. entry.core < cores) entries → ltb core cores ≡ false → made_by core entries ≡ []
 none_made_above core cores entries below above =
     filter_none (λ (entry : Entry). eqb entry.core core) entries
-    (All-weaker (λ (entry : Entry). entry.core < cores) (λ (entry : Entry). eqb entry.core core ≡ false) (λ entry less. grind (arith, nat_tests, less, above)) entries
+    (All-weaker (λ (entry : Entry). entry.core < cores) (λ (entry : Entry). eqb entry.core core ≡ false) (λ entry less. grind (arith, nat_tests, less, above))
+    entries
     (recursion_from_All (λ (entry : Entry). entry.core < cores) entries below))
 
 -- a history at whose end each core's seat holds nothing ends with no hold
-module _ (header : Header) (entries : List Entry) (seats : List CoreView) (pair : PairView) (passes : header_check header ≡ Ok tt) (legal : IsLegal header entries) (is : close_check header.config.cores seats ≡ Ok tt) (terms : All (λ seat. seat.terms.header ≡ header) seats) (own : All IsOwn seats) (ends : All (IsEndOf entries) seats) where
+module _ (header : Header) (entries : List Entry) (seats : List CoreView) (pair : PairView) (passes : header_check header ≡ Ok tt)
+    (legal : IsLegal header entries) (is : close_check header.config.cores seats ≡ Ok tt) (terms : All (λ seat. seat.terms.header ≡ header) seats)
+    (own : All IsOwn seats) (ends : All (IsEndOf entries) seats) where
   sound : IsSoundHistory header entries
   sound = legal_sound header entries passes legal
 
@@ -123,7 +130,8 @@ module _ (header : Header) (entries : List Entry) (seats : List CoreView) (pair 
       let end = ends k d less in
       let none = nothing_held header.config.cores seats is k d less in
       let before = subst (λ header. is_held_by seat.core (hold_after header seat.seen) ≡ false) (terms k d less)
-      (none_held seat.core (end_of seat.terms.header seat.seen) (subst (λ header. IsSound (end_of header seat.seen)) (sym (terms k d less)) (sound seat.seen end.0)) none) in
+      (none_held seat.core (end_of seat.terms.header seat.seen) (subst (λ header. IsSound (end_of header seat.seen)) (sym (terms k d less))
+      (sound seat.seen end.0)) none) in
       held_as_made header seat.core entries seat.seen sound legal end.0 (end.1 ∙ sym (own k d less)) ∙ before
 
   holds_nothing : (core : ℕ) → is_held_by core (end_of header entries).hold ≡ false
@@ -134,7 +142,8 @@ module _ (header : Header) (entries : List Entry) (seats : List CoreView) (pair 
           let found = has_seat header.config.cores seats is pair core (grind (arith, nat_tests, below)) in
           subst (λ core. is_held_by core (end_of header entries).hold ≡ false) found.2 (seat_holds_nothing found.0 (new_seat pair 0) found.1)
       at false above =
-          held_as_made header core entries [] sound legal refl (none_made_above core header.config.cores entries (cores_there header entries passes legal) above)
+          held_as_made header core entries [] sound legal refl (none_made_above core header.config.cores entries (cores_there header entries passes legal)
+          above)
           ∙ ap (λ table. is_held_by core table.hold) (end_empty header) ∙ ap (is_held_by core) (start_free header)
 
   pub ends_unheld : hold_after header entries ≡ None
@@ -148,7 +157,8 @@ sum_of_map : (f : ℕ → ℕ) (xs : List ℕ) → sum_by (λ n. n) (map f xs) �
 sum_of_map f [] = refl
 sum_of_map f (x ∷ xs) = sum_by-cons (λ n. n) (f x) (map f xs) ∙ ap (λ sum. f x + sum) (sum_of_map f xs) ∙ sym (sum_by-cons f x xs)
 
-pub counts_add_up : (header : Header) (entries : List Entry) → header_check header ≡ Ok tt → IsLegal header entries → sum_by (λ n. n) (counts header.config.cores entries) ≡ length entries
+pub counts_add_up : (header : Header) (entries : List Entry) → header_check header ≡ Ok tt → IsLegal header entries → sum_by (λ n. n)
+    (counts header.config.cores entries) ≡ length entries
 counts_add_up header entries passes legal =
     sum_of_map (λ core. length (made_by core entries)) (numbers header.config.cores)
     ∙ cores_add header.config.cores entries (cores_there header entries passes legal)

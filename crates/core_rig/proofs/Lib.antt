@@ -1,5 +1,5 @@
 pub mod Stretches
-pub mod Acts
+pub mod CoreActions
 pub mod Seats
 pub mod Closing
 pub mod Making

@@ -12,7 +12,8 @@ use Rattle.recordings.specs.RecordingView.{RecordingView}
 use Rattle.core_rig.specs.Resting.{IsNew, core_view}
 use Rattle.core_rig.specs.Seats.{CoreView, new_seat}
 
-module _ (pair : PairView) (header : Header) (is : pair.terms.header ≡ header) (passes : header_check header ≡ Ok tt) (cores : ℕ) (count : cores ≡ header.config.cores) where
+module _ (pair : PairView) (header : Header) (is : pair.terms.header ≡ header) (passes : header_check header ≡ Ok tt) (cores : ℕ)
+    (count : cores ≡ header.config.cores) where
   abbrev inner : List (SeatView RecordingView)
   inner = map (locks.new_seat pair) (numbers cores)
 
@@ -33,7 +34,8 @@ module _ (pair : PairView) (header : Header) (is : pair.terms.header ≡ header)
       all_below : All (λ core. core < cores) (numbers cores)
       all_below = All-from_recursion (λ core. core < cores) (numbers cores) (numbers_below cores)
 
-pub seats_in_order : (pair : PairView) (cores : ℕ) (held : List (SeatView RecordingView)) (seats : List CoreView) → held ≡ map (locks.new_seat pair) (numbers cores) → seats ≡ map core_view held → seats ≡ map (new_seat pair) (numbers cores)
+pub seats_in_order : (pair : PairView) (cores : ℕ) (held : List (SeatView RecordingView)) (seats : List CoreView) → held ≡ map (locks.new_seat pair)
+    (numbers cores) → seats ≡ map core_view held → seats ≡ map (new_seat pair) (numbers cores)
 seats_in_order pair cores held seats same is = is ∙ ap (map core_view) same ∙ map_twice (numbers cores)
   where
     map_twice : (xs : List ℕ) → map core_view (map (locks.new_seat pair) xs) ≡ map (new_seat pair) xs

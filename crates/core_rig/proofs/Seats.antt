@@ -18,7 +18,8 @@ use Rattle.core_rig.specs.Seats.{CoreView, depth_at}
 abbrev with_words : SeatView RecordingView → ℕ → ℕ → Option RecordingView → SeatView RecordingView
 with_words seat task interrupt value = record seat { task_depth = task; interrupt_depth = interrupt; value = value }
 
-pub rests_as : (seat : SeatView RecordingView) (made depth : ℕ) (core : CoreView) → IsResting seat made depth → core_view seat ≡ core → depth_at core ≡ 0 → seat ≡ at_rest core
+pub rests_as : (seat : SeatView RecordingView) (made depth : ℕ) (core : CoreView) → IsResting seat made depth → core_view seat ≡ core → depth_at core ≡ 0 → seat
+    ≡ at_rest core
 rests_as seat made depth core resting is none =
     let nothing : depth ≡ 0 = resting.holds ∙ ap depth_at is ∙ none in
     let task : seat.task_depth ≡ 0 = resting.task ∙ ap (λ depth. cond {A = ℕ} (eqb depth 0) 0 1) nothing in
@@ -37,7 +38,8 @@ at_seam P front rest x items is all =
 pub moved_on : {X : Type 0} (items front rest later : List X) (x : X) → items ≡ front ++ rest → rest ≡ x ∷ later → items ≡ (front ++ x ∷ []) ++ later
 moved_on items front rest later x is first = is ∙ ap (λ rest. front ++ rest) first ∙ sym (append_assoc front (x ∷ []) later)
 
-pub mapped_on : {X Y : Type 0} (f : X → Y) (front : List X) (x : X) (done now : List Y) → done ≡ map f front → now ≡ done ++ f x ∷ [] → now ≡ map f (front ++ x ∷ [])
+pub mapped_on : {X Y : Type 0} (f : X → Y) (front : List X) (x : X) (done now : List Y) → done ≡ map f front → now ≡ done ++ f x ∷ [] → now ≡ map f
+    (front ++ x ∷ [])
 mapped_on f front x done now is push = push ∙ ap (λ done. done ++ f x ∷ []) is ∙ sym (map-append f front (x ∷ []))
 
 -- the seat of a core that has seen nothing rests

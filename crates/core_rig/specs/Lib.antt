@@ -1,5 +1,5 @@
 pub mod Seats
-pub mod Acts
+pub mod CoreActions
 pub mod Stretches
 pub mod Resting
 pub mod Rigs

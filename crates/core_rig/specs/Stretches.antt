@@ -1,13 +1,13 @@
 -- What a core does while it owns the interrupt word.
 use Rattle.std.specs.Prelude.{◌≡◌, ◌<◌, List, Bool, true, false, Some, None}
-use Rattle.bench_types.specs.declared.act.Act.{Act}
-use Rattle.bench_types.specs.declared.act.Act.TheVariants as acts
+use Rattle.bench_types.specs.declared.core_action.CoreAction.{CoreAction}
+use Rattle.bench_types.specs.declared.core_action.CoreAction.TheVariants as core_actions
 use Rattle.bench_types.specs.declared.entry.Entry.{Entry}
 use Rattle.bench_model.specs.History.{made_by, is_kept_out}
 use Rattle.port_locks.specs.declared.view.Terms.{Terms}
 use Rattle.port_locks.specs.Holds.{hold_after}
 use Rattle.port_locks.specs.Seats.{SeatView}
-use Rattle.recordings.specs.RecordingView.{RecordingView, act_on, after_act}
+use Rattle.recordings.specs.RecordingView.{RecordingView, act_on, after_core_action}
 use Rattle.core_rig.specs.Seats.{recording_of}
 
 -- what a lock pair knows of a recording
@@ -25,31 +25,32 @@ pub record IsInHand (seat : SeatView RecordingView) : Type 0 where
   pub own : made_by seat.number seat.seen ≡ seat.made
 
 -- an act is a call of the core's current task
-abbrev pub is_call : Act → Bool
-is_call (acts.Call call) = true
-is_call (acts.Interrupt note) = false
-is_call acts.Tick = false
-is_call acts.Switch = false
+abbrev pub is_call : CoreAction → Bool
+is_call (core_actions.Call call) = true
+is_call (core_actions.Interrupt note) = false
+is_call core_actions.Tick = false
+is_call core_actions.Switch = false
 
 -- calls and switches are a task's, interrupts and ticks are not
-abbrev pub is_by_task : Act → Bool
-is_by_task (acts.Call call) = true
-is_by_task (acts.Interrupt note) = false
-is_by_task acts.Tick = false
-is_by_task acts.Switch = true
+abbrev pub is_by_task : CoreAction → Bool
+is_by_task (core_actions.Call call) = true
+is_by_task (core_actions.Interrupt note) = false
+is_by_task core_actions.Tick = false
+is_by_task core_actions.Switch = true
 
 -- no hold keeps the core's step out, and who calls owns the task word
-pub record MayAct (act : Act) (seat : SeatView RecordingView) : Type 0 where
+pub record MayAct (core_action : CoreAction) (seat : SeatView RecordingView) : Type 0 where
   pub unheld :
       is_kept_out (hold_after seat.terms.header seat.seen)
-      (act_on seat.number act (recording_of seat.terms seat.seen))
+      (act_on seat.number core_action (recording_of seat.terms seat.seen))
       ≡ false
-  pub owns : is_call act ≡ true → 0 < seat.task_depth
+  pub owns : is_call core_action ≡ true → 0 < seat.task_depth
 
 -- the seat after the act, without the interrupt word
-abbrev pub after_stretch : Act → SeatView RecordingView → SeatView RecordingView
-after_stretch act seat =
-    let history = (after_act seat.number act (recording_of seat.terms seat.seen)).entries in
+abbrev pub after_stretch : CoreAction → SeatView RecordingView → SeatView RecordingView
+after_stretch core_action seat =
+    let recording = recording_of seat.terms seat.seen in
+    let history = (after_core_action seat.number core_action recording).entries in
     record seat {
       interrupt_depth = 0;
       seen = history;

@@ -1,6 +1,6 @@
 //! Why a rig or a core's call is refused.
 ghost use Rattle.std.specs.Prelude.{◌≡◌};
-ghost use Rattle.core_rig.specs.Acts.{refusal_of};
+ghost use Rattle.core_rig.specs.CoreActions.{refusal_of};
 
 use bench_types::Fault;
 use recordings::RecordRefusal;

@@ -1,8 +1,8 @@
 //! A core's seat at a rig, and the calls that it makes.
 ghost use Rattle.std.specs.Prelude.{◌≡◌, ◌≢◌, ◌<◌, length, map, All, IfOk, false, true};
-ghost use Rattle.bench_types.specs.declared.act.Act.TheVariants as acts;
+ghost use Rattle.bench_types.specs.declared.core_action.CoreAction.TheVariants as core_actions;
 ghost use Rattle.core_rig.specs.declared.fault.RigRefusal.TheVariants as refusals;
-ghost use Rattle.core_rig.specs.Acts.{HasActed, IsAnswered, IsAnsweredAtOnce, IsRefused};
+ghost use Rattle.core_rig.specs.CoreActions.{HasActed, IsAnswered, IsAnsweredAtOnce, IsRefused};
 ghost use Rattle.core_rig.specs.Resting.{IsNew, core_view};
 ghost use Rattle.core_rig.specs.Seats.{IsSameSeat, IsSeatOf, depth_at};
 ghost use Rattle.core_rig.specs.Stretches.{is_by_task};
@@ -10,7 +10,7 @@ ghost use Rattle.core_rig.specs.Stretches.{is_by_task};
 use crate::fault::RigRefusal;
 use crate::rig::Rig;
 use crate::stretch::{act_and_leave, enter, enter_task, leave_task};
-use bench_types::{Act, Call, Note};
+use bench_types::{Call, CoreAction, Note};
 use port_locks::{Seat, TryFault};
 use recordings::{Answer, Recording};
 use std::alloc::{AllocError, Global};
@@ -96,9 +96,9 @@ impl CoreSeat {
     pub fn call<R: Wait>(&mut self, rt: &R, rig: &Rig, call: Call) -> Result<Answer, RigRefusal>
         requires own { IsSeatOf rig.now self.old }
         ensures seat { IsSameSeat self.old self.new }
-        ensures answered { IsAnswered (acts.Call call) self.old self.new result }
+        ensures answered { IsAnswered (core_actions.Call call) self.old self.new result }
     {
-        self.act_by_task(rt, rig, Act::Call(call))
+        self.act_by_task(rt, rig, CoreAction::Call(call))
     }
 
     /// Switches the core to the task that it selects (`vTaskSwitchContext`), and waits while
@@ -111,12 +111,12 @@ impl CoreSeat {
         ensures holding { depth_at self.old ≢ 0
             → IsRefused refusals.Holding self.old self.new result }
         ensures acted { depth_at self.old ≡ 0
-            → HasActed acts.Switch self.old self.new result }
+            → HasActed core_actions.Switch self.old self.new result }
     {
         if self.depth > 0 {
             return Err(RigRefusal::Holding);
         }
-        self.act_by_task(rt, rig, Act::Switch)
+        self.act_by_task(rt, rig, CoreAction::Switch)
     }
 
     /// Interrupts the core, whose handler notifies a task (`xTaskNotifyFromISR`), and waits while
@@ -131,9 +131,9 @@ impl CoreSeat {
     ) -> Result<Answer, RigRefusal>
         requires own { IsSeatOf rig.now self.old }
         ensures seat { IsSameSeat self.old self.new }
-        ensures answered { IsAnswered (acts.Interrupt note) self.old self.new result }
+        ensures answered { IsAnswered (core_actions.Interrupt note) self.old self.new result }
     {
-        self.act_by_interrupt(rt, rig, Act::Interrupt(note))
+        self.act_by_interrupt(rt, rig, CoreAction::Interrupt(note))
     }
 
     /// Makes the tick interrupt (`xTaskIncrementTick`), as [`CoreSeat::interrupt`] does its own.
@@ -142,9 +142,9 @@ impl CoreSeat {
     pub fn tick<R: Wait>(&mut self, rt: &R, rig: &Rig) -> Result<Answer, RigRefusal>
         requires own { IsSeatOf rig.now self.old }
         ensures seat { IsSameSeat self.old self.new }
-        ensures answered { IsAnswered acts.Tick self.old self.new result }
+        ensures answered { IsAnswered core_actions.Tick self.old self.new result }
     {
-        self.act_by_interrupt(rt, rig, Act::Tick)
+        self.act_by_interrupt(rt, rig, CoreAction::Tick)
     }
 
     /// Interrupts the core as [`CoreSeat::interrupt`] does, but never waits: G3 where another core
@@ -154,17 +154,18 @@ impl CoreSeat {
     pub fn try_interrupt(&mut self, rig: &Rig, note: Note) -> Result<Answer, RigRefusal>
         requires own { IsSeatOf rig.now self.old }
         ensures seat { IsSameSeat self.old self.new }
-        ensures answered { IsAnsweredAtOnce (acts.Interrupt note) self.old self.new result }
+        ensures answered { IsAnsweredAtOnce (core_actions.Interrupt note) self.old self.new result }
     {
-        let act = Act::Interrupt(note);
-        act.check(self.core(), &rig.header)
+        let core_action = CoreAction::Interrupt(note);
+        core_action
+            .check(self.core(), &rig.header)
             .map_err(RigRefusal::Fault)?;
         match rig.pair.try_interrupt(&mut self.seat) {
             Ok(()) => {}
             Err(TryFault::Busy) => return Err(RigRefusal::Busy),
             Err(TryFault::Deep) => unreachable!(),
         }
-        let stretch = act_and_leave(&rig.pair, &mut self.seat, self.made, act);
+        let stretch = act_and_leave(&rig.pair, &mut self.seat, self.made, core_action);
         self.made = stretch.made;
         self.depth = stretch.depth;
         stretch.answer
@@ -176,19 +177,19 @@ impl CoreSeat {
         &mut self,
         rt: &R,
         rig: &Rig,
-        act: Act,
+        core_action: CoreAction,
     ) -> Result<Answer, RigRefusal>
         requires own { IsSeatOf rig.now self.old }
-        requires kind { is_by_task act ≡ false }
+        requires kind { is_by_task core_action ≡ false }
         ensures seat { IsSameSeat self.old self.new }
-        ensures answered { IsAnswered act self.old self.new result }
+        ensures answered { IsAnswered core_action self.old self.new result }
     {
         // A copy goes out by reference, so that of the act itself it stays known which it is.
-        let copy = act;
+        let copy = core_action;
         copy.check(self.core(), &rig.header)
             .map_err(RigRefusal::Fault)?;
         enter(rt, &rig.pair, &mut self.seat);
-        let stretch = act_and_leave(&rig.pair, &mut self.seat, self.made, act);
+        let stretch = act_and_leave(&rig.pair, &mut self.seat, self.made, core_action);
         self.made = stretch.made;
         self.depth = stretch.depth;
         stretch.answer
@@ -197,20 +198,25 @@ impl CoreSeat {
     // A call of the core's current task, or a switch while the core holds nothing. The core keeps
     // the task word by one take for as long as it holds the kernel.
     #[inline(always)]
-    fn act_by_task<R: Wait>(&mut self, rt: &R, rig: &Rig, act: Act) -> Result<Answer, RigRefusal>
+    fn act_by_task<R: Wait>(
+        &mut self,
+        rt: &R,
+        rig: &Rig,
+        core_action: CoreAction,
+    ) -> Result<Answer, RigRefusal>
         requires own { IsSeatOf rig.now self.old }
-        requires kind { is_by_task act ≡ true }
-        requires switch { act ≡ acts.Switch → depth_at self.old ≡ 0 }
+        requires kind { is_by_task core_action ≡ true }
+        requires switch { core_action ≡ core_actions.Switch → depth_at self.old ≡ 0 }
         ensures seat { IsSameSeat self.old self.new }
-        ensures answered { IsAnswered act self.old self.new result }
+        ensures answered { IsAnswered core_action self.old self.new result }
     {
         // A copy goes out by reference, so that of the act itself it stays known which it is.
-        let copy = act;
+        let copy = core_action;
         copy.check(self.core(), &rig.header)
             .map_err(RigRefusal::Fault)?;
         enter_task(rt, &rig.pair, &mut self.seat);
         enter(rt, &rig.pair, &mut self.seat);
-        let stretch = act_and_leave(&rig.pair, &mut self.seat, self.made, act);
+        let stretch = act_and_leave(&rig.pair, &mut self.seat, self.made, core_action);
         leave_task(&rig.pair, &mut self.seat, self.depth > 0, stretch.depth > 0);
         self.made = stretch.made;
         self.depth = stretch.depth;

@@ -1,19 +1,19 @@
 //! What a core does while it owns the interrupt word.
 ghost use Rattle.std.specs.Prelude.{◌≡◌, ◌<◌, ◌+◌, length, true, false, if◌then◌else◌, Ok};
-ghost use Rattle.bench_types.specs.Act.{IsCheckedAct};
+ghost use Rattle.bench_types.specs.CoreAction.{IsCheckedCoreAction};
 ghost use Rattle.bench_types.specs.Step.{settings_of};
 ghost use Rattle.bench_model.specs.Holds.{depth_by, is_held_by};
 ghost use Rattle.bench_model.specs.History.{IsLegal};
 ghost use Rattle.history_laws.specs.SoundHistories.{IsSoundHistory};
 ghost use Rattle.port_locks.specs.Holds.{hold_after};
 ghost use Rattle.port_locks.specs.Seats.{IsSeatOf, HasTaken, HasNoHold};
-ghost use Rattle.recordings.specs.RecordingView.{answer_to_act};
-ghost use Rattle.core_rig.specs.Acts.{answered};
+ghost use Rattle.recordings.specs.RecordingView.{answer_to_core_action};
+ghost use Rattle.core_rig.specs.CoreActions.{answered};
 ghost use Rattle.core_rig.specs.Seats.{recording_of};
 ghost use Rattle.core_rig.specs.Stretches.{terms_of, entries_of, IsInHand, MayAct, is_call, after_stretch};
 
 use crate::fault::RigRefusal;
-use bench_types::Act;
+use bench_types::CoreAction;
 use port_locks::{LockPair, Seat};
 use recordings::{Answer, Recording};
 use std::sync::Wait;
@@ -45,22 +45,24 @@ pub(crate) fn act_and_leave(
     pair: &LockPair<Recording>,
     seat: &mut Seat<Recording>,
     made: u64,
-    act: Act,
+    core_action: CoreAction,
 ) -> Stretch
     requires own { IsSeatOf pair.now seat.old }
     requires hand { IsInHand seat.old }
     requires count { made ≡ length seat.old.made }
-    requires act { IsCheckedAct (settings_of seat.old.terms.header) seat.old.number act }
-    requires may { MayAct act seat.old }
+    requires core_action { IsCheckedCoreAction (settings_of seat.old.terms.header) seat.old.number
+        core_action }
+    requires may { MayAct core_action seat.old }
     ensures answer { result.answer
         ≡ answered
-        (answer_to_act seat.old.number act (recording_of seat.old.terms seat.old.seen)) }
-    ensures seat { seat.new ≡ after_stretch act seat.old }
+        (answer_to_core_action seat.old.number core_action
+        (recording_of seat.old.terms seat.old.seen)) }
+    ensures seat { seat.new ≡ after_stretch core_action seat.old }
     ensures legal { IsLegal seat.new.terms.header seat.new.seen }
     ensures sound { IsSoundHistory seat.new.terms.header seat.new.seen }
     ensures depth { result.depth
         ≡ depth_by seat.new.number (hold_after seat.new.terms.header seat.new.seen) }
-    ensures stays { is_call act ≡ false
+    ensures stays { is_call core_action ≡ false
         → hold_after seat.new.terms.header seat.new.seen
         ≡ hold_after seat.old.terms.header seat.old.seen }
     ensures count { result.made ≡ length seat.new.made }
@@ -69,7 +71,7 @@ pub(crate) fn act_and_leave(
 {
     let core = seat.number();
     let recording = seat.value();
-    let answer = recording.act(core, act);
+    let answer = recording.perform(core, core_action);
     let depth = recording.depth_by(core);
     pair.free_interrupt(seat);
     // Which says that it has seen a number of entries that 64 bits count.

@@ -1,10 +1,11 @@
 -- A core that holds the kernel closes its hold.
-use Rattle.std.proofs.Common.{◌≡◌, ℕ, ◌-◌, ◌<◌, Bool, true, false, cond, eqb, [], ◌∷◌, ◌++◌, Option, Some, None, Result, Ok, Err, refl, sym, ap, subst, ◌∙◌, arith, append_assoc}
+use Rattle.std.proofs.Common.{◌≡◌, ℕ, ◌-◌, ◌<◌, Bool, true, false, cond, eqb, [], ◌∷◌, ◌++◌, Option, Some, None, Result, Ok, Err, refl, sym, ap, subst, ◌∙◌}
+use Rattle.std.proofs.Common.{arith, append_assoc}
 use Rattle.std.specs.Prelude.{◌≢◌, nat_lt}
 use Rattle.std.proofs.lemmas.Bool.Decides.{nat_tests}
 use Rattle.std.proofs.lemmas.List.{append-nil}
 use Rattle.std.proofs.lemmas.List.Elements.{All-nil, All-push}
-use Rattle.bench_types.specs.declared.act.Act.TheVariants as acts
+use Rattle.bench_types.specs.declared.core_action.CoreAction.TheVariants as core_actions
 use Rattle.bench_types.specs.declared.entry.Entry.{Entry}
 use Rattle.bench_types.specs.declared.kernel_data.Hold.{Hold}
 use Rattle.bench_types.specs.declared.kernel_data.Settings.{Settings}
@@ -26,8 +27,8 @@ use Rattle.history_laws.proofs.Room.{close_done}
 use Rattle.recordings.specs.declared.recording.Answer.{Answer}
 use Rattle.recordings.specs.declared.recording.RecordRefusal.{RecordRefusal}
 use Rattle.recordings.specs.declared.recording.RecordRefusal.TheVariants.{IdleHere, Full}
-use Rattle.recordings.specs.RecordingView.{RecordingView, answer_in_room, answer_to, answer_to_act, call_on, hold_of, room_of, table_of, task_on}
-use Rattle.core_rig.specs.Acts.{HasActed, entry_after}
+use Rattle.recordings.specs.RecordingView.{RecordingView, answer_in_room, answer_to, answer_to_core_action, call_on, hold_of, room_of, table_of, task_on}
+use Rattle.core_rig.specs.CoreActions.{HasActed, entry_after}
 use Rattle.core_rig.specs.declared.fault.RigRefusal.{RigRefusal}
 use Rattle.core_rig.specs.Seats.{CoreView, depth_at, recording_of}
 use Rattle.core_scripts.specs.Parts.{HasClosed}
@@ -55,79 +56,83 @@ closed_by : (core : ℕ) (table : Table) → depth_by core (hold_closed core tab
 unfolding hold_closed
 closed_by core table = left_by core (depth_of table.hold - 1)
 
-module _ (old new : CoreView) (result : Result Answer RigRefusal) (acted : HasActed (acts.Call HoldClose) old new result) (some : depth_at old ≢ 0) where
-  abbrev view : RecordingView
-  view = recording_of old.terms acted.found
+module _ (old new : CoreView) (result : Result Answer RigRefusal) (acted : HasActed (core_actions.Call HoldClose) old new result) (some : depth_at old ≢ 0)
+  where
+    abbrev view : RecordingView
+    view = recording_of old.terms acted.found
 
-  abbrev entry : Entry
-  entry = entry_after old (acts.Call HoldClose) acted.found
+    abbrev entry : Entry
+    entry = entry_after old (core_actions.Call HoldClose) acted.found
 
-  abbrev task : ℕ
-  task = task_on old.core view
+    abbrev task : ℕ
+    task = task_on old.core view
 
-  sound : IsSound (table_of view)
-  sound = sound_there (acts.Call HoldClose) old new result acted
+    sound : IsSound (table_of view)
+    sound = sound_there (core_actions.Call HoldClose) old new result acted
 
-  held : is_held_by old.core (hold_of view) ≡ true
-  held = holds old.core (hold_of view) (λ none. some (sym acted.finds.depth ∙ none))
+    held : is_held_by old.core (hold_of view) ≡ true
+    held = holds old.core (hold_of view) (λ none. some (sym acted.finds.depth ∙ none))
 
-  sound_history : IsSoundHistory old.terms.header acted.found
-  sound_history first begins = at (answer_to_act old.core (acts.Call HoldClose) view) refl
-    where
-      at : (r : Result Answer RecordRefusal) → answer_to_act old.core (acts.Call HoldClose) view ≡ r → IsSound (end_of old.terms.header first)
-      at (Ok answer) is = subst (λ (seat : CoreView). IsSoundHistory seat.terms.header seat.seen) (made_one (acts.Call HoldClose) old new result acted answer is) acted.sound first (begins_longer acted.found (entry ∷ []) first begins)
-      at (Err why) is = subst (λ (seat : CoreView). IsSoundHistory seat.terms.header seat.seen) (made_none (acts.Call HoldClose) old new result acted why is) acted.sound first begins
+    sound_history : IsSoundHistory old.terms.header acted.found
+    sound_history first begins = at (answer_to_core_action old.core (core_actions.Call HoldClose) view) refl
+      where
+        at : (r : Result Answer RecordRefusal) → answer_to_core_action old.core (core_actions.Call HoldClose) view ≡ r → IsSound (end_of old.terms.header first)
+        at (Ok answer) is = subst (λ (seat : CoreView). IsSoundHistory seat.terms.header seat.seen)
+            (made_one (core_actions.Call HoldClose) old new result acted answer is) acted.sound first (begins_longer acted.found (entry ∷ []) first begins)
+        at (Err why) is = subst (λ (seat : CoreView). IsSoundHistory seat.terms.header seat.seen)
+            (made_none (core_actions.Call HoldClose) old new result acted why is) acted.sound first begins
 
-  -- its task is no idle one, and it needs no room
-  user : nat_lt task old.terms.header.config.cores ≡ false
-  user =
-      let it = its_hold old.core (hold_of view) held in
-      let well = (sound.held it.0 it.1).user in
-      let same = ap (current (table_of view).control) it.2 in
-      let cores = ap (λ (s : Settings). s.cores) (its_settings old.terms.header acted.found sound_history) in
-      grind (arith, nat_tests, well, same, cores)
+    -- its task is no idle one, and it needs no room
+    user : nat_lt task old.terms.header.config.cores ≡ false
+    user =
+        let it = its_hold old.core (hold_of view) held in
+        let well = (sound.held it.0 it.1).user in
+        let same = ap (current (table_of view).control) it.2 in
+        let cores = ap (λ (s : Settings). s.cores) (its_settings old.terms.header acted.found sound_history) in
+        grind (arith, nat_tests, well, same, cores)
 
-  done : answer_to_act old.core (acts.Call HoldClose) view ≡ Ok (answer_to (call_on old.core HoldClose view) view)
-  done =
-      let answer = answer_to (call_on old.core HoldClose view) view in
-      ap (λ b. cond {A = Result Answer RecordRefusal} b (Err IdleHere) (answer_in_room (call_on old.core HoldClose view) view)) user
-      ∙ ap (λ b. cond {A = Result Answer RecordRefusal} (nat_lt (room_of view) (cond b 0 1)) (Err Full) (Ok answer)) held
-      ∙ ap (λ b. cond {A = Result Answer RecordRefusal} b (Err Full) (Ok answer)) {x = nat_lt (room_of view) 0} {y = false} (grind (arith, nat_tests))
+    done : answer_to_core_action old.core (core_actions.Call HoldClose) view ≡ Ok (answer_to (call_on old.core HoldClose view) view)
+    done =
+        let answer = answer_to (call_on old.core HoldClose view) view in
+        ap (λ b. cond {A = Result Answer RecordRefusal} b (Err IdleHere) (answer_in_room (call_on old.core HoldClose view) view)) user
+        ∙ ap (λ b. cond {A = Result Answer RecordRefusal} (nat_lt (room_of view) (cond b 0 1)) (Err Full) (Ok answer)) held
+        ∙ ap (λ b. cond {A = Result Answer RecordRefusal} b (Err Full) (Ok answer)) {x = nat_lt (room_of view) 0} {y = false} (grind (arith, nat_tests))
 
-  abbrev after : CoreView
-  after = record old { seen = acted.found ++ entry ∷ []; made = old.made ++ entry ∷ [] }
+    abbrev after : CoreView
+    after = record old { seen = acted.found ++ entry ∷ []; made = old.made ++ entry ∷ [] }
 
-  is_after : new ≡ after
-  is_after = made_one (acts.Call HoldClose) old new result acted _ done
+    is_after : new ≡ after
+    is_after = made_one (core_actions.Call HoldClose) old new result acted _ done
 
-  step_done : step_of (steps.Call old.core task HoldClose) (table_of view) ≡ (Done, hold_closed old.core (table_of view))
-  step_done = close_done (table_of view) old.core task sound held refl
+    step_done : step_of (steps.Call old.core task HoldClose) (table_of view) ≡ (Done, hold_closed old.core (table_of view))
+    step_done = close_done (table_of view) old.core task sound held refl
 
-  is_close : IsClose entry
-  is_close = (refl, ap (λ (made : Reply × Table). made.0) step_done)
+    is_close : IsClose entry
+    is_close = (refl, ap (λ (made : Reply × Table). made.0) step_done)
 
-  depth_after : depth_at after ≡ depth_of (hold_of view) - 1
-  depth_after =
-      ap (λ (table : Table). depth_by old.core table.hold) (end-push old.terms.header acted.found entry)
-      ∙ ap (λ (made : Reply × Table). depth_by old.core made.1.hold) step_done
-      ∙ closed_by old.core (table_of view)
+    depth_after : depth_at after ≡ depth_of (hold_of view) - 1
+    depth_after =
+        ap (λ (table : Table). depth_by old.core table.hold) (end-push old.terms.header acted.found entry)
+        ∙ ap (λ (made : Reply × Table). depth_by old.core made.1.hold) step_done
+        ∙ closed_by old.core (table_of view)
 
-  pub lower : depth_at new < depth_at old
-  lower =
-      let before : depth_of (hold_of view) ≡ depth_at old = ap (λ b. cond {A = ℕ} b (depth_of (hold_of view)) 0) (sym held) ∙ acted.finds.depth in
-      let now = ap depth_at is_after ∙ depth_after in
-      let none : ¬ (depth_at old ≡ 0) = some in
-      omega (arith, before, now, none)
+    pub lower : depth_at new < depth_at old
+    lower =
+        let before : depth_of (hold_of view) ≡ depth_at old = ap (λ b. cond {A = ℕ} b (depth_of (hold_of view)) 0) (sym held) ∙ acted.finds.depth in
+        let now = ap depth_at is_after ∙ depth_after in
+        let none : ¬ (depth_at old ≡ 0) = some in
+        omega (arith, before, now, none)
 
-  -- one close more since an earlier seat
-  pub closed_more : (first : CoreView) → HasClosed first old → HasClosed first new
-  closed_more first closed = subst (HasClosed first) (sym is_after) (record {
-    same = same_through first old after closed.same (record { pair = refl; terms = refl; core = refl });
-    closes = closed.closes ++ entry ∷ [];
-    made = ap (λ made. made ++ entry ∷ []) closed.made ∙ append_assoc first.made closed.closes (entry ∷ []);
-    are_closes = All-push IsClose closed.closes entry closed.are_closes is_close;
-    begins = begins_through (acted.found ++ entry ∷ []) old.seen first.seen (begins_longer acted.found (entry ∷ []) old.seen acted.finds.begins) closed.begins;
-  })
+    -- one close more since an earlier seat
+    pub closed_more : (first : CoreView) → HasClosed first old → HasClosed first new
+    closed_more first closed = subst (HasClosed first) (sym is_after) (record {
+      same = same_through first old after closed.same (record { pair = refl; terms = refl; core = refl });
+      closes = closed.closes ++ entry ∷ [];
+      made = ap (λ made. made ++ entry ∷ []) closed.made ∙ append_assoc first.made closed.closes (entry ∷ []);
+      are_closes = All-push IsClose closed.closes entry closed.are_closes is_close;
+      begins = begins_through (acted.found ++ entry ∷ []) old.seen first.seen (begins_longer acted.found (entry ∷ []) old.seen acted.finds.begins)
+          closed.begins;
+    })
 
 pub closed_none : (seat : CoreView) → HasClosed seat seat
 closed_none seat = record {

@@ -1,11 +1,12 @@
 -- The depth of a hold, from entry to entry.
-use Rattle.std.proofs.Common.{◌≡◌, ℕ, suc, ◌+◌, ◌-◌, ◌≤◌, Bool, true, false, cond, eqb, List, [], ◌∷◌, ◌++◌, length, drop, Option, Some, None, refl, sym, ap, subst, ◌∙◌, arith, append_assoc}
+use Rattle.std.proofs.Common.{◌≡◌, ℕ, suc, ◌+◌, ◌-◌, ◌≤◌, Bool, true, false, cond, eqb, List, [], ◌∷◌, ◌++◌, length, drop, Option, Some, None, refl, sym, ap}
+use Rattle.std.proofs.Common.{subst, ◌∙◌, arith, append_assoc}
 use Rattle.std.specs.Prelude.{◌≢◌}
 use Rattle.std.specs.Option.{option_map_or}
 use Rattle.std.proofs.lemmas.Bool.Decides.{nat_tests}
 use Rattle.std.proofs.lemmas.List.{append-nil, length_push}
-use Rattle.bench_types.specs.declared.act.Act.{Act}
-use Rattle.bench_types.specs.declared.act.Act.TheVariants as acts
+use Rattle.bench_types.specs.declared.core_action.CoreAction.{CoreAction}
+use Rattle.bench_types.specs.declared.core_action.CoreAction.TheVariants as core_actions
 use Rattle.bench_types.specs.declared.entry.Entry.{Entry}
 use Rattle.bench_types.specs.declared.header.Header.{Header}
 use Rattle.bench_types.specs.declared.kernel_data.Hold.{Hold}
@@ -44,26 +45,27 @@ depth_left core left = at (eqb left 0) refl
     at true none = grind (arith, nat_tests, none)
     at false some = refl
 
-abbrev told : Option Refusal → Step → Table → Reply × Table
-told why step table = option_map_or (λ why. (Refused why, table)) why (performed stamp_queues step table)
+abbrev heard : Option Refusal → Step → Table → Reply × Table
+heard why step table = option_map_or (λ why. (Refused why, table)) why (performed stamp_queues step table)
 
 -- a step lessens the depth by one at the most
 falls_once : (step : Step) (table : Table) → IsSound table → depth_of table.hold ≤ suc (depth_of (step_of step table).1.hold)
 unfolding after performed called hold_opened hold_closed
 falls_once (steps.Call core task HoldOpen) table sound = at (refusal stamp_queues (steps.Call core task HoldOpen) table)
   where
-    at : (why : Option Refusal) → depth_of table.hold ≤ suc (depth_of (told why (steps.Call core task HoldOpen) table).1.hold)
+    at : (why : Option Refusal) → depth_of table.hold ≤ suc (depth_of (heard why (steps.Call core task HoldOpen) table).1.hold)
     at None = omega arith
     at (Some why) = omega arith
 falls_once (steps.Call core task HoldClose) table sound = at (refusal stamp_queues (steps.Call core task HoldClose) table)
   where
-    at : (why : Option Refusal) → depth_of table.hold ≤ suc (depth_of (told why (steps.Call core task HoldClose) table).1.hold)
+    at : (why : Option Refusal) → depth_of table.hold ≤ suc (depth_of (heard why (steps.Call core task HoldClose) table).1.hold)
     at None = omega (arith, depth_left core (depth_of table.hold - 1))
     at (Some why) = omega arith
 falls_once step table sound = omega (arith, ap depth_of (kept_hold table step sound refl))
 
 -- so a beginning is no longer, with its depth, than the history with that of its end
-falls_along : (header : Header) (rest front : List Entry) → IsSoundHistory header (front ++ rest) → length front + depth_of (end_of header front).hold ≤ length (front ++ rest) + depth_of (end_of header (front ++ rest)).hold
+falls_along : (header : Header) (rest front : List Entry) → IsSoundHistory header (front ++ rest) → length front + depth_of (end_of header front).hold ≤ length
+    (front ++ rest) + depth_of (end_of header (front ++ rest)).hold
 falls_along header [] front sound = omega (arith, ap length (append-nil front), ap (λ es. depth_of (end_of header es).hold) (append-nil front))
 falls_along header (entry ∷ rest) front sound =
     let whole : (front ++ entry ∷ []) ++ rest ≡ front ++ entry ∷ rest = append_assoc front (entry ∷ []) rest in
@@ -72,7 +74,8 @@ falls_along header (entry ∷ rest) front sound =
     let pushed = ap (λ (table : Table). depth_of table.hold) (end-push header front entry) in
     omega (arith, later, step, pushed, length_push front entry, ap length whole, ap (λ es. depth_of (end_of header es).hold) whole)
 
-pub long_enough : (header : Header) (entries first : List Entry) → IsSoundHistory header entries → (end_of header entries).hold ≡ None → StartsWith entries first → length first + depth_of (end_of header first).hold ≤ length entries
+pub long_enough : (header : Header) (entries first : List Entry) → IsSoundHistory header entries → (end_of header entries).hold ≡ None → StartsWith entries
+    first → length first + depth_of (end_of header first).hold ≤ length entries
 long_enough header entries first sound unheld begins =
     let rest = drop (length first) entries in
     let whole : entries ≡ first ++ rest = split_at entries first begins in
@@ -80,7 +83,8 @@ long_enough header entries first sound unheld begins =
     omega (arith, all, ap length whole, ap (λ es. depth_of (end_of header es).hold) whole, ap depth_of unheld)
 
 -- the settings stay
-settings_along : (header : Header) (rest front : List Entry) → IsSoundHistory header (front ++ rest) → (end_of header (front ++ rest)).settings ≡ (end_of header front).settings
+settings_along : (header : Header) (rest front : List Entry) → IsSoundHistory header (front ++ rest) → (end_of header (front ++ rest)).settings ≡
+    (end_of header front).settings
 settings_along header [] front sound = ap (λ es. (end_of header es).settings) (append-nil front)
 settings_along header (entry ∷ rest) front sound =
     let whole : (front ++ entry ∷ []) ++ rest ≡ front ++ entry ∷ rest = append_assoc front (entry ∷ []) rest in
@@ -105,12 +109,15 @@ close_opens_none core task table some = at (refusal stamp_queues (steps.Call cor
         let zero : hold.depth ≡ 0 = ap (λ b. cond {A = ℕ} b hold.depth 0) (sym own) ∙ none in
         some (ap (λ depth. depth_by core (closed_once core (depth - 1))) zero)
 
-    at : (why : Option Refusal) → refusal stamp_queues (steps.Call core task HoldClose) table ≡ why → depth_by core (told why (steps.Call core task HoldClose) table).1.hold ≢ 0 → depth_by core table.hold ≢ 0
+    at : (why : Option Refusal) → refusal stamp_queues (steps.Call core task HoldClose) table ≡ why → depth_by core
+        (heard why (steps.Call core task HoldClose) table).1.hold ≢ 0 → depth_by core table.hold ≢ 0
     at None none some = by_hold table.hold (accepted stamp_queues core task HoldClose table none).free some
     at (Some why) is some = some
 
 -- a core holds the kernel after an act that opens no hold only where it did before
-pub opens_none : (core : ℕ) (act : Act) (view : RecordingView) → IsSound (table_of view) → opens_hold act ≡ false → depth_by core (step_of (act_on core act view) (table_of view)).1.hold ≢ 0 → depth_by core (hold_of view) ≢ 0
-opens_none core (acts.Call HoldOpen) view sound none some = absurd (cc none)
-opens_none core (acts.Call HoldClose) view sound none some = close_opens_none core _ (table_of view) some
-opens_none core act view sound none some = λ zero. some (ap (depth_by core) (kept_hold (table_of view) (act_on core act view) sound refl) ∙ zero)
+pub opens_none : (core : ℕ) (core_action : CoreAction) (view : RecordingView) → IsSound (table_of view) → opens_hold core_action ≡ false → depth_by core
+    (step_of (act_on core core_action view) (table_of view)).1.hold ≢ 0 → depth_by core (hold_of view) ≢ 0
+opens_none core (core_actions.Call HoldOpen) view sound none some = absurd (cc none)
+opens_none core (core_actions.Call HoldClose) view sound none some = close_opens_none core _ (table_of view) some
+opens_none core core_action view sound none some = λ zero. some (ap (depth_by core) (kept_hold (table_of view) (act_on core core_action view) sound refl) ∙
+    zero)

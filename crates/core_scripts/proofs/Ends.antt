@@ -1,5 +1,6 @@
 -- The end of a core's part, and of all parts.
-use Rattle.std.proofs.Common.{inl, inr, ◌≡◌, ℕ, suc, ◌+◌, ◌<◌, ◌==◌, ◌&&◌, ◌||◌, zero, Bool, true, false, cond, List, [], ◌∷◌, ◌++◌, length, map, get_or, None, Ok, Err, Result, All, refl, sym, ap, subst, ◌∙◌, arith}
+use Rattle.std.proofs.Common.{inl, inr, ◌≡◌, ℕ, suc, ◌+◌, ◌<◌, ◌==◌, ◌&&◌, ◌||◌, zero, Bool, true, false, cond, List, [], ◌∷◌, ◌++◌, length, map, get_or, None}
+use Rattle.std.proofs.Common.{Ok, Err, Result, All, refl, sym, ap, subst, ◌∙◌, arith}
 use Rattle.std.specs.Prelude.{◌⊎◌, ⊤}
 use Rattle.std.specs.List.{list_any}
 use Rattle.std.proofs.lemmas.Bool.Decides.{nat_tests}
@@ -9,7 +10,7 @@ use Rattle.bench_types.specs.Step.{settings_of}
 use Rattle.std.proofs.lemmas.List.FromFn.{get_or-range_with_len, length-range_with_len}
 use Rattle.std.proofs.lemmas.List.Sums.{list_all-from_AllPass}
 use Rattle.std.proofs.Math.ListN.{get_or-map}
-use Rattle.bench_types.specs.declared.act.Act.{Act}
+use Rattle.bench_types.specs.declared.core_action.CoreAction.{CoreAction}
 use Rattle.bench_types.specs.declared.entry.Entry.{Entry}
 use Rattle.bench_types.specs.declared.header.Header.{Header}
 use Rattle.list_orders.specs.Search.{numbers}
@@ -26,13 +27,13 @@ use Rattle.core_rig.specs.declared.fault.CloseFault.TheVariants.{WrongSeats, Hol
 use Rattle.core_rig.specs.Seats.{CoreView, IsSeatOf, depth_at, new_seat, recording_of}
 use Rattle.core_scripts.specs.Parts.{HasClosed, HasEnded, HasIdleOn, HasLessRoom, IsUnderWay}
 use Rattle.core_scripts.specs.Played.{ArePlayed, IsPlayed}
-use Rattle.core_scripts.specs.Scripts.{AreScripts, IsScriptOf, SwitchesAndHolds, acts_of, interrupts_of}
+use Rattle.core_scripts.specs.Scripts.{AreScripts, IsScriptOf, SwitchesAndHolds, core_actions_of, interrupts_of}
 use Rattle.core_scripts.specs.Threads.{AreEnded, HasDonePart}
 use Rattle.core_scripts.proofs.Depths.{long_enough}
 use Rattle.core_scripts.proofs.Parts.{kept_still}
 
 -- a core that made all actions, and then closed its hold
-pub has_ended : (script : List Act) (old new : CoreView) → IsUnderWay script old → HasClosed old new → depth_at new ≡ 0 → HasEnded script new
+pub has_ended : (script : List CoreAction) (old new : CoreView) → IsUnderWay script old → HasClosed old new → depth_at new ≡ 0 → HasEnded script new
 has_ended script old new under closed rests = record {
   kept = old.made;
   closes = closed.closes;
@@ -43,7 +44,9 @@ has_ended script old new under closed rests = record {
 }
 
 -- what a core knows of its part, in the history at the end
-module _ (header : Header) (limit : ℕ) (entries : List Entry) (seat : CoreView) (script : List Act) (sound : IsSoundHistory header entries) (unheld : (end_of header entries).hold ≡ None) (terms : seat.terms ≡ record { header = header; limit = limit }) (end : IsEndOf entries seat) (ended : HasEnded script seat) where
+module _ (header : Header) (limit : ℕ) (entries : List Entry) (seat : CoreView) (script : List CoreAction) (sound : IsSoundHistory header entries)
+    (unheld : (end_of header entries).hold ≡ None) (terms : seat.terms ≡ record { header = header; limit = limit }) (end : IsEndOf entries seat)
+    (ended : HasEnded script seat) where
   -- where there was less room, there are as many entries in the end
   full_at : (places : ℕ) → 0 < places → HasLessRoom places seat → limit < length entries + places
   full_at places some less =
@@ -69,11 +72,13 @@ module _ (header : Header) (limit : ℕ) (entries : List Entry) (seat : CoreView
     all = λ few. at_all few ended.is_kept.all;
   }
     where
-      at : length entries < limit → (interrupts_of (acts_of ended.kept) ≡ interrupts_of script) ⊎ HasLessRoom 1 seat → interrupts_of (acts_of ended.kept) ≡ interrupts_of script
+      at : length entries < limit → (interrupts_of (core_actions_of ended.kept) ≡ interrupts_of script) ⊎ HasLessRoom 1 seat → interrupts_of
+          (core_actions_of ended.kept) ≡ interrupts_of script
       at few (inl same) = same
       at few (inr less) = absurd (omega (arith, few, full_at 1 (omega arith) less))
 
-      at_all : suc (length entries) < limit → (acts_of ended.kept ≡ script) ⊎ HasIdleOn seat.terms.header seat.core seat.seen ⊎ HasLessRoom 2 seat ⊎ SwitchesAndHolds script → (acts_of ended.kept ≡ script) ⊎ HasIdleOn header seat.core entries ⊎ SwitchesAndHolds script
+      at_all : suc (length entries) < limit → (core_actions_of ended.kept ≡ script) ⊎ HasIdleOn seat.terms.header seat.core seat.seen ⊎ HasLessRoom 2 seat ⊎
+          SwitchesAndHolds script → (core_actions_of ended.kept ≡ script) ⊎ HasIdleOn header seat.core entries ⊎ SwitchesAndHolds script
       at_all few (inl same) = inl same
       at_all few (inr (inl idle)) = inr (inl (idle_at idle))
       at_all few (inr (inr (inl less))) = absurd (omega (arith, few, full_at 2 (omega arith) less))
@@ -95,14 +100,15 @@ abbrev outcome : Bool → Bool → Bool → Result ⊤ CloseFault
 outcome long all none = cond (long && all) (cond none (Ok tt) (Err HoldOpen)) (Err WrongSeats)
 
 -- the seats of all cores
-module _ (rig : PairView) (scripts : List (List Act)) (seats : List CoreView) (are : AreEnded rig scripts seats) where
+module _ (rig : PairView) (scripts : List (List CoreAction)) (seats : List CoreView) (are : AreEnded rig scripts seats) where
   as_many : length seats ≡ length scripts
   as_many = are.count
 
   core_at : (k : ℕ) (d : CoreView) → k < length seats → (get_or seats k d).core ≡ k
   core_at k d less = (are.done k d less).core_is
 
-  pub played_each : (header : Header) (limit : ℕ) (entries : List Entry) → IsSoundHistory header entries → (end_of header entries).hold ≡ None → rig.terms ≡ record { header = header; limit = limit } → All (IsEndOf entries) seats → ArePlayed header limit entries scripts
+  pub played_each : (header : Header) (limit : ℕ) (entries : List Entry) → IsSoundHistory header entries → (end_of header entries).hold ≡ None → rig.terms ≡
+      record { header = header; limit = limit } → All (IsEndOf entries) seats → ArePlayed header limit entries scripts
   played_each header limit entries sound unheld terms ends core below =
       let d = new_seat rig 0 in
       let less : core < length seats = omega (arith, below, as_many) in
@@ -158,22 +164,24 @@ module _ (rig : PairView) (front rest : List CoreView) (seat : CoreView) (are : 
   pub nth_new : seat ≡ new_seat rig seat.core
   nth_new = nth_seat ∙ ap (new_seat rig) (sym nth_core)
 
-  module _ (scripts : List (List Act)) (its : AreScripts rig.terms.header scripts) (cores : rig.cores ≡ rig.terms.header.config.cores) where
+  module _ (scripts : List (List CoreAction)) (its : AreScripts rig.terms.header scripts) (cores : rig.cores ≡ rig.terms.header.config.cores) where
     pub nth_below : seat.core < length scripts
     nth_below = omega (arith, seats_left, nth_core, cores, its.one_per_core)
 
-    pub nth_script : (script : List Act) → script ≡ get_or scripts seat.core [] → IsScriptOf (settings_of seat.terms.header) seat.core script
+    pub nth_script : (script : List CoreAction) → script ≡ get_or scripts seat.core [] → IsScriptOf (settings_of seat.terms.header) seat.core script
     nth_script script is =
         subst (λ script. IsScriptOf (settings_of seat.terms.header) seat.core script) (sym is)
         (subst (λ (terms : Terms). IsScriptOf (settings_of terms.header) seat.core (get_or scripts seat.core [])) (sym nth_own.1)
-        (its.acts seat.core nth_below))
+        (its.core_actions seat.core nth_below))
 
-pub done_at : (rig its : PairView) (core number : ℕ) (script acts : List Act) (seat : CoreView) → its ≡ rig → acts ≡ script → number ≡ core → HasDonePart its number acts seat → HasDonePart rig core script seat
-done_at rig its core number script acts seat one two three done =
+pub done_at : (rig its : PairView) (core number : ℕ) (script core_actions : List CoreAction) (seat : CoreView) → its ≡ rig → core_actions ≡ script → number ≡
+    core → HasDonePart its number core_actions seat → HasDonePart rig core script seat
+done_at rig its core number script core_actions seat one two three done =
     subst (λ rig. HasDonePart rig core script seat) one
-    (subst (λ script. HasDonePart its core script seat) two (subst (λ core. HasDonePart its core acts seat) three done))
+    (subst (λ script. HasDonePart its core script seat) two (subst (λ core. HasDonePart its core core_actions seat) three done))
 
-pub all_taken : (rig : PairView) (front rest : List CoreView) → map (new_seat rig) (numbers rig.cores) ≡ front ++ rest → length rest ≡ 0 → length front ≡ rig.cores
+pub all_taken : (rig : PairView) (front rest : List CoreView) → map (new_seat rig) (numbers rig.cores) ≡ front ++ rest → length rest ≡ 0 → length front ≡
+    rig.cores
 all_taken rig front rest are none =
     let long = ap length are in
     let left = none in

@@ -1,13 +1,13 @@
 //! What one core's thread does of its script.
 ghost use Rattle.std.specs.Prelude.{◌≡◌, Ok};
-ghost use Rattle.bench_types.specs.Act.{act_check};
+ghost use Rattle.bench_types.specs.CoreAction.{core_action_check};
 ghost use Rattle.bench_types.specs.Step.{settings_of};
 ghost use Rattle.core_rig.specs.Seats.{IsSameSeat, IsSeatOf, depth_at, new_seat};
 ghost use Rattle.core_scripts.specs.Parts.{DoesAct, HasClosed, HasEnded, IsUnderWay};
 ghost use Rattle.core_scripts.specs.Scripts.{IsScriptOf};
 
 use crate::gate::Gate;
-use bench_types::{Act, Call};
+use bench_types::{Call, CoreAction};
 use core_rig::{Answer, CoreSeat, Rig, RigRefusal};
 use std::sync::Wait;
 
@@ -17,7 +17,7 @@ pub(crate) fn part_played<R: Wait, G: Gate>(
     rt: &R,
     rig: &Rig,
     mut seat: CoreSeat,
-    script: &[Act],
+    script: &[CoreAction],
     gate: &G,
 ) -> CoreSeat
     requires own { IsSeatOf rig.now seat }
@@ -31,30 +31,42 @@ pub(crate) fn part_played<R: Wait, G: Gate>(
     seat
 }
 
-fn act_all<R: Wait, G: Gate>(rt: &R, rig: &Rig, seat: &mut CoreSeat, script: &[Act], gate: &G)
+fn act_all<R: Wait, G: Gate>(
+    rt: &R,
+    rig: &Rig,
+    seat: &mut CoreSeat,
+    script: &[CoreAction],
+    gate: &G,
+)
     requires own { IsSeatOf rig.now seat.old }
     requires new { seat.old ≡ new_seat rig.now seat.old.core }
     requires script { IsScriptOf (settings_of seat.old.terms.header) seat.old.core script.now }
     ensures same { IsSameSeat seat.old seat.new }
     ensures played { IsUnderWay script.now seat.new }
 {
-    for (done, act) in script.iter().enumerate() {
+    for (done, core_action) in script.iter().enumerate() {
         gate.pass(seat.core(), u32::try_from(done).unwrap_or(u32::MAX));
-        let _passed_over = act_once(rt, rig, seat, *act);
+        let _passed_over = act_once(rt, rig, seat, *core_action);
     }
 }
 
-fn act_once<R: Wait>(rt: &R, rig: &Rig, seat: &mut CoreSeat, act: Act) -> Result<Answer, RigRefusal>
+fn act_once<R: Wait>(
+    rt: &R,
+    rig: &Rig,
+    seat: &mut CoreSeat,
+    core_action: CoreAction,
+) -> Result<Answer, RigRefusal>
     requires own { IsSeatOf rig.now seat.old }
-    requires act { act_check (settings_of seat.old.terms.header) seat.old.core act ≡ Ok tt }
+    requires core_action { core_action_check (settings_of seat.old.terms.header) seat.old.core
+        core_action ≡ Ok tt }
     ensures same { IsSameSeat seat.old seat.new }
-    ensures does { DoesAct act seat.old seat.new result }
+    ensures does { DoesAct core_action seat.old seat.new result }
 {
-    match act {
-        Act::Call(call) => seat.call(rt, rig, call),
-        Act::Interrupt(note) => seat.interrupt(rt, rig, note),
-        Act::Tick => seat.tick(rt, rig),
-        Act::Switch => seat.switch(rt, rig),
+    match core_action {
+        CoreAction::Call(call) => seat.call(rt, rig, call),
+        CoreAction::Interrupt(note) => seat.interrupt(rt, rig, note),
+        CoreAction::Tick => seat.tick(rt, rig),
+        CoreAction::Switch => seat.switch(rt, rig),
     }
 }
 

@@ -16,7 +16,7 @@ ghost use Rattle.core_scripts.specs.Threads.{AreEnded, HasDonePart};
 
 use crate::gate::Gate;
 use crate::part::part_played;
-use bench_types::{Act, Header, Items};
+use bench_types::{CoreAction, Header, Items};
 use core_rig::{CoreSeat, Recorded, Rig, RigFault};
 use std::alloc::{AllocError, Global};
 use std::sync::Wait;
@@ -26,7 +26,7 @@ use std::thread::{self, Promise, Threads};
 #[derive(Clone, Copy)]
 struct Part<'a> {
     rig: &'a Rig,
-    script: &'a [Act],
+    script: &'a [CoreAction],
     core: u32,
 }
 
@@ -48,7 +48,7 @@ pub fn play<R: Threads + Wait + Sync, G: Gate>(
     alloc: Global,
     header: &Header,
     limit: u32,
-    scripts: &[Items<Act>],
+    scripts: &[Items<CoreAction>],
     gate: &G,
 ) -> Result<Recorded, AllocError>
     requires header { header_check header.now ≡ Ok tt }
@@ -82,7 +82,7 @@ fn all_parts<R: Threads + Wait + Sync, G: Gate>(
     alloc: Global,
     rig: &Rig,
     seats: Vec<CoreSeat>,
-    scripts: &[Items<Act>],
+    scripts: &[Items<CoreAction>],
     gate: &G,
 ) -> Result<Vec<CoreSeat>, AllocError>
     requires seats { seats.items ≡ map (new_seat rig.now) (numbers rig.now.cores) }

@@ -3,12 +3,12 @@ ghost use Rattle.std.specs.Prelude.{◌≡◌, IfOk, OnOk};
 ghost use Rattle.session_store.specs.Outcomes.{after_edit, answer};
 
 use bench_types::{Edit, EditFault};
-use session_store::{Outcome, Store, StoreFault, Tracing};
+use session_store::{KeptResults, Outcome, Store, StoreFault};
 use smp_kernel::Meter;
 use std::alloc::{AllocError, Global};
 
 /// Makes an edit, and tells what it led to. One that is refused changes nothing.
-pub fn answer_to_edit<K: Tracing>(
+pub fn answer_to_edit<K: KeptResults>(
     alloc: Global,
     meter: &mut Meter,
     store: &mut Store<K>,

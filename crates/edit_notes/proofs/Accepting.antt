@@ -19,9 +19,11 @@ use Rattle.bench_model.specs.Edits.{accepted, after_edit, args_of, changed, edit
 abbrev pub by_tests : Bool → Bool → Result (Unit {0}) EditFault
 by_tests place room = (if place then Ok tt else Err NoPlace) >> (if room then Ok tt else Err TooLong)
 
-pub of_checked : (session : Session) (edit : Edit) (place room : Bool) → edit_check session.header edit ≡ Ok tt → has_place session.steps edit ≡ place → has_room session.steps edit ≡ room → accepted session edit ≡ by_tests place room
+pub of_checked : (session : Session) (edit : Edit) (place room : Bool) → edit_check session.header edit ≡ Ok tt → has_place session.steps edit ≡ place →
+    has_room session.steps edit ≡ room → accepted session edit ≡ by_tests place room
 of_checked session edit place room fits there enough =
-    ap (λ (check : Result (Unit {0}) Fault). result_map_both (λ _. tt) Bench check >> (if has_place session.steps edit then Ok tt else Err NoPlace) >> (if has_room session.steps edit then Ok tt else Err TooLong)) fits
+    ap (λ (check : Result (Unit {0}) Fault). result_map_both (λ _. tt) Bench check >> (if has_place session.steps edit then Ok tt else Err NoPlace) >>
+    (if has_room session.steps edit then Ok tt else Err TooLong)) fits
     ∙ ap (λ (b : Bool). by_tests b (has_room session.steps edit)) there ∙ ap (by_tests place) enough
 
 pub session_is : (session : Session) (edit : Edit) → accepted session edit ≡ Ok tt → after_edit session edit ≡ edited edit session
@@ -57,7 +59,8 @@ after_check session made edit = at (is_ok (accepted session made))
     at true = edited_check session made edit
     at false = refl
 
-pub still_checked : (session : Session) (made : Edit) (edits : List Edit) → All (IsCheckedEdit session.header) edits → All (IsCheckedEdit (after_edit session made).header) edits
+pub still_checked : (session : Session) (made : Edit) (edits : List Edit) → All (IsCheckedEdit session.header) edits → All
+    (IsCheckedEdit (after_edit session made).header) edits
 still_checked session made edits checked = λ k d within. record {
   passes = after_check session made (get_or edits k d) ∙ (checked k d within).passes;
   words = (checked k d within).words;

@@ -1,4 +1,4 @@
 mod RefusedLaws
-mod Told
+mod Printed
 pub mod Accepting
 pub mod Places

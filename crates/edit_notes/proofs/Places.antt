@@ -12,13 +12,16 @@ use Rattle.edit_notes.specs.Refused.{places_of, refused_at, refused_by, refused_
 pub none_at : (session : Session) (edit : Edit) (index : ℕ) → accepted session edit ≡ Ok tt → places_of (refused_at index session edit) ≡ []
 none_at session edit index accepts = ap (λ (check : Result (Unit {0}) EditFault). places_of (refused_by index (length session.steps) check)) accepts
 
-pub one_at : (session : Session) (edit : Edit) (index : ℕ) (why : EditFault) → accepted session edit ≡ Err why → places_of (refused_at index session edit) ≡ index ∷ []
+pub one_at : (session : Session) (edit : Edit) (index : ℕ) (why : EditFault) → accepted session edit ≡ Err why → places_of (refused_at index session edit) ≡
+    index ∷ []
 one_at session edit index why refuses = ap (λ (check : Result (Unit {0}) EditFault). places_of (refused_by index (length session.steps) check)) refuses
 
 -- the places of one edit more, and those of the edits that are left
-pub places_on : (session later : Session) (edits : List Edit) (index : ℕ) (places more all : List ℕ) (d : Edit) → index < length edits → later ≡ after_edit session (get_or edits index d)
+pub places_on : (session later : Session) (edits : List Edit) (index : ℕ) (places more all : List ℕ) (d : Edit) → index < length edits → later ≡ after_edit
+    session (get_or edits index d)
     → more ≡ places ++ places_of (refused_at index session (get_or edits index d))
-    → places ++ places_of (refused_from index session (drop index edits)) ≡ all → more ++ places_of (refused_from (index + 1) later (drop (index + 1) edits)) ≡ all
+    → places ++ places_of (refused_from index session (drop index edits)) ≡ all → more ++ places_of (refused_from (index + 1) later (drop (index + 1) edits)) ≡
+    all
 places_on session later edits index places more all d within leads pushed were =
     let edit = get_or edits index d in
     let here = refused_at index session edit in
@@ -34,6 +37,7 @@ places_on session later edits index places more all d within leads pushed were =
     ∙ ap (λ (some : List ℕ). places ++ some) (sym split) ∙ were)
 
 -- all places
-pub places_end : (session : Session) (edits : List Edit) (index : ℕ) (places all : List ℕ) → length edits ≤ index → places ++ places_of (refused_from index session (drop index edits)) ≡ all → places ≡ all
+pub places_end : (session : Session) (edits : List Edit) (index : ℕ) (places all : List ℕ) → length edits ≤ index → places ++ places_of
+    (refused_from index session (drop index edits)) ≡ all → places ≡ all
 places_end session edits index places all past were =
     sym (append-nil places) ∙ ap (λ (list : List Edit). places ++ places_of (refused_from index session list)) (sym (drop_all index edits past)) ∙ were

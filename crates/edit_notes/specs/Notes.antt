@@ -37,7 +37,7 @@ trial_notes session [] = codes "no edits: nothing was tried\n"
 trial_notes session (edit ∷ edits) = flat_map refused_line (untried_from 0 session (edit ∷ edits))
 
 -- something is told of edits that are made one after another where one is refused, and else nothing
-abbrev pub RefusedAreTold : Type 0
-RefusedAreTold =
+abbrev pub RefusedArePrinted : Type 0
+RefusedArePrinted =
     (session : Session) (edits : List Edit)
     → (edit_notes session edits ≡ []) ↔ (refused_edits session edits ≡ [])

@@ -1,5 +1,5 @@
 //! The laws of edits that are refused.
-ghost use Rattle.edit_notes.specs.Notes.{RefusedAreTold};
+ghost use Rattle.edit_notes.specs.Notes.{RefusedArePrinted};
 ghost use Rattle.edit_notes.specs.Refused.{RefusedAreThese};
 
 /// What is told of refused edits. It does nothing: its contract is the laws.
@@ -7,5 +7,5 @@ pub fn laws_of_refused_edits()
     // Those are told that are refused, each by its place, and no others.
     ensures these { RefusedAreThese }
     // Nothing is told where none is refused.
-    ensures told { RefusedAreTold }
+    ensures printed { RefusedArePrinted }
 {}

@@ -78,7 +78,7 @@ fn push_if_refused(
         (λ after. (session : Session) → length session.steps ≡ steps
         → edit_check session.header edit.now ≡ Ok tt
         → length (after_edit session edit.now).steps ≡ after) }
-    ensures told { OnOk result
+    ensures printed { OnOk result
         ((session : Session) → length session.steps ≡ steps
         → edit_check session.header edit.now ≡ Ok tt
         → string_bytes text.new

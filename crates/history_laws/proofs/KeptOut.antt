@@ -12,7 +12,10 @@ use Rattle.bench_types.specs.declared.step.Step.{Step}
 use Rattle.bench_types.specs.declared.step.Step.TheVariants.{Tick, Switch, Interrupt}
 use Rattle.bench_types.specs.declared.step.Step.TheVariants as steps
 use Rattle.bench_types.specs.declared.step.Call.{Call}
-use Rattle.bench_types.specs.declared.step.Call.TheVariants.{Yield, Delay, DelayUntil, Finish, PrioritySet, AffinitySet, PreemptOff, PreemptOn, Notify, NotifyWait, NotifyTake, StateClear, ValueClear, MutexTake, MutexGive, HoldOpen, HoldClose}
+use Rattle.bench_types.specs.declared.step.Call.TheVariants.{Yield, Delay, DelayUntil, Finish, PrioritySet, AffinitySet, PreemptOff, PreemptOn, Notify}
+use Rattle.bench_types.specs.declared.step.Call.TheVariants.{NotifyWait, NotifyTake, StateClear, ValueClear, MutexTake, MutexGive, HoldOpen, HoldClose}
+use Rattle.bench_types.specs.declared.step.BlockingCall.{BlockingCall}
+use Rattle.bench_types.specs.declared.step.BlockingCall.TheVariants as blocking
 use Rattle.bench_types.specs.declared.step.Unfinished.{Unfinished}
 use Rattle.bench_types.specs.declared.step.Unfinished.TheVariants.{Made, Take}
 use Rattle.bench_types.specs.Limits.{max_depth}
@@ -20,7 +23,7 @@ use Rattle.list_orders.specs.Search.{numbers}
 use Rattle.bench_model.specs.Control.{current, is_due}
 use Rattle.bench_model.specs.History.{is_kept_out}
 use Rattle.bench_model.specs.Holds.{is_held_by, is_held_elsewhere, depth_of}
-use Rattle.bench_model.specs.Mutexes.{mutex_take, mutex_give, take_finished}
+use Rattle.bench_model.specs.Mutexes.{take_from, mutex_take, finish_from, take_finished, give_from, mutex_give}
 use Rattle.bench_model.specs.Notifying.{interrupted, state_forgotten, bits_cleared, completed, awaited}
 use Rattle.bench_model.specs.Refusals.{call_refusal, opens_hold, closes_hold, give_refusal, would_block, hold_refusal, own_refusal, refusal}
 use Rattle.bench_model.specs.Seek.{after_switch}
@@ -49,27 +52,48 @@ module _ {S : Type 0} where
   some_made f None none each otherwise = otherwise
 
 module _ {Orders : Type 0} (ops : QueueOps Orders) where
-  completed_made : (task : ℕ) (call : Call) (state : State Orders) → IsMade (completed task call state)
+  completed_made : (task : ℕ) (call : BlockingCall) (state : State Orders) → IsMade (completed task call state)
   unfolding completed
-  completed_made task (NotifyWait entry exit ticks index) state = refl
-  completed_made task (NotifyTake clear ticks index) state = refl
+  completed_made task (blocking.NotifyWait entry exit ticks index) state = refl
+  completed_made task (blocking.NotifyTake clear ticks index) state = refl
   completed_made task call state = refl
 
   take_finished_made : (core task mutex : ℕ) (mark : Bool) (state : State Orders) → IsMade (take_finished ops core task mutex mark state)
   unfolding take_finished
-  take_finished_made core task mutex mark state = some_made _ (holder_at state.holders mutex) _ (λ holder. search (rules, either_made)) refl
+  take_finished_made core task mutex mark state = at (holder_at state.holders mutex)
+    where
+      at : (holder : Option ℕ) → IsMade (finish_from ops holder core task mutex mark state)
+      at None = refl
+      at (Some holder) = search (rules, either_made)
+
+  take_made : (core task mutex ticks : ℕ) (state : State Orders) → IsMade (mutex_take ops core task mutex ticks state)
+  unfolding mutex_take
+  take_made core task mutex ticks state = at (holder_at state.holders mutex)
+    where
+      at : (holder : Option ℕ) → IsMade (take_from ops holder core task mutex ticks state)
+      at None = refl
+      at (Some holder) = either_made (eqb ticks 0) _ _ refl refl
+
+  give_made : (core task mutex : ℕ) (state : State Orders) → IsMade (mutex_give ops core task mutex state)
+  unfolding mutex_give
+  give_made core task mutex state = at (holder_at state.holders mutex)
+    where
+      at : (holder : Option ℕ) → IsMade (give_from ops holder core task mutex state)
+      at None = refl
+      at (Some holder) = refl
 
   finish_made : (core task : ℕ) (call : Unfinished) (state : State Orders) → IsMade (after_finish ops core task call state)
   unfolding after_finish
   finish_made core task (Made call) state = completed_made task call _
   finish_made core task (Take mutex mark) state = take_finished_made core task mutex mark state
 
-  awaited_made : (core task : ℕ) (call : Call) (ticks : ℕ) (begun : Bool × List _) (state : State Orders) → IsMade (awaited ops core task call ticks begun state)
+  awaited_made : (core task : ℕ) (call : BlockingCall) (ticks : ℕ) (entered : Bool × List _) (state : State Orders) → IsMade
+      (awaited ops core task call ticks entered state)
   unfolding awaited
-  awaited_made core task call ticks begun state = search (rules, either_made, completed_made)
+  awaited_made core task call ticks entered state = search (rules, either_made, completed_made)
 
   called_made : (core task : ℕ) (call : Call) (state : State Orders) → IsMade (called ops core task call state)
-  unfolding called delayed_until state_forgotten bits_cleared mutex_take mutex_give
+  unfolding called delayed_until state_forgotten bits_cleared
   called_made core task Yield state = refl
   called_made core task (Delay ticks) state = either_made (eqb ticks 0) _ _ refl refl
   called_made core task (DelayUntil prev inc) state = search (rules, either_made)
@@ -83,8 +107,8 @@ module _ {Orders : Type 0} (ops : QueueOps Orders) where
   called_made core task (NotifyTake clear ticks index) state = awaited_made core task _ ticks _ state
   called_made core task (StateClear other index) state = refl
   called_made core task (ValueClear other bits index) state = refl
-  called_made core task (MutexTake mutex ticks) state = some_made _ (holder_at state.holders mutex) _ (λ holder. search (rules, either_made)) refl
-  called_made core task (MutexGive mutex) state = some_made _ (holder_at state.holders mutex) _ (λ holder. refl) refl
+  called_made core task (MutexTake mutex ticks) state = take_made core task mutex ticks state
+  called_made core task (MutexGive mutex) state = give_made core task mutex state
   called_made core task HoldOpen state = refl
   called_made core task HoldClose state = refl
 
@@ -146,25 +170,29 @@ module _ {Orders : Type 0} (ops : QueueOps Orders) where
   refusal_held (Switch core) state = either_held (is_some state.hold) _ (either_free (is_due state.control core) None (Some NotDue) refl refl)
   refusal_held (steps.Call core task call) state = either_held (is_held_elsewhere core state.hold) _ (own_free core task call state)
 
-  told : Option Refusal → Step → State Orders → Reply × State Orders
-  told why step state = option_map_or (λ why. (Refused why, state)) why (performed ops step state)
+  known : Option Refusal → Step → State Orders → Reply × State Orders
+  known why step state = option_map_or (λ why. (Refused why, state)) why (performed ops step state)
 
-  is_told : (why : Option Refusal) (step : Step) (state : State Orders) → (told why step state).0 ≡ Refused Held → says_held why ≡ true
-  unfolding told
-  is_told None step state is = absurd (cc (performed_made ops step state))
-  is_told (Some why) step state is = ap (λ (why : Refusal). says_held (Some why)) (same_refusal why is)
+  is_known : (why : Option Refusal) (step : Step) (state : State Orders) → (known why step state).0 ≡ Refused Held → says_held why ≡ true
+  unfolding known
+  is_known None step state is = absurd (cc (performed_made ops step state))
+  is_known (Some why) step state is = ap (λ (why : Refusal). says_held (Some why)) (same_refusal why is)
     where
       same_refusal : (why : Refusal) → Refused why ≡ Refused Held → why ≡ Held
       same_refusal why is = cc
 
-  tells : (why : Option Refusal) (step : Step) (state : State Orders) → says_held why ≡ true → (told why step state).0 ≡ Refused Held
-  unfolding told
+  tells : (why : Option Refusal) (step : Step) (state : State Orders) → says_held why ≡ true → (known why step state).0 ≡ Refused Held
+  unfolding known
   tells (Some Held) step state is = refl
   tells why step state is = absurd (cc is)
 
   pub held_where_kept_out : (state : State Orders) (step : Step) → ((after ops step state).0 ≡ Refused Held ↔ is_kept_out state.hold step ≡ true)
-  unfolding after told
-  held_where_kept_out state step = (λ is. sym (refusal_held step state) ∙ is_told (refusal ops step state) step state is, λ kept. tells (refusal ops step state) step state (refusal_held step state ∙ kept))
+  unfolding after known
+  held_where_kept_out state step = (
+    λ is. sym (refusal_held step state) ∙ is_known (refusal ops step state) step state is,
+    λ kept. tells
+        (refusal ops step state) step state (refusal_held step state ∙ kept),
+  )
 
 pub held_kept_out : (table : Table) (step : Step) → ((step_of step table).0 ≡ Refused Held ↔ is_kept_out table.hold step ≡ true)
 held_kept_out table step = held_where_kept_out stamp_queues table step

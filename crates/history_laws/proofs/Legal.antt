@@ -37,27 +37,33 @@ end-push header entries entry =
 -- what holds of each item and of one more
 module _ {X : Type 0} (P : X → Type 0) where
   pub All_front : (first rest : List X) → All P (first ++ rest) → All P first
-  All_front first rest all = All-same P first (take (length first) (first ++ rest)) (sym (take-append_seam first rest)) (All-take P (length first) (first ++ rest) all)
+  All_front first rest all = All-same P first (take (length first) (first ++ rest)) (sym (take-append_seam first rest))
+      (All-take P (length first) (first ++ rest) all)
 
   All_last : (items : List X) (item : X) → All P (items ++ item ∷ []) → P item
-  All_last items item all = subst P (get_or-append_seam items item [] item) (All-get_or P (items ++ item ∷ []) (length items) item (omega (arith, length-append items (item ∷ []))) all)
+  All_last items item all = subst P (get_or-append_seam items item [] item)
+      (All-get_or P (items ++ item ∷ []) (length items) item (omega (arith, length-append items (item ∷ []))) all)
 
 -- the replies of entries are those of their steps from a table on, place by place
 abbrev Answers : Table → List Entry → Type 0
-Answers table entries = (place : ℕ) → option_map (λ (entry : Entry). entry.reply) (slice_get entries place) ≡ option_map (λ (step : Step). (step_of step (state_after table (take place (steps_of entries)))).0) (slice_get (steps_of entries) place)
+Answers table entries = (place : ℕ) → option_map (λ (entry : Entry). entry.reply) (slice_get entries place) ≡ option_map
+    (λ (step : Step). (step_of step (state_after table (take place (steps_of entries)))).0) (slice_get (steps_of entries) place)
 
-answers-push : (entries : List Entry) (table : Table) (entry : Entry) → Answers table entries → entry.reply ≡ (step_of entry.step (state_after table (steps_of entries))).0 → Answers table (entries ++ entry ∷ [])
+answers-push : (entries : List Entry) (table : Table) (entry : Entry) → Answers table entries → entry.reply ≡
+    (step_of entry.step (state_after table (steps_of entries))).0 → Answers table (entries ++ entry ∷ [])
 answers-push [] table entry answers reply zero = ap Some reply
 answers-push [] table entry answers reply (suc place) = refl
 answers-push (first ∷ entries) table entry answers reply zero = answers zero
-answers-push (first ∷ entries) table entry answers reply (suc place) = answers-push entries (step_of first.step table).1 entry (λ place. answers (suc place)) reply place
+answers-push (first ∷ entries) table entry answers reply (suc place) = answers-push entries (step_of first.step table).1 entry (λ place. answers (suc place))
+    reply place
 
 answers_front : (entries : List Entry) (table : Table) (entry : Entry) → Answers table (entries ++ entry ∷ []) → Answers table entries
 answers_front [] table entry answers place = refl
 answers_front (first ∷ entries) table entry answers zero = answers zero
 answers_front (first ∷ entries) table entry answers (suc place) = answers_front entries (step_of first.step table).1 entry (λ place. answers (suc place)) place
 
-answers_last : (entries : List Entry) (table : Table) (entry : Entry) → Answers table (entries ++ entry ∷ []) → entry.reply ≡ (step_of entry.step (state_after table (steps_of entries))).0
+answers_last : (entries : List Entry) (table : Table) (entry : Entry) → Answers table (entries ++ entry ∷ []) → entry.reply ≡
+    (step_of entry.step (state_after table (steps_of entries))).0
 answers_last [] table entry answers = same_Some entry.reply (step_of entry.step table).0 (answers zero)
 answers_last (first ∷ entries) table entry answers = answers_last entries (step_of first.step table).1 entry (λ place. answers (suc place))
 
@@ -75,7 +81,8 @@ pub legal_empty : (header : Header) → IsLegal header []
 unfolding reply_at
 legal_empty header = record { checked = All-nil (IsChecked header); own = All-nil IsOwn; unheld = All-nil IsUnheld; replies = λ place. refl }
 
-pub legal-push : (header : Header) (entries : List Entry) (entry : Entry) → IsLegal header entries → IsNext header entries entry → IsLegal header (entries ++ entry ∷ [])
+pub legal-push : (header : Header) (entries : List Entry) (entry : Entry) → IsLegal header entries → IsNext header entries entry → IsLegal header
+    (entries ++ entry ∷ [])
 unfolding reply_at state_at end_of
 legal-push header entries entry legal next = record {
   checked = All-push (IsChecked header) entries entry legal.checked next.checked;
@@ -84,7 +91,8 @@ legal-push header entries entry legal next = record {
   replies = answers-push entries (start header) entry legal.replies next.reply;
 }
 
-pub legal_parts : (header : Header) (entries : List Entry) (entry : Entry) → IsLegal header (entries ++ entry ∷ []) → IsLegal header entries × IsNext header entries entry
+pub legal_parts : (header : Header) (entries : List Entry) (entry : Entry) → IsLegal header (entries ++ entry ∷ []) → IsLegal header entries × IsNext header
+    entries entry
 unfolding reply_at state_at end_of
 legal_parts header entries entry legal = (
   record {
@@ -101,7 +109,8 @@ legal_parts header entries entry legal = (
   },
 )
 
-pub one_more_legal : (header : Header) (entries : List Entry) (entry : Entry) → (IsLegal header (entries ++ entry ∷ []) ↔ (IsLegal header entries × IsNext header entries entry))
+pub one_more_legal : (header : Header) (entries : List Entry) (entry : Entry) →
+    (IsLegal header (entries ++ entry ∷ []) ↔ (IsLegal header entries × IsNext header entries entry))
 one_more_legal header entries entry = (legal_parts header entries entry, λ both. legal-push header entries entry both.0 both.1)
 
 -- the core of a checked step is one of the cores
@@ -110,12 +119,14 @@ core_there header Tick some checked = some
 core_there header (Switch core) some checked = checked_core (settings_of header) core checked
 core_there header (steps.Call core task call) some checked =
     let settings = settings_of header in
-    checked_core settings core (both_pass (core_check settings core) (task_check settings task) (both_pass (core_check settings core >> task_check settings task) (call_check settings call) checked).0).0
+    checked_core settings core (both_pass (core_check settings core) (task_check settings task)
+    (both_pass (core_check settings core >> task_check settings task) (call_check settings call) checked).0).0
 core_there header (Interrupt core note) some checked =
     let settings = settings_of header in
     checked_core settings core (both_pass (core_check settings core) (note_check settings note) checked).0
 
-pub cores_there : (header : Header) (entries : List Entry) → header_check header ≡ Ok tt → IsLegal header entries → All (λ entry. entry.core < header.config.cores) entries
+pub cores_there : (header : Header) (entries : List Entry) → header_check header ≡ Ok tt → IsLegal header entries → All
+    (λ entry. entry.core < header.config.cores) entries
 cores_there header entries passes legal place other below =
     subst (λ core. core < header.config.cores) (sym (legal.own place other below))
     (core_there header (slice_index_or entries place other).step (checked_header header passes).some_core (legal.checked place other below).passes)

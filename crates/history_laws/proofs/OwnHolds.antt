@@ -37,15 +37,19 @@ its_own : (acting depth : ℕ) (none : Bool) → is_held_elsewhere acting (hold_
 its_own acting depth true = refl
 its_own acting depth false = grind (arith, nat_tests)
 
-never_held : (core acting depth : ℕ) (none : Bool) (old : Option Hold) → core ≢ acting → is_held_elsewhere acting old ≡ false → depth_by core (hold_by acting depth none) ≡ depth_by core old
-never_held core acting depth none old apart free = none_held core acting (hold_by acting depth none) apart (its_own acting depth none) ∙ sym (none_held core acting old apart free)
+never_held : (core acting depth : ℕ) (none : Bool) (old : Option Hold) → core ≢ acting → is_held_elsewhere acting old ≡ false → depth_by core
+    (hold_by acting depth none) ≡ depth_by core old
+never_held core acting depth none old apart free = none_held core acting (hold_by acting depth none) apart (its_own acting depth none) ∙ sym
+    (none_held core acting old apart free)
 
-kept_depth : (core : ℕ) (step : Step) (table : Table) → IsSound table → keeps_step step ≡ true → depth_by core (performed stamp_queues step table).1.hold ≡ depth_by core table.hold
+kept_depth : (core : ℕ) (step : Step) (table : Table) → IsSound table → keeps_step step ≡ true → depth_by core (performed stamp_queues step table).1.hold ≡
+    depth_by core table.hold
 kept_depth core step table sound keeps =
     let sized = sound.consistent.sized in
     ap (depth_by core) ((performed_near step table (omega arith)).3 keeps)
 
-performed_depth : (core : ℕ) (step : Step) (table : Table) → IsSound table → core ≢ core_of step → refusal stamp_queues step table ≡ None → depth_by core (performed stamp_queues step table).1.hold ≡ depth_by core table.hold
+performed_depth : (core : ℕ) (step : Step) (table : Table) → IsSound table → core ≢ core_of step → refusal stamp_queues step table ≡ None → depth_by core
+    (performed stamp_queues step table).1.hold ≡ depth_by core table.hold
 unfolding performed called hold_opened hold_closed
 performed_depth core (steps.Call acting task HoldOpen) table sound apart none =
     never_held core acting (depth_of table.hold + 1) false table.hold apart (accepted stamp_queues acting task HoldOpen table none).free
@@ -54,11 +58,13 @@ performed_depth core (steps.Call acting task HoldClose) table sound apart none =
     never_held core acting left (eqb left 0) table.hold apart (accepted stamp_queues acting task HoldClose table none).free
 performed_depth core step table sound apart none = kept_depth core step table sound refl
 
-pub others_depth : (table : Table) (step : Step) (core : ℕ) → IsSound table → core ≢ core_of step → depth_by core (step_of step table).1.hold ≡ depth_by core table.hold
+pub others_depth : (table : Table) (step : Step) (core : ℕ) → IsSound table → core ≢ core_of step → depth_by core (step_of step table).1.hold ≡ depth_by core
+    table.hold
 unfolding after
 others_depth table step core sound apart = at (refusal stamp_queues step table) refl
   where
-    at : (why : Option Refusal) → refusal stamp_queues step table ≡ why → depth_by core (option_map_or {U = Reply × Table} (λ why. (Refused why, table)) why (performed stamp_queues step table)).1.hold ≡ depth_by core table.hold
+    at : (why : Option Refusal) → refusal stamp_queues step table ≡ why → depth_by core
+        (option_map_or {U = Reply × Table} (λ why. (Refused why, table)) why (performed stamp_queues step table)).1.hold ≡ depth_by core table.hold
     at None none = performed_depth core step table sound apart none
     at (Some why) is = refl
 
@@ -77,17 +83,20 @@ kept_hold table step sound keeps = at (refusal stamp_queues step table)
     at (Some why) = refl
 
 -- a call leaves no hold of another core than its own, where there was none
-performed_own : (acting task : ℕ) (call : Call) (table : Table) → IsSound table → is_held_elsewhere acting table.hold ≡ false → is_held_elsewhere acting (performed stamp_queues (steps.Call acting task call) table).1.hold ≡ false
+performed_own : (acting task : ℕ) (call : Call) (table : Table) → IsSound table → is_held_elsewhere acting table.hold ≡ false → is_held_elsewhere acting
+    (performed stamp_queues (steps.Call acting task call) table).1.hold ≡ false
 unfolding performed called hold_opened hold_closed
 performed_own acting task HoldOpen table sound free = its_own acting (depth_of table.hold + 1) false
 performed_own acting task HoldClose table sound free = let left = depth_of table.hold - 1 in its_own acting left (eqb left 0)
 performed_own acting task call table sound free = ap (is_held_elsewhere acting) (performed_hold (steps.Call acting task call) table sound refl) ∙ free
 
-pub call_holds_own : (table : Table) (acting task : ℕ) (call : Call) → IsSound table → is_held_elsewhere acting table.hold ≡ false → is_held_elsewhere acting (step_of (steps.Call acting task call) table).1.hold ≡ false
+pub call_holds_own : (table : Table) (acting task : ℕ) (call : Call) → IsSound table → is_held_elsewhere acting table.hold ≡ false → is_held_elsewhere acting
+    (step_of (steps.Call acting task call) table).1.hold ≡ false
 unfolding after
 call_holds_own table acting task call sound free = at (refusal stamp_queues (steps.Call acting task call) table)
   where
-    at : (why : Option Refusal) → is_held_elsewhere acting (option_map_or {U = Reply × Table} (λ why. (Refused why, table)) why (performed stamp_queues (steps.Call acting task call) table)).1.hold ≡ false
+    at : (why : Option Refusal) → is_held_elsewhere acting (option_map_or {U = Reply × Table} (λ why. (Refused why, table)) why
+        (performed stamp_queues (steps.Call acting task call) table)).1.hold ≡ false
     at None = performed_own acting task call table sound free
     at (Some why) = free
 
@@ -96,7 +105,8 @@ not_held : (core acting : ℕ) (hold : Option Hold) → core ≢ acting → is_h
 not_held core acting None apart free = refl
 not_held core acting (Some hold) apart free = grind (arith, nat_tests, free, apart)
 
-performed_held : (core : ℕ) (step : Step) (table : Table) → IsSound table → core ≢ core_of step → refusal stamp_queues step table ≡ None → is_held_by core (performed stamp_queues step table).1.hold ≡ is_held_by core table.hold
+performed_held : (core : ℕ) (step : Step) (table : Table) → IsSound table → core ≢ core_of step → refusal stamp_queues step table ≡ None → is_held_by core
+    (performed stamp_queues step table).1.hold ≡ is_held_by core table.hold
 performed_held core (steps.Call acting task call) table sound apart none =
     let free = (accepted stamp_queues acting task call table none).free in
     not_held core acting (performed stamp_queues (steps.Call acting task call) table).1.hold apart (performed_own acting task call table sound free)
@@ -104,10 +114,12 @@ performed_held core (steps.Call acting task call) table sound apart none =
 performed_held core step table sound apart none = ap (is_held_by core) (performed_hold step table sound refl)
 
 -- no step makes another core the holder, or ends its hold
-pub others_held : (table : Table) (step : Step) (core : ℕ) → IsSound table → core ≢ core_of step → is_held_by core (step_of step table).1.hold ≡ is_held_by core table.hold
+pub others_held : (table : Table) (step : Step) (core : ℕ) → IsSound table → core ≢ core_of step → is_held_by core (step_of step table).1.hold ≡ is_held_by core
+    table.hold
 unfolding after
 others_held table step core sound apart = at (refusal stamp_queues step table) refl
   where
-    at : (why : Option Refusal) → refusal stamp_queues step table ≡ why → is_held_by core (option_map_or {U = Reply × Table} (λ why. (Refused why, table)) why (performed stamp_queues step table)).1.hold ≡ is_held_by core table.hold
+    at : (why : Option Refusal) → refusal stamp_queues step table ≡ why → is_held_by core
+        (option_map_or {U = Reply × Table} (λ why. (Refused why, table)) why (performed stamp_queues step table)).1.hold ≡ is_held_by core table.hold
     at None none = performed_held core step table sound apart none
     at (Some why) is = refl

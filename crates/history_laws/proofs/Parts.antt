@@ -1,5 +1,6 @@
 -- The parts of a history: entries of one core, beginnings, and growth by one core.
-use Rattle.std.proofs.Common.{◌≡◌, ℕ, zero, suc, ◌+◌, ◌<◌, ◌≤◌, Bool, true, false, cond, eqb, List, [], ◌∷◌, ◌++◌, length, drop, refl, sym, ap, subst, ◌∙◌, arith, append_assoc}
+use Rattle.std.proofs.Common.{◌≡◌, ℕ, zero, suc, ◌+◌, ◌<◌, ◌≤◌, Bool, true, false, cond, eqb, List, [], ◌∷◌, ◌++◌, length, drop, refl, sym, ap, subst, ◌∙◌}
+use Rattle.std.proofs.Common.{arith, append_assoc}
 use Rattle.std.specs.Prelude.{All, ◌≢◌, sum_by}
 use Rattle.std.specs.List.{range_with_len}
 use Rattle.std.proofs.lemmas.Bool.Decides.{nat_tests}
@@ -35,19 +36,23 @@ module _ {X : Type 0} where
       subst (λ items. StartsWith items front) (sym whole) (begins_with_first front (rest ++ second))
 
   pub begins_through : (items longer shorter : List X) → StartsWith items longer → StartsWith longer shorter → StartsWith items shorter
-  begins_through items longer shorter one two = subst (λ items. StartsWith items shorter) (sym (split_at items longer one)) (begins_longer longer (drop (length longer) items) shorter two)
+  begins_through items longer shorter one two = subst (λ items. StartsWith items shorter) (sym (split_at items longer one))
+      (begins_longer longer (drop (length longer) items) shorter two)
 
 legal_front : (header : Header) (first rest : List Entry) → IsLegal header (first ++ rest) → IsLegal header first
 legal_front header first [] legal = subst (IsLegal header) (append-nil first) legal
-legal_front header first (entry ∷ rest) legal = (legal_parts header first entry (legal_front header (first ++ entry ∷ []) rest (subst (IsLegal header) (sym (append_assoc first (entry ∷ []) rest)) legal))).0
+legal_front header first (entry ∷ rest) legal = (legal_parts header first entry
+    (legal_front header (first ++ entry ∷ []) rest (subst (IsLegal header) (sym (append_assoc first (entry ∷ []) rest)) legal))).0
 
 pub beginning_legal : (header : Header) (entries first : List Entry) → IsLegal header entries → StartsWith entries first → IsLegal header first
-beginning_legal header entries first legal begins = legal_front header first (drop (length first) entries) (subst (IsLegal header) (split_at entries first begins) legal)
+beginning_legal header entries first legal begins = legal_front header first (drop (length first) entries)
+    (subst (IsLegal header) (split_at entries first begins) legal)
 
 pub made-append : (core : ℕ) (first second : List Entry) → made_by core (first ++ second) ≡ made_by core first ++ made_by core second
 made-append core first second = filter-append (λ (entry : Entry). eqb entry.core core) first second
 
-pub made-push : (core : ℕ) (entries : List Entry) (entry : Entry) → made_by core (entries ++ entry ∷ []) ≡ cond (eqb entry.core core) (made_by core entries ++ entry ∷ []) (made_by core entries)
+pub made-push : (core : ℕ) (entries : List Entry) (entry : Entry) → made_by core (entries ++ entry ∷ []) ≡ cond (eqb entry.core core)
+    (made_by core entries ++ entry ∷ []) (made_by core entries)
 made-push core entries entry = made-append core entries (entry ∷ []) ∙ at (eqb entry.core core)
   where
     at : (b : Bool) → made_by core entries ++ cond b (entry ∷ []) [] ≡ cond b (made_by core entries ++ entry ∷ []) (made_by core entries)
@@ -67,10 +72,24 @@ pub no_growth : (core : ℕ) (entries : List Entry) → IsGrowthBy core entries 
 no_growth core entries = ([], (sym (append-nil entries), All-nil (λ (entry : Entry). entry.core ≡ core)))
 
 pub one_growth : (entries : List Entry) (entry : Entry) → IsGrowthBy entry.core entries (entries ++ entry ∷ [])
-one_growth entries entry = (entry ∷ [], (refl, All-cons (λ (other : Entry). other.core ≡ entry.core) entry [] refl (All-nil (λ (other : Entry). other.core ≡ entry.core))))
+one_growth entries entry = (
+  entry ∷ [],
+  (
+    refl,
+    All-cons (λ (other : Entry). other.core ≡ entry.core) entry [] refl
+        (All-nil (λ (other : Entry). other.core ≡ entry.core)),
+  ),
+)
 
 pub growth_through : (core : ℕ) (old middle new : List Entry) → IsGrowthBy core old middle → IsGrowthBy core middle new → IsGrowthBy core old new
-growth_through core old middle new one two = (one.0 ++ two.0, (two.1.0 ∙ ap (λ front. front ++ two.0) one.1.0 ∙ append_assoc old one.0 two.0, All-append (λ (entry : Entry). entry.core ≡ core) one.0 two.0 one.1.1 two.1.1))
+growth_through core old middle new one two = (
+  one.0 ++ two.0,
+  (
+    two.1.0 ∙ ap (λ front. front ++ two.0) one.1.0 ∙ append_assoc old one.0 two.0,
+    All-append (λ (entry : Entry). entry.core ≡ core) one.0 two.0 one.1.1
+        two.1.1,
+  ),
+)
 
 pub others_stay : (core other : ℕ) (old new : List Entry) → IsGrowthBy core old new → core ≢ other → made_by other new ≡ made_by other old
 others_stay core other old new growth apart =
@@ -100,9 +119,12 @@ sum_of_others f core a (suc n) low =
 sum_one_more : (f : ℕ → ℕ) (core a n : ℕ) → a ≤ core → core < a + n → sum_by (one_more_of core f) (range_with_len a n) ≡ suc (sum_by f (range_with_len a n))
 sum_one_more f core a zero low below = absurd (omega arith)
 sum_one_more f core a (suc n) low below =
-    sum_by-cons (one_more_of core f) a (range_with_len (a + 1) n) ∙ at (eqb core a) refl (sum_one_more f core (a + 1) n) ∙ ap suc (sym (sum_by-cons f a (range_with_len (a + 1) n)))
+    sum_by-cons (one_more_of core f) a (range_with_len (a + 1) n) ∙ at (eqb core a) refl (sum_one_more f core (a + 1) n) ∙ ap suc
+    (sym (sum_by-cons f a (range_with_len (a + 1) n)))
   where
-    at : (b : Bool) → eqb core a ≡ b → (a + 1 ≤ core → core < a + 1 + n → sum_by (one_more_of core f) (range_with_len (a + 1) n) ≡ suc (sum_by f (range_with_len (a + 1) n))) → cond b (suc (f a)) (f a) + sum_by (one_more_of core f) (range_with_len (a + 1) n) ≡ suc (f a + sum_by f (range_with_len (a + 1) n))
+    at : (b : Bool) → eqb core a ≡ b → (a + 1 ≤ core → core < a + 1 + n → sum_by (one_more_of core f) (range_with_len (a + 1) n) ≡ suc
+        (sum_by f (range_with_len (a + 1) n))) → cond b (suc (f a)) (f a) + sum_by (one_more_of core f) (range_with_len (a + 1) n) ≡ suc
+        (f a + sum_by f (range_with_len (a + 1) n))
     at true is rest = ap (λ sum. suc (f a) + sum) (sum_of_others f core (a + 1) n (grind (arith, nat_tests, is))) ∙ suc-add (f a) _
     at false other rest = ap (λ sum. f a + sum) (rest (grind (arith, nat_tests, other, low)) (omega arith)) ∙ add-suc (f a) _
 
@@ -110,14 +132,17 @@ no_sum : (a n : ℕ) → sum_by (λ (k : ℕ). 0) (range_with_len a n) ≡ 0
 no_sum a zero = refl
 no_sum a (suc n) = no_sum (a + 1) n
 
-length_made : (core : ℕ) (entry : Entry) (entries : List Entry) → length (made_by core (entry ∷ entries)) ≡ one_more_of entry.core (λ core. length (made_by core entries)) core
+length_made : (core : ℕ) (entry : Entry) (entries : List Entry) → length (made_by core (entry ∷ entries)) ≡ one_more_of entry.core
+    (λ core. length (made_by core entries)) core
 length_made core entry entries = at (eqb entry.core core)
   where
-    at : (b : Bool) → length (cond b (entry ∷ made_by core entries) (made_by core entries)) ≡ cond b (suc (length (made_by core entries))) (length (made_by core entries))
+    at : (b : Bool) → length (cond b (entry ∷ made_by core entries) (made_by core entries)) ≡ cond b (suc (length (made_by core entries)))
+        (length (made_by core entries))
     at true = refl
     at false = refl
 
-pub cores_add : (cores : ℕ) (entries : List Entry) → All (λ entry. entry.core < cores) entries → sum_by (λ core. length (made_by core entries)) (numbers cores) ≡ length entries
+pub cores_add : (cores : ℕ) (entries : List Entry) → All (λ entry. entry.core < cores) entries → sum_by (λ core. length (made_by core entries)) (numbers cores)
+    ≡ length entries
 cores_add cores [] below = no_sum 0 cores
 cores_add cores (entry ∷ entries) below =
     let first : entry.core < cores = All-head (λ (entry : Entry). entry.core < cores) entry entries below in

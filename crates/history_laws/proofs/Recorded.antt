@@ -21,16 +21,19 @@ use Rattle.history_laws.proofs.Parts.{beginning_legal, begins_longer, begins_wit
 steps_checked : (header : Header) (entries : List Entry) → IsLegal header entries → All (IsCheckedStep (settings_of header)) (steps_of entries)
 steps_checked header entries legal = All-map (IsCheckedStep (settings_of header)) (λ (entry : Entry). entry.step) entries legal.checked
 
-pub legal_session : (header : Header) (entries : List Entry) → IsCheckedHeader header → IsLegal header entries → IsSession (record { header = header; steps = steps_of entries })
+pub legal_session : (header : Header) (entries : List Entry) → IsCheckedHeader header → IsLegal header entries → IsSession
+    (record { header = header; steps = steps_of entries })
 legal_session header entries checked legal = record { header = checked; steps = steps_checked header entries legal }
 
 pub legal_sound : (header : Header) (entries : List Entry) → header_check header ≡ Ok tt → IsLegal header entries → IsSoundHistory header entries
 unfolding end_of
 legal_sound header entries passes legal first begins =
     let its = steps_checked header first (beginning_legal header entries first legal begins) in
-    sound_along (steps_of first) (start header) (start_sound header passes) (subst (λ settings. All (IsCheckedStep settings) (steps_of first)) (sym (start_settings header)) its)
+    sound_along (steps_of first) (start header) (start_sound header passes)
+    (subst (λ settings. All (IsCheckedStep settings) (steps_of first)) (sym (start_settings header)) its)
 
-pub replies_kept : (header : Header) (entries : List Entry) (place : ℕ) → IsLegal header entries → reply_at header (steps_of entries) place ≡ option_map (λ (entry : Entry). entry.reply) (slice_get entries place)
+pub replies_kept : (header : Header) (entries : List Entry) (place : ℕ) → IsLegal header entries → reply_at header (steps_of entries) place ≡ option_map
+    (λ (entry : Entry). entry.reply) (slice_get entries place)
 replies_kept header entries place legal = sym (legal.replies place)
 
 -- nothing ends in an item
@@ -69,5 +72,6 @@ module _ (header : Header) (entries : List Entry) (entry : Entry) where
     are entries entry (begins_with_all (entries ++ entry ∷ [])),
   )
 
-  pub one_more_by_current : (AreByCurrent header (entries ++ entry ∷ []) ↔ (AreByCurrent header entries × IsByCurrent (end_of header entries).control entry.step))
+  pub one_more_by_current : (AreByCurrent header (entries ++ entry ∷ []) ↔
+      (AreByCurrent header entries × IsByCurrent (end_of header entries).control entry.step))
   one_more_by_current = (by_current_parts, λ both. by_current_push both.0 both.1)

@@ -13,7 +13,8 @@ two_homes : (home : Option Home) (l k : ℕ) → is_home home l ≡ true → is_
 two_homes None l k one other = absurd (cc (one))
 two_homes (Some home) l k one other = grind (arith, nat_tests, one, other)
 
-module _ (items : ℕ) (named named_back : List ℕ) (homes : List (Option Home)) (lens : List ℕ) (lists : List (List Listed)) (stand : StandFor items named named_back homes lens lists) where
+module _ (items : ℕ) (named named_back : List ℕ) (homes : List (Option Home)) (lens : List ℕ) (lists : List (List Listed))
+    (stand : StandFor items named named_back homes lens lists) where
   away_past : (item l : ℕ) (home : Option Home) → home_at homes item ≡ home → length lists ≤ l → is_home home l ≡ false
   away_past item l None is past = refl
   away_past item l (Some home) is past = let within = stand.within item home is in grind (arith, nat_tests, within, past)
@@ -28,7 +29,8 @@ module _ (items : ℕ) (named named_back : List ℕ) (homes : List (Option Home)
           let past : length lists ≤ l = grind (arith, nat_tests, high) in
           ap (has_item item) (get_or_past lists l [] past) ∙ sym (away_past item l (home_at homes item) refl past)
 
-  pub only_home : (item l : ℕ) (home : Home) → home_at homes item ≡ Some home → (has_item item (row_at lists l) ≡ true → Some home.list ≡ Some l) × (Some home.list ≡ Some l → has_item item (row_at lists l) ≡ true)
+  pub only_home : (item l : ℕ) (home : Home) → home_at homes item ≡ Some home → (has_item item (row_at lists l) ≡ true → Some home.list ≡ Some l) ×
+      (Some home.list ≡ Some l → has_item item (row_at lists l) ≡ true)
   only_home item l home is =
       let here : has_item item (row_at lists l) ≡ eqb home.list l = at_its_home item l ∙ ap (λ h. is_home h l) is in
       (λ there. grind (arith, nat_tests, here, there), λ same. let listed : home.list ≡ l = cc (same) in grind (arith, nat_tests, here, listed))

@@ -1,5 +1,6 @@
 -- The first and the last entry of a list.
-use Rattle.std.proofs.Common.{◌≡◌, ℕ, ◌+◌, ◌<◌, true, false, cond, ltb, List, [], ◌∷◌, ◌++◌, length, map, get_or, Option, Some, None, option_map, refl, sym, ap, subst, ◌∙◌, arith}
+use Rattle.std.proofs.Common.{◌≡◌, ℕ, ◌+◌, ◌<◌, true, false, cond, ltb, List, [], ◌∷◌, ◌++◌, length, map, get_or, Option, Some, None, option_map, refl, sym, ap}
+use Rattle.std.proofs.Common.{subst, ◌∙◌, arith}
 use Rattle.std.specs.Prelude.{reverse}
 use Rattle.std.specs.List.{AllByRecursion}
 use Rattle.std.proofs.lemmas.Bool.Decides.{nat_tests}
@@ -18,7 +19,8 @@ path_first named end (node ∷ nodes) path = path.0
 
 All-reverse : (P : Listed → Type 0) (xs : List Listed) → AllByRecursion P xs → AllByRecursion P (reverse xs)
 All-reverse P [] all = tt
-All-reverse P (x ∷ xs) all = subst (AllByRecursion P) (sym (reverse-append (x ∷ []) xs)) (All-append P (reverse xs) (x ∷ []) (All-reverse P xs all.1) (all.0, tt))
+All-reverse P (x ∷ xs) all = subst (AllByRecursion P) (sym (reverse-append (x ∷ []) xs))
+    (All-append P (reverse xs) (x ∷ []) (All-reverse P xs all.1) (all.0, tt))
 
 items_of-reverse : (xs : List Listed) → items_of (reverse xs) ≡ reverse (items_of xs)
 items_of-reverse [] = refl
@@ -26,7 +28,8 @@ items_of-reverse (x ∷ xs) =
     ap items_of (reverse-append (x ∷ []) xs) ∙ map-append (λ (e : Listed). e.item) (reverse xs) (x ∷ [])
     ∙ ap (λ ns. ns ++ x.item ∷ []) (items_of-reverse xs) ∙ sym (reverse-append (x.item ∷ []) (items_of xs))
 
-module _ (items : ℕ) (named named_back : List ℕ) (homes : List (Option Home)) (lens : List ℕ) (lists : List (List Listed)) (stand : StandFor items named named_back homes lens lists)
+module _ (items : ℕ) (named named_back : List ℕ) (homes : List (Option Home)) (lens : List ℕ) (lists : List (List Listed))
+    (stand : StandFor items named named_back homes lens lists)
     (l : ℕ) (low : l < length lists) where
   abbrev view : ListsView
   view = record { items = items; lists = lists }
@@ -39,7 +42,8 @@ module _ (items : ℕ) (named named_back : List ℕ) (homes : List (Option Home)
   entry_at node = cond (ltb node items) (option_map (λ key. (node, key)) (key_of node view)) None
 
   found : (entries : List Listed) → AllByRecursion IsHome entries → entry_at (first_or (items + l) (items_of entries)) ≡ first_entry entries
-  found [] homed = ap (λ b. cond b (option_map (λ key. (items + l, key)) (key_of (items + l) view)) None) (let past : ltb (items + l) items ≡ false = grind (arith, nat_tests) in past)
+  found [] homed = ap (λ b. cond b (option_map (λ key. (items + l, key)) (key_of (items + l) view)) None)
+      (let past : ltb (items + l) items ≡ false = grind (arith, nat_tests) in past)
   found (e ∷ entries) homed =
       let home : Home = record { list = l; key = e.key } in
       let less = homed_low items named named_back homes lens lists stand e.item home homed.0 in

@@ -1,5 +1,6 @@
 -- The fields of `Lists` and the lists that they stand for: who is where, and what an item that comes or goes leaves of it.
-use Rattle.std.proofs.Common.{◌≡◌, ◌≢◌, ℕ, ◌+◌, ◌<◌, ◌≤◌, Bool, true, false, eqb, List, [], ◌∷◌, length, get_or, Option, Some, None, refl, sym, ap, subst, ◌∙◌, arith}
+use Rattle.std.proofs.Common.{◌≡◌, ◌≢◌, ℕ, ◌+◌, ◌<◌, ◌≤◌, Bool, true, false, eqb, List, [], ◌∷◌, length, get_or, Option, Some, None, refl, sym, ap, subst, ◌∙◌}
+use Rattle.std.proofs.Common.{arith}
 use Rattle.std.specs.List.{IsDistinct, AllByRecursion}
 use Rattle.std.proofs.lemmas.Bool.{eqb-true}
 use Rattle.std.proofs.lemmas.Bool.Decides.{nat_tests}
@@ -24,18 +25,21 @@ has-items_of item row = list_any-map (λ m. eqb m item) (λ (entry : Listed). en
 -- ---- what the fields show
 
 -- a path walked gives its items, with the keys of their homes
-pub path_walked : (named : List ℕ) (homes : List (Option Home)) (l from : ℕ) (row : List Listed) (to : ℕ) → IsPath named from (items_of row) to → AllByRecursion (λ entry. home_at homes entry.item ≡ Some (record { list = l; key = entry.key })) row → entries_from named homes (length row) (get_or named from 0) ≡ row
+pub path_walked : (named : List ℕ) (homes : List (Option Home)) (l from : ℕ) (row : List Listed) (to : ℕ) → IsPath named from (items_of row) to → AllByRecursion
+    (λ entry. home_at homes entry.item ≡ Some (record { list = l; key = entry.key })) row → entries_from named homes (length row) (get_or named from 0) ≡ row
 path_walked named homes l from [] to path keys = refl
 path_walked named homes l from (entry ∷ row) to path keys =
     let key : key_at homes entry.item ≡ entry.key = ap (λ (home : Option Home). key_at (home ∷ []) 0) keys.0 in
     subst (λ n. record { item = n; key = key_at homes n } ∷ entries_from named homes (length row) (get_or named n 0) ≡ entry ∷ row) (sym path.0)
-    (ap (λ k. record { item = entry.item; key = k } ∷ entries_from named homes (length row) (get_or named entry.item 0)) key ∙ ap (λ rest. entry ∷ rest) (path_walked named homes l entry.item row to path.1 keys.1))
+    (ap (λ k. record { item = entry.item; key = k } ∷ entries_from named homes (length row) (get_or named entry.item 0)) key ∙ ap (λ rest. entry ∷ rest)
+    (path_walked named homes l entry.item row to path.1 keys.1))
 
 home_one : (home : Option Home) (l k : ℕ) → is_home home l ≡ true → k ≢ l → is_home home k ≡ false
 home_one None l k is apart = refl
 home_one (Some home) l k is apart = grind (arith, nat_tests, is, apart)
 
-module _ (items : ℕ) (named named_back : List ℕ) (homes : List (Option Home)) (lens : List ℕ) (lists : List (List Listed)) (stand : StandFor items named named_back homes lens lists) where
+module _ (items : ℕ) (named named_back : List ℕ) (homes : List (Option Home)) (lens : List ℕ) (lists : List (List Listed))
+    (stand : StandFor items named named_back homes lens lists) where
   pub lens_at : (l : ℕ) → l < length lists → get_or lens l 0 ≡ length (row_at lists l)
   lens_at l low = ap (λ ns. get_or ns l 0) stand.counted ∙ get_or-map length lists l [] 0 low
 
@@ -44,14 +48,16 @@ module _ (items : ℕ) (named named_back : List ℕ) (homes : List (Option Home)
 
   -- the fields show what they stand for
   pub walked : lists_in items named homes lens ≡ lists
-  walked = ext_get_or [] (lists_in items named homes lens) lists (shown ∙ lens_length) (λ l low. let here : l < length lists = omega (arith, low, shown, lens_length) in at l here)
+  walked = ext_get_or [] (lists_in items named homes lens) lists (shown ∙ lens_length)
+      (λ l low. let here : l < length lists = omega (arith, low, shown, lens_length) in at l here)
     where
       shown : length (lists_in items named homes lens) ≡ length lens
       shown = length-map (numbers (length lens)) _ ∙ length-range_with_len 0 (length lens)
 
       at : (l : ℕ) → l < length lists → row_at (lists_in items named homes lens) l ≡ row_at lists l
       at l low =
-          get_or-map-range_with_len (λ k. entries_from named homes (get_or lens k 0) (get_or named (items + k) 0)) 0 (length lens) l l [] (omega (arith, low, lens_length)) (omega arith)
+          get_or-map-range_with_len (λ k. entries_from named homes (get_or lens k 0) (get_or named (items + k) 0)) 0 (length lens) l l []
+          (omega (arith, low, lens_length)) (omega arith)
           ∙ ap (λ n. entries_from named homes n (get_or named (items + l) 0)) (lens_at l low)
           ∙ path_walked named homes l (items + l) (row_at lists l) (items + l) (stand.rings l low).forwards (stand.keys l low)
 
@@ -109,5 +115,11 @@ module _ (items : ℕ) (named named_back : List ℕ) (homes : List (Option Home)
   pub row_short : (l : ℕ) → l < length lists → length (row_at lists l) ≤ items
   row_short l low =
       let row = row_at lists l in
-      let below = All-map (λ i. i < items) (λ (e : Listed). e.item) row (All-weaker (λ e. home_at homes e.item ≡ Some (record { list = l; key = e.key })) (λ e. e.item < items) (λ e is. homed_low e.item (record { list = l; key = e.key }) is) row (stand.keys l low)) in
-      omega (arith, length-map row (λ (e : Listed). e.item), listing_length items (items_of row) (record { below = All-from_recursion (λ i. i < items) (items_of row) below; once = stand.once l low }))
+      let below = All-map (λ i. i < items) (λ (e : Listed). e.item) row (All-weaker (λ e. home_at homes e.item ≡ Some (record { list = l; key = e.key }))
+      (λ e. e.item < items) (λ e is. homed_low e.item (record { list = l; key = e.key }) is) row (stand.keys l low)) in
+      omega (
+        arith,
+        length-map row (λ (e : Listed). e.item),
+        listing_length items (items_of row)
+            (record { below = All-from_recursion (λ i. i < items) (items_of row) below; once = stand.once l low }),
+      )

@@ -9,7 +9,8 @@ any_place : {X : Type 0} (p : X → Bool) (xs : List X) → ltb (position_or_len
 any_place p [] = grind (arith, nat_tests)
 any_place p (x ∷ xs) = at (p x) refl (any_place p xs)
   where
-    at : (b : Bool) → p x ≡ b → ltb (position_or_len p xs) (length xs) ≡ list_any p xs → ltb (cond (not b) (1 + position_or_len p xs) 0) (suc (length xs)) ≡ (b || list_any p xs)
+    at : (b : Bool) → p x ≡ b → ltb (position_or_len p xs) (length xs) ≡ list_any p xs → ltb (cond (not b) (1 + position_or_len p xs) 0) (suc (length xs)) ≡
+        (b || list_any p xs)
     at true is rest = grind (arith, nat_tests)
     at false is rest = grind (arith, nat_tests, rest)
 

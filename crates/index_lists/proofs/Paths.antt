@@ -1,5 +1,6 @@
 -- Paths and rings: what stands beside a node, and what a node that comes or goes leaves of them.
-use Rattle.std.proofs.Common.{◌≡◌, ◌≢◌, ℕ, ◌<◌, true, false, eqb, List, [], ◌∷◌, ◌++◌, length, reverse, set, get_or, refl, sym, ap, subst, ◌∙◌, arith, get_or-set_other, get_or-set_same, length-set, append_assoc}
+use Rattle.std.proofs.Common.{◌≡◌, ◌≢◌, ℕ, ◌<◌, true, false, eqb, List, [], ◌∷◌, ◌++◌, length, reverse, set, get_or, refl, sym, ap, subst, ◌∙◌, arith}
+use Rattle.std.proofs.Common.{get_or-set_other, get_or-set_same, length-set, append_assoc}
 use Rattle.std.specs.List.{IsDistinct, AllByRecursion}
 use Rattle.std.proofs.lemmas.Bool.Decides.{nat_tests}
 use Rattle.std.proofs.lemmas.Grind.{reverse_onto}
@@ -23,7 +24,8 @@ not_later : (p from : ℕ) (nodes : List ℕ) → has p (from ∷ nodes) ≡ fal
 not_later p from nodes away = grind (arith, away)
 
 -- a write at a node that is not on the path leaves it
-pub path_apart : (named : List ℕ) (p v from : ℕ) (nodes : List ℕ) (to : ℕ) → has p (from ∷ nodes) ≡ false → IsPath named from nodes to → IsPath (set named p v) from nodes to
+pub path_apart : (named : List ℕ) (p v from : ℕ) (nodes : List ℕ) (to : ℕ) → has p (from ∷ nodes) ≡ false → IsPath named from nodes to → IsPath (set named p v)
+    from nodes to
 path_apart named p v from [] to away path = get_or-set_other named p from v 0 (away_from p from [] away) ∙ path
 path_apart named p v from (x ∷ xs) to away path =
     (get_or-set_other named p from v 0 (away_from p from (x ∷ xs) away) ∙ path.0, path_apart named p v x xs to (not_later p from (x ∷ xs) away) path.1)
@@ -68,26 +70,44 @@ before_last a x xs ys away same =
     absurd (grind (arith, away, there, list_any-append (λ m. eqb m a) xs ys))
 
 -- a path round a node that goes
-pub path_spliced : (named : List ℕ) (from : ℕ) (xs : List ℕ) (i : ℕ) (ys : List ℕ) (to : ℕ) → IsDistinct eqb (from ∷ (xs ++ ys)) → last_or from xs < length named → IsPath named from (xs ++ i ∷ ys) to → IsPath (set named (last_or from xs) (first_or to ys)) from (xs ++ ys) to
+pub path_spliced : (named : List ℕ) (from : ℕ) (xs : List ℕ) (i : ℕ) (ys : List ℕ) (to : ℕ) → IsDistinct eqb (from ∷ (xs ++ ys)) → last_or from xs < length
+    named → IsPath named from (xs ++ i ∷ ys) to → IsPath (set named (last_or from xs) (first_or to ys)) from (xs ++ ys) to
 path_spliced named from [] i [] to once low path = get_or-set_same named from to 0 low
 path_spliced named from [] i (y ∷ ys) to once low path =
     (get_or-set_same named from y 0 low, path_apart named from y y ys to (distinct_head from (y ∷ ys) once) path.1.1)
-path_spliced named from (x ∷ xs) i ys to once low path =
-    (get_or-set_other named (last_or x xs) from _ 0 (before_last from x xs ys (distinct_head from (x ∷ (xs ++ ys)) once)) ∙ path.0, path_spliced named x xs i ys to (distinct_tail from (x ∷ (xs ++ ys)) once) low path.1)
+path_spliced named from (x ∷ xs) i ys to once low path = (
+  get_or-set_other named (last_or x xs) from _ 0 (before_last from x xs ys (distinct_head from (x ∷ (xs ++ ys)) once)) ∙ path.0,
+  path_spliced named x xs i ys
+      to (distinct_tail from (x ∷ (xs ++ ys)) once) low path.1,
+)
 
 -- a path with a node that comes
-pub path_inserted : (named : List ℕ) (from : ℕ) (xs : List ℕ) (i : ℕ) (ys : List ℕ) (to : ℕ) → IsDistinct eqb (from ∷ (xs ++ ys)) → has i (from ∷ (xs ++ ys)) ≡ false → last_or from xs < length named → i < length named → IsPath named from (xs ++ ys) to → IsPath (set (set named (last_or from xs) i) i (first_or to ys)) from (xs ++ i ∷ ys) to
-path_inserted named from [] i ys to once away low in_range path = (get_or-set_other (set named from i) i from _ 0 (away_from i from ys away) ∙ get_or-set_same named from i 0 low, rest ys away once path)
+pub path_inserted : (named : List ℕ) (from : ℕ) (xs : List ℕ) (i : ℕ) (ys : List ℕ) (to : ℕ) → IsDistinct eqb (from ∷ (xs ++ ys)) → has i (from ∷ (xs ++ ys)) ≡
+    false → last_or from xs < length named → i < length named → IsPath named from (xs ++ ys) to → IsPath
+    (set (set named (last_or from xs) i) i (first_or to ys)) from (xs ++ i ∷ ys) to
+path_inserted named from [] i ys to once away low in_range path = (
+  get_or-set_other (set named from i) i from _ 0 (away_from i from ys away) ∙ get_or-set_same
+      named from i 0 low,
+  rest ys away once path,
+)
   where
     here : (v : ℕ) → get_or (set (set named from i) i v) i 0 ≡ v
     here v = get_or-set_same (set named from i) i v 0 (omega (arith, in_range, length-set named from i))
 
-    rest : (zs : List ℕ) → has i (from ∷ zs) ≡ false → IsDistinct eqb (from ∷ zs) → IsPath named from zs to → IsPath (set (set named from i) i (first_or to zs)) i zs to
+    rest : (zs : List ℕ) → has i (from ∷ zs) ≡ false → IsDistinct eqb (from ∷ zs) → IsPath named from zs to → IsPath (set (set named from i) i (first_or to zs))
+        i zs to
     rest [] away once path = here to
-    rest (z ∷ zs) away once path =
-        (here z, path_apart (set named from i) i z z zs to (not_later i from (z ∷ zs) away) (path_apart named from i z zs to (distinct_head from (z ∷ zs) once) path.1))
-path_inserted named from (x ∷ xs) i ys to once away low in_range path =
-    (get_or-set_other (set named (last_or x xs) i) i from _ 0 (away_from i from (x ∷ (xs ++ ys)) away) ∙ get_or-set_other named (last_or x xs) from i 0 (before_last from x xs ys (distinct_head from (x ∷ (xs ++ ys)) once)) ∙ path.0, path_inserted named x xs i ys to (distinct_tail from (x ∷ (xs ++ ys)) once) (not_later i from (x ∷ (xs ++ ys)) away) low in_range path.1)
+    rest (z ∷ zs) away once path = (
+      here z,
+      path_apart (set named from i) i z z zs to (not_later i from (z ∷ zs) away)
+          (path_apart named from i z zs to (distinct_head from (z ∷ zs) once) path.1),
+    )
+path_inserted named from (x ∷ xs) i ys to once away low in_range path = (
+  get_or-set_other (set named (last_or x xs) i) i from _ 0 (away_from i from (x ∷ (xs ++ ys)) away) ∙ get_or-set_other named (last_or x xs) from i 0
+      (before_last from x xs ys (distinct_head from (x ∷ (xs ++ ys)) once)) ∙ path.0,
+  path_inserted named x xs i ys to
+      (distinct_tail from (x ∷ (xs ++ ys)) once) (not_later i from (x ∷ (xs ++ ys)) away) low in_range path.1,
+)
 
 -- backwards
 reverse_cons : (x : ℕ) (xs : List ℕ) → reverse (x ∷ xs) ≡ reverse xs ++ x ∷ []
@@ -120,7 +140,8 @@ distinct_turned : (end : ℕ) (xs ys : List ℕ) → IsDistinct eqb (end ∷ (xs
 distinct_turned end xs ys once =
     subst (λ zs. IsDistinct eqb (end ∷ zs)) (reverse-append xs ys)
     (distinct_cons end (reverse (xs ++ ys)) (has-reverse end (xs ++ ys) ∙ distinct_head end (xs ++ ys) once)
-    (IsDistinct-IsPermutation eqb (λ x y. grind (arith, nat_tests)) (xs ++ ys) (reverse (xs ++ ys)) (IsPermutation-reverse (xs ++ ys)) (distinct_tail end (xs ++ ys) once)))
+    (IsDistinct-IsPermutation eqb (λ x y. grind (arith, nat_tests)) (xs ++ ys) (reverse (xs ++ ys)) (IsPermutation-reverse (xs ++ ys))
+    (distinct_tail end (xs ++ ys) once)))
 
 not_first : (i end : ℕ) (xs ys : List ℕ) → has i (end ∷ (xs ++ ys)) ≡ false → i ≢ first_or end ys
 not_first i end xs ys away same =
@@ -128,11 +149,20 @@ not_first i end xs ys away same =
     absurd (grind (arith, away, there, list_any-append (λ m. eqb m i) xs ys))
 
 away_turned : (i end : ℕ) (xs ys : List ℕ) → has i (end ∷ (xs ++ ys)) ≡ false → has i (end ∷ (reverse ys ++ reverse xs)) ≡ false
-away_turned i end xs ys away = grind (arith, away, list_any-append (λ m. eqb m i) xs ys, list_any-append (λ m. eqb m i) (reverse ys) (reverse xs), has-reverse i xs, has-reverse i ys)
+away_turned i end xs ys away = grind (
+  arith,
+  away,
+  list_any-append (λ m. eqb m i) xs ys,
+  list_any-append (λ m. eqb m i) (reverse ys) (reverse xs),
+  has-reverse i
+      xs,
+  has-reverse i ys,
+)
 
 module _ (named named_back : List ℕ) (end : ℕ) where
   -- writes at nodes that are not on a ring leave it
-  pub ring_apart : (p v q w : ℕ) (nodes : List ℕ) → has p (end ∷ nodes) ≡ false → has q (end ∷ nodes) ≡ false → IsRing named named_back end nodes → IsRing (set named p v) (set named_back q w) end nodes
+  pub ring_apart : (p v q w : ℕ) (nodes : List ℕ) → has p (end ∷ nodes) ≡ false → has q (end ∷ nodes) ≡ false → IsRing named named_back end nodes → IsRing
+      (set named p v) (set named_back q w) end nodes
   ring_apart p v q w nodes away away_too ring = record {
     forwards = path_apart named p v end nodes end away ring.forwards;
     backwards = path_apart named_back q w end (reverse nodes) end (grind (arith, away_too, has-reverse q nodes)) ring.backwards;
@@ -154,34 +184,63 @@ module _ (named named_back : List ℕ) (end : ℕ) where
       ap (λ m. get_or named m 0) (sym (last_or-push end xs i))
       ∙ path_middle named end (xs ++ i ∷ []) ys end (subst (λ zs. IsPath named end zs end) (sym (append_assoc xs (i ∷ []) ys)) ring.forwards)
 
-  pub ring_spliced : (xs : List ℕ) (i : ℕ) (ys : List ℕ) → IsDistinct eqb (end ∷ (xs ++ ys)) → last_or end xs < length named → first_or end ys < length named_back → IsRing named named_back end (xs ++ i ∷ ys) → IsRing (set named (last_or end xs) (first_or end ys)) (set named_back (first_or end ys) (last_or end xs)) end (xs ++ ys)
+  pub ring_spliced : (xs : List ℕ) (i : ℕ) (ys : List ℕ) → IsDistinct eqb (end ∷ (xs ++ ys)) → last_or end xs < length named → first_or end ys < length
+      named_back → IsRing named named_back end (xs ++ i ∷ ys) → IsRing (set named (last_or end xs) (first_or end ys))
+      (set named_back (first_or end ys) (last_or end xs)) end (xs ++ ys)
   ring_spliced xs i ys once low low_too ring = record {
     forwards = path_spliced named end xs i ys end once low ring.forwards;
-    backwards = rw (reverse-append xs ys, ← last_or-reverse end ys, ← first_or-reverse end xs) (path_spliced named_back end (reverse ys) i (reverse xs) end (distinct_turned end xs ys once) (rw (last_or-reverse end ys) low_too) (subst (λ zs. IsPath named_back end zs end) (turned xs i ys) ring.backwards));
+    backwards = rw (reverse-append xs ys, ← last_or-reverse end ys, ← first_or-reverse end xs)
+        (path_spliced named_back end (reverse ys) i (reverse xs) end (distinct_turned end xs ys once) (rw (last_or-reverse end ys) low_too)
+        (subst (λ zs. IsPath named_back end zs end) (turned xs i ys) ring.backwards));
   }
 
-  pub ring_inserted : (xs : List ℕ) (i : ℕ) (ys : List ℕ) → IsDistinct eqb (end ∷ (xs ++ ys)) → has i (end ∷ (xs ++ ys)) ≡ false → last_or end xs < length named → i < length named → first_or end ys < length named_back → i < length named_back → IsRing named named_back end (xs ++ ys) → IsRing (set (set named (last_or end xs) i) i (first_or end ys)) (set (set named_back i (last_or end xs)) (first_or end ys) i) end (xs ++ i ∷ ys)
+  pub ring_inserted : (xs : List ℕ) (i : ℕ) (ys : List ℕ) → IsDistinct eqb (end ∷ (xs ++ ys)) → has i (end ∷ (xs ++ ys)) ≡ false → last_or end xs < length named
+      → i < length named → first_or end ys < length named_back → i < length named_back → IsRing named named_back end (xs ++ ys) → IsRing
+      (set (set named (last_or end xs) i) i (first_or end ys)) (set (set named_back i (last_or end xs)) (first_or end ys) i) end (xs ++ i ∷ ys)
   ring_inserted xs i ys once away low in_range low_too in_range_too ring = record {
     forwards = path_inserted named end xs i ys end once away low in_range ring.forwards;
     backwards =
         let other : i ≢ first_or end ys = not_first i end xs ys away in
-        rw (turned xs i ys, set_comm named_back i (first_or end ys) (last_or end xs) i other, ← last_or-reverse end ys, ← first_or-reverse end xs) (path_inserted named_back end (reverse ys) i (reverse xs) end (distinct_turned end xs ys once) (away_turned i end xs ys away) (rw (last_or-reverse end ys) low_too) in_range_too (subst (λ zs. IsPath named_back end zs end) (reverse-append xs ys) ring.backwards));
+        rw (turned xs i ys, set_comm named_back i (first_or end ys) (last_or end xs) i other, ← last_or-reverse end ys, ← first_or-reverse end xs)
+        (path_inserted named_back end (reverse ys) i (reverse xs) end (distinct_turned end xs ys once) (away_turned i end xs ys away)
+        (rw (last_or-reverse end ys) low_too) in_range_too (subst (λ zs. IsPath named_back end zs end) (reverse-append xs ys) ring.backwards));
   }
 
 -- ---- distinct numbers with one more, and with one less
 pub distinct_inserted : (xs : List ℕ) (i : ℕ) (ys : List ℕ) → IsDistinct eqb (xs ++ ys) → has i (xs ++ ys) ≡ false → IsDistinct eqb (xs ++ i ∷ ys)
 distinct_inserted [] i ys once away = distinct_cons i ys away once
 distinct_inserted (x ∷ xs) i ys once away =
-    distinct_cons x (xs ++ i ∷ ys) (grind (arith, nat_tests, away, distinct_head x (xs ++ ys) once, list_any-append (λ m. eqb m x) xs ys, list_any-append (λ m. eqb m x) xs (i ∷ ys)))
+    distinct_cons x (xs ++ i ∷ ys) (grind (
+      arith,
+      nat_tests,
+      away,
+      distinct_head x (xs ++ ys) once,
+      list_any-append (λ m. eqb m x) xs ys,
+      list_any-append
+          (λ m. eqb m x) xs (i ∷ ys),
+    ))
     (distinct_inserted xs i ys (distinct_tail x (xs ++ ys) once) (not_later i x (xs ++ ys) away))
 
 pub distinct_spliced : (xs : List ℕ) (i : ℕ) (ys : List ℕ) → IsDistinct eqb (xs ++ i ∷ ys) → IsDistinct eqb (xs ++ ys)
 distinct_spliced [] i ys once = distinct_tail i ys once
 distinct_spliced (x ∷ xs) i ys once =
-    distinct_cons x (xs ++ ys) (grind (arith, distinct_head x (xs ++ i ∷ ys) once, list_any-append (λ m. eqb m x) xs ys, list_any-append (λ m. eqb m x) xs (i ∷ ys)))
+    distinct_cons x (xs ++ ys) (grind (
+      arith,
+      distinct_head x (xs ++ i ∷ ys) once,
+      list_any-append (λ m. eqb m x) xs ys,
+      list_any-append (λ m. eqb m x) xs
+          (i ∷ ys),
+    ))
     (distinct_spliced xs i ys (distinct_tail x (xs ++ i ∷ ys) once))
 
 pub distinct_middle : (xs : List ℕ) (i : ℕ) (ys : List ℕ) → IsDistinct eqb (xs ++ i ∷ ys) → has i (xs ++ ys) ≡ false
 distinct_middle [] i ys once = distinct_head i ys once
 distinct_middle (x ∷ xs) i ys once =
-    grind (arith, nat_tests, distinct_head x (xs ++ i ∷ ys) once, list_any-append (λ m. eqb m x) xs (i ∷ ys), distinct_middle xs i ys (distinct_tail x (xs ++ i ∷ ys) once))
+    grind (
+      arith,
+      nat_tests,
+      distinct_head x (xs ++ i ∷ ys) once,
+      list_any-append (λ m. eqb m x) xs (i ∷ ys),
+      distinct_middle xs i ys
+          (distinct_tail x (xs ++ i ∷ ys) once),
+    )

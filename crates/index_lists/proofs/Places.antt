@@ -1,5 +1,6 @@
 -- The place of an item among the keys of a list, found from the front.
-use Rattle.std.proofs.Common.{◌≡◌, ℕ, ◌+◌, ◌<◌, ◌≤◌, Bool, true, false, cond, eqb, ltb, List, [], ◌∷◌, ◌++◌, length, map, set, get_or, take, drop, Option, Some, None, refl, sym, ap, subst, ◌∙◌, arith}
+use Rattle.std.proofs.Common.{◌≡◌, ℕ, ◌+◌, ◌<◌, ◌≤◌, Bool, true, false, cond, eqb, ltb, List, [], ◌∷◌, ◌++◌, length, map, set, get_or, take, drop, Option, Some}
+use Rattle.std.proofs.Common.{None, refl, sym, ap, subst, ◌∙◌, arith}
 use Rattle.std.specs.List.{prefix_len}
 use Rattle.std.specs.Option.{option_eq}
 use Rattle.std.proofs.lemmas.List.{drop_more, drop_all, get_or_past, get_or_read, get_or-map, take_all, take_more_same, take-append-drop}
@@ -23,13 +24,16 @@ pub same_key : (home : Home) (l key : ℕ) → Some home ≡ Some (record { list
 same_key home l key same = cc (same)
 
 -- one more entry passes
-pub place_step : (p : Listed → Bool) (row : List Listed) (i : ℕ) → i < length row → p (get_or row i none) ≡ true → i + prefix_len p (drop i row) ≡ prefix_len p row → (i + 1) + prefix_len p (drop (i + 1) row) ≡ prefix_len p row
+pub place_step : (p : Listed → Bool) (row : List Listed) (i : ℕ) → i < length row → p (get_or row i none) ≡ true → i + prefix_len p (drop i row) ≡ prefix_len p
+    row → (i + 1) + prefix_len p (drop (i + 1) row) ≡ prefix_len p row
 place_step p row i low passes so_far =
-    let here : prefix_len p (drop i row) ≡ 1 + prefix_len p (drop (i + 1) row) = ap (prefix_len p) (drop_more row i none low) ∙ ap (λ b. cond b (1 + prefix_len p (drop (i + 1) row)) 0) passes in
+    let here : prefix_len p (drop i row) ≡ 1 + prefix_len p (drop (i + 1) row) = ap (prefix_len p) (drop_more row i none low) ∙ ap
+    (λ b. cond b (1 + prefix_len p (drop (i + 1) row)) 0) passes in
     omega (arith, here, so_far)
 
 -- the first that doesn't
-pub place_stop : (p : Listed → Bool) (row : List Listed) (i : ℕ) → i < length row → p (get_or row i none) ≡ false → i + prefix_len p (drop i row) ≡ prefix_len p row → i ≡ prefix_len p row
+pub place_stop : (p : Listed → Bool) (row : List Listed) (i : ℕ) → i < length row → p (get_or row i none) ≡ false → i + prefix_len p (drop i row) ≡ prefix_len p
+    row → i ≡ prefix_len p row
 place_stop p row i low fails so_far =
     let here : prefix_len p (drop i row) ≡ 0 = ap (prefix_len p) (drop_more row i none low) ∙ ap (λ b. cond b (1 + prefix_len p (drop (i + 1) row)) 0) fails in
     omega (arith, here, so_far)
@@ -40,7 +44,8 @@ place_end p row i past so_far =
     let here : prefix_len p (drop i row) ≡ 0 = ap (prefix_len p) (drop_all i row past) in
     omega (arith, here, so_far)
 
-module _ (items : ℕ) (named named_back : List ℕ) (homes : List (Option Home)) (lens : List ℕ) (lists : List (List Listed)) (stand : StandFor items named named_back homes lens lists)
+module _ (items : ℕ) (named named_back : List ℕ) (homes : List (Option Home)) (lens : List ℕ) (lists : List (List Listed))
+    (stand : StandFor items named named_back homes lens lists)
     (l i : ℕ) (low : l < length lists) (within : i < length (row_at lists l)) where
   abbrev at : Listed
   at = get_or (row_at lists l) i none
@@ -57,7 +62,8 @@ module _ (items : ℕ) (named named_back : List ℕ) (homes : List (Option Home)
 
   pub node_next : get_or named at.item 0 ≡ first_or (items + l) (items_of (drop (i + 1) (row_at lists l)))
   node_next = ring_next named named_back (items + l) (items_of (take i (row_at lists l))) at.item (items_of (drop (i + 1) (row_at lists l)))
-      (subst (IsRing named named_back (items + l)) (ap items_of parts ∙ items_of-append (take i (row_at lists l)) (at ∷ drop (i + 1) (row_at lists l))) (stand.rings l low))
+      (subst (IsRing named named_back (items + l)) (ap items_of parts ∙ items_of-append (take i (row_at lists l)) (at ∷ drop (i + 1) (row_at lists l)))
+      (stand.rings l low))
 
   pub node_low : at.item < items
   node_low = grind (arith, past)
@@ -65,16 +71,19 @@ module _ (items : ℕ) (named named_back : List ℕ) (homes : List (Option Home)
       past : items ≤ at.item → ⊥
       past over = absurd (cc (get_or_past homes at.item None (omega (arith, over, stand.room)), home_here))
 
-module _ (items : ℕ) (named named_back : List ℕ) (homes : List (Option Home)) (lens : List ℕ) (lists : List (List Listed)) (stand : StandFor items named named_back homes lens lists)
+module _ (items : ℕ) (named named_back : List ℕ) (homes : List (Option Home)) (lens : List ℕ) (lists : List (List Listed))
+    (stand : StandFor items named named_back homes lens lists)
     (l : ℕ) (low : l < length lists) (n : ℕ) (read : n ≡ get_or lens l n) where
   -- the length that was read is the list's
   pub read_length : n ≡ length (row_at lists l)
-  read_length = get_or_read lens l n (omega (arith, low, lens_length items named named_back homes lens lists stand)) read 0 ∙ lens_at items named named_back homes lens lists stand l low
+  read_length = get_or_read lens l n (omega (arith, low, lens_length items named named_back homes lens lists stand)) read 0 ∙ lens_at items named named_back
+      homes lens lists stand l low
 
 pub lowest_first-IsRank : IsRank lowest_first
 lowest_first-IsRank = record { total = λ a b h. grind (arith, nat_tests, h); chain = λ a b c h k. grind (arith, nat_tests, h, k) }
 
-module _ (items : ℕ) (named named_back : List ℕ) (homes : List (Option Home)) (lens : List ℕ) (lists : List (List Listed)) (stand : StandFor items named named_back homes lens lists)
+module _ (items : ℕ) (named named_back : List ℕ) (homes : List (Option Home)) (lens : List ℕ) (lists : List (List Listed))
+    (stand : StandFor items named named_back homes lens lists)
     (l i item : ℕ) (low : l < length lists) (within : i < length (row_at lists l)) (is : get_or (items_of (row_at lists l)) i 0 ≡ item) where
   item_here : (get_or (row_at lists l) i none).item ≡ item
   item_here = sym (get_or-map (λ (e : Listed). e.item) (row_at lists l) i none 0 within) ∙ is
@@ -87,7 +96,8 @@ module _ (items : ℕ) (named named_back : List ℕ) (homes : List (Option Home)
   placed_next =
       let rest = drop (i + 1) (row_at lists l) in
       let key = (get_or (row_at lists l) i none).key in
-      ap (λ n. cond (ltb n items) (Some n) None) (ap (λ n. get_or named n 0) (sym item_here) ∙ node_next items named named_back homes lens lists stand l i low within)
+      ap (λ n. cond (ltb n items) (Some n) None) (ap (λ n. get_or named n 0) (sym item_here) ∙ node_next items named named_back homes lens lists stand l i low
+      within)
       ∙ item_or_none items named named_back homes lens lists stand l rest
       (λ m there. item_low items named named_back homes lens lists stand l m low (later m there))
     where
@@ -100,20 +110,24 @@ module _ (items : ℕ) (named named_back : List ℕ) (homes : List (Option Home)
 pub all_equal : (xs ys : List ℕ) (i : ℕ) → length xs ≡ length ys → length xs ≤ i → take i xs ≡ take i ys → xs ≡ ys
 all_equal xs ys i sized past same = sym (take_all i xs past) ∙ same ∙ take_all i ys (omega (arith, sized, past))
 
-pub one_more_equal : (xs ys : List ℕ) (i : ℕ) → i < length xs → i < length ys → take i xs ≡ take i ys → get_or xs i 0 ≡ get_or ys i 0 → take (i + 1) xs ≡ take (i + 1) ys
+pub one_more_equal : (xs ys : List ℕ) (i : ℕ) → i < length xs → i < length ys → take i xs ≡ take i ys → get_or xs i 0 ≡ get_or ys i 0 → take (i + 1) xs ≡ take
+    (i + 1) ys
 one_more_equal xs ys i low low_too same here = take_more_same xs ys i 0 low low_too same here
 
-module _ (items : ℕ) (named named_back : List ℕ) (homes : List (Option Home)) (lens : List ℕ) (lists : List (List Listed)) (stand : StandFor items named named_back homes lens lists)
+module _ (items : ℕ) (named named_back : List ℕ) (homes : List (Option Home)) (lens : List ℕ) (lists : List (List Listed))
+    (stand : StandFor items named named_back homes lens lists)
     (l i : ℕ) (low : l < length lists) (within : i < length (row_at lists l)) where
   -- the node of a place is the item there
   pub node_item : first_or (items + l) (items_of (drop i (row_at lists l))) ≡ get_or (items_of (row_at lists l)) i 0
-  node_item = node_here items named named_back homes lens lists stand l i low within ∙ sym (get_or-map (λ (e : Listed). e.item) (row_at lists l) i none 0 within)
+  node_item = node_here items named named_back homes lens lists stand l i low within ∙ sym
+      (get_or-map (λ (e : Listed). e.item) (row_at lists l) i none 0 within)
 
   -- the entry's key is that of its item
   pub key_here : key_of (get_or (row_at lists l) i none).item (record { items = items; lists = lists }) ≡ Some (get_or (row_at lists l) i none).key
   key_here =
       let entry = get_or (row_at lists l) i none in
-      key_of_home items named named_back homes lens lists stand entry.item (record { list = l; key = entry.key }) (home_here items named named_back homes lens lists stand l i low within)
+      key_of_home items named named_back homes lens lists stand entry.item (record { list = l; key = entry.key })
+      (home_here items named named_back homes lens lists stand l i low within)
 
 pub same_entry : (a b : Listed) → a.item ≡ b.item → Some a.key ≡ Some b.key → a ≡ b
 same_entry a b item key = ap (λ n. record { item = n; key = a.key }) item ∙ ap (λ k. record { item = b.item; key = k }) (same_Some a.key b.key key)
@@ -121,7 +135,8 @@ same_entry a b item key = ap (λ n. record { item = n; key = a.key }) item ∙ a
 pub same_keys : (a b : Option ℕ) (x y : ℕ) → a ≡ Some x → b ≡ Some y → option_eq eqb a b ≡ eqb x y
 same_keys a b x y here there = ap (λ o. option_eq eqb o b) here ∙ ap (option_eq eqb (Some x)) there
 
-module _ (items : ℕ) (named named_back : List ℕ) (homes : List (Option Home)) (lens : List ℕ) (lists : List (List Listed)) (stand : StandFor items named named_back homes lens lists)
+module _ (items : ℕ) (named named_back : List ℕ) (homes : List (Option Home)) (lens : List ℕ) (lists : List (List Listed))
+    (stand : StandFor items named named_back homes lens lists)
     (l : ℕ) (low : l < length lists) where
   -- without its first item a list is the rest of it, and no other list changes
   pub first_gone : (item : ℕ) → first_of (row_at lists l) ≡ Some item → map (without_item item) lists ≡ set lists l (drop 1 (row_at lists l))

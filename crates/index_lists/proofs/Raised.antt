@@ -40,7 +40,8 @@ module _ (by : ℕ) where
   lengths_kept [] = refl
   lengths_kept (row ∷ lists) = ap (λ n. n ∷ map length (rows_raised lists)) (length-map row (raised by)) ∙ ap (λ ns. length row ∷ ns) (lengths_kept lists)
 
-  within_kept : (home : Option Home) (other : Home) (n : ℕ) → ((is : Home) → home ≡ Some is → is.list < n) → option_map (raised_home by) home ≡ Some other → other.list < n
+  within_kept : (home : Option Home) (other : Home) (n : ℕ) → ((is : Home) → home ≡ Some is → is.list < n) → option_map (raised_home by) home ≡ Some other →
+      other.list < n
   within_kept None other n low is = absurd (cc is)
   within_kept (Some home) other n low is = let same : home.list ≡ other.list = ap (λ (h : Option Home). is_list h) is in omega (arith, same, low home refl)
     where
@@ -48,7 +49,8 @@ module _ (by : ℕ) where
       is_list None = 0
       is_list (Some home) = home.list
 
-  module _ (items : ℕ) (named named_back : List ℕ) (homes : List (Option Home)) (lens : List ℕ) (lists : List (List Listed)) (stand : StandFor items named named_back homes lens lists) where
+  module _ (items : ℕ) (named named_back : List ℕ) (homes : List (Option Home)) (lens : List ℕ) (lists : List (List Listed))
+      (stand : StandFor items named named_back homes lens lists) where
     sized : length (rows_raised lists) ≡ length lists
     sized = length-map lists (map (raised by))
 
@@ -66,7 +68,8 @@ module _ (by : ℕ) where
           (λ (entry : Listed). home_at (homes_raised homes) entry.item ≡ Some (record { list = l; key = (entry.key + by) % 2 ^ 32 }))
           (λ entry is. home_of homes entry.item ∙ ap (option_map (raised_home by)) is) (row_at lists l) (stand.keys l (low_of l low))));
       once = λ l low. rw (row_of lists l, items_kept (row_at lists l)) (stand.once l (low_of l low));
-      within = λ item home is. let below = within_kept (home_at homes item) home (length lists) (λ h so. stand.within item h so) (sym (home_of homes item) ∙ is) in omega (arith, below, sized);
+      within = λ item home is. let below = within_kept (home_at homes item) home (length lists) (λ h so. stand.within item h so) (sym (home_of homes item) ∙ is)
+          in omega (arith, below, sized);
       counted = stand.counted ∙ sym (lengths_kept lists);
       few = let few = stand.few in omega (arith, few, sized);
       nodes = stand.nodes ∙ ap (λ n. items + n) (sym sized);

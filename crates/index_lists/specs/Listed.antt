@@ -1,5 +1,6 @@
 -- Lists of items with keys, as the callers of `Lists` see them.
-use Rattle.std.specs.Prelude.{◌≡◌, ℕ, ◌+◌, ◌%◌, ◌^◌, List, [], ◌∷◌, Bool, true, not, ◌==◌, nat_le, Option, Some, None, map, filter, find, option_map, unwrap_or, replicate, reverse, slice_index_or, slice_set}
+use Rattle.std.specs.Prelude.{◌≡◌, ℕ, ◌+◌, ◌%◌, ◌^◌, List, [], ◌∷◌, Bool, true, not, ◌==◌, nat_le, Option, Some, None, map, filter, find, option_map, unwrap_or}
+use Rattle.std.specs.Prelude.{replicate, reverse, slice_index_or, slice_set}
 use Rattle.std.specs.List.{list_any, position, after_first, IsDistinct}
 
 -- an item in a list

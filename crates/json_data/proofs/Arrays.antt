@@ -1,6 +1,7 @@
 -- The items of an array, one after another: the tokens after an item are read as if the array had
 -- just opened there.
-use Rattle.std.proofs.Common.{◌≡◌, ℕ, zero, suc, ◌≤◌, max, List, ◌∷◌, ◌++◌, length, true, Option, Some, None, is_some, option_map, refl, sym, ap, ◌∙◌, subst, arith, append_assoc}
+use Rattle.std.proofs.Common.{◌≡◌, ℕ, zero, suc, ◌≤◌, max, List, ◌∷◌, ◌++◌, length, true, Option, Some, None, is_some, option_map, refl, sym, ap, ◌∙◌, subst}
+use Rattle.std.proofs.Common.{arith, append_assoc}
 use Rattle.std.specs.Prelude.{MatchOption, IfNone, unwrap_or}
 use Rattle.json.specs.Token.{Token}
 use Rattle.json.specs.Json as json
@@ -17,7 +18,7 @@ use Rattle.serde_json.specs.Find.{as_array}
 use Rattle.serde_json.specs.Read.{of_json, of_items, of_members, number_of, max_depth}
 use Rattle.json_data.specs.Reading.{data_at, data_of, rest_of}
 use Rattle.json_data.proofs.Members.{then_some, mapped_some}
-use Rattle.json_data.proofs.Places.{Begun, begun, starts, some_data}
+use Rattle.json_data.proofs.Values.{ParsedValue, parsed_value, starts, some_data}
 
 -- items are read from the tokens that they have
 spelled : (d n : ℕ) (ts r : List Token) (js : json.Items) → json.items (json.value d) n ts ≡ Some (js, r) → ts ≡ items_tokens js ++ r
@@ -55,7 +56,7 @@ record Opened (ts : List Token) : Type 0 where
 
 opens : (ts : List Token) → is_some (data_at (Token.begin_array ∷ ts)) ≡ true → Opened ts
 opens ts valid =
-    let b = begun (Token.begin_array ∷ ts) valid in
+    let b = parsed_value (Token.begin_array ∷ ts) valid in
     let here = sym (value-begin_array max_depth ts (omega arith)) ∙ b.is in
     let inside = mapped_some (λ (p : json.Items × List Token). (json.array p.0, p.1)) (json.items (json.value 126) (length ts) ts) (b.value, b.rest) here in
     let is : b.value ≡ json.array inside.0.0 = ap (λ (p : json.Json × List Token). p.0) inside.2 in
@@ -72,8 +73,9 @@ opens ts valid =
 -- the items of an array
 pub array_at : (ts : List Token) (r : Option (List Token)) → is_some (data_at ts) ≡ true
     → ((j : json.Json) → BeginsWith ts j → MatchOption r (json_find.as_array j ≡ None) (λ rest. (js : json.Items) × (j ≡ json.array js) × InItems rest js))
-    → MatchOption r (None ≡ as_array (data_of ts)) (λ rest. (is_some (data_at (Token.begin_array ∷ rest)) ≡ true) × (Some (rest_of rest) ≡ as_array (data_of ts)))
-array_at ts r valid finds = let b = begun ts valid in by r b (finds b.value (max_depth, b.rest, b.is))
+    → MatchOption r (None ≡ as_array (data_of ts)) (λ rest. (is_some (data_at (Token.begin_array ∷ rest)) ≡ true) ×
+    (Some (rest_of rest) ≡ as_array (data_of ts)))
+array_at ts r valid finds = let b = parsed_value ts valid in by r b (finds b.value (max_depth, b.rest, b.is))
   where
     none : (j : json.Json) (d : Data) → of_json j ≡ Some d → json_find.as_array j ≡ None → None ≡ as_array d
     none json.null d is never = ap as_array (Some_inj null d is)
@@ -83,8 +85,10 @@ array_at ts r valid finds = let b = begun ts valid in by r b (finds b.value (max
     none (json.array js) d is never = absurd (cc never)
     none (json.object ms) d is never = let m = mapped_some object (of_members ms no_members) d is in ap as_array (sym m.2)
 
-    by : (r : Option (List Token)) (b : Begun ts) → MatchOption r (json_find.as_array b.value ≡ None) (λ rest. (js : json.Items) × (b.value ≡ json.array js) × InItems rest js)
-        → MatchOption r (None ≡ as_array (data_of ts)) (λ rest. (is_some (data_at (Token.begin_array ∷ rest)) ≡ true) × (Some (rest_of rest) ≡ as_array (data_of ts)))
+    by : (r : Option (List Token)) (b : ParsedValue ts) → MatchOption r (json_find.as_array b.value ≡ None)
+        (λ rest. (js : json.Items) × (b.value ≡ json.array js) × InItems rest js)
+        → MatchOption r (None ≡ as_array (data_of ts)) (λ rest. (is_some (data_at (Token.begin_array ∷ rest)) ≡ true) ×
+        (Some (rest_of rest) ≡ as_array (data_of ts)))
     by None b never = none b.value b.read b.reads never ∙ ap as_array (sym b.shows)
     by (Some rest) b found =
         let deep = subst (λ (j : json.Json). depth j ≤ max_depth) found.1 (value-depth max_depth ts b.rest b.value b.is) in
@@ -98,14 +102,18 @@ array_at ts r valid finds = let b = begun ts valid in by r b (finds b.value (max
 
 -- the next item, and those after it
 pub next_at : (old new : List Token) (r : Option (List Token)) → is_some (data_at (Token.begin_array ∷ old)) ≡ true → NextItem old r new
-    → MatchOption r (rest_of old ≡ no_items) (λ ts. (is_some (data_at ts) ≡ true) × (is_some (data_at (Token.begin_array ∷ new)) ≡ true) × (rest_of old ≡ item (data_of ts) (rest_of new)))
+    → MatchOption r (rest_of old ≡ no_items) (λ ts. (is_some (data_at ts) ≡ true) × (is_some (data_at (Token.begin_array ∷ new)) ≡ true) ×
+    (rest_of old ≡ item (data_of ts) (rest_of new)))
 next_at old new r valid next = let o = opens old valid in by r o (next o.found o.inside)
   where
-    by : (r : Option (List Token)) (o : Opened old) → MatchOption r (o.found ≡ json.no_items) (λ ts. (j : json.Json) × (rest : json.Items) × (o.found ≡ json.item j rest) × BeginsWith ts j × InItems new rest)
-        → MatchOption r (rest_of old ≡ no_items) (λ ts. (is_some (data_at ts) ≡ true) × (is_some (data_at (Token.begin_array ∷ new)) ≡ true) × (rest_of old ≡ item (data_of ts) (rest_of new)))
+    by : (r : Option (List Token)) (o : Opened old) → MatchOption r (o.found ≡ json.no_items)
+        (λ ts. (j : json.Json) × (rest : json.Items) × (o.found ≡ json.item j rest) × BeginsWith ts j × InItems new rest)
+        → MatchOption r (rest_of old ≡ no_items) (λ ts. (is_some (data_at ts) ≡ true) × (is_some (data_at (Token.begin_array ∷ new)) ≡ true) ×
+        (rest_of old ≡ item (data_of ts) (rest_of new)))
     by None o none = o.shows ∙ Some_inj o.items no_items (sym o.reads ∙ ap of_items none)
     by (Some ts) o found =
-        let deep : suc (max (depth found.0) (items_depth found.1)) ≤ max_depth = subst (λ (js : json.Items). depth (json.array js) ≤ max_depth) found.2 o.deep in
+        let deep : suc (max (depth found.0) (items_depth found.1)) ≤ max_depth = subst (λ (js : json.Items). depth (json.array js) ≤ max_depth) found.2 o.deep
+        in
         let reads : of_items (json.item found.0 found.1) ≡ Some o.items = ap of_items (sym found.2) ∙ o.reads in
         let first = then_some (λ d. option_map (item d) (of_items found.1)) (of_json found.0) o.items reads in
         let others = mapped_some (item first.0) (of_items found.1) o.items first.2 in
@@ -118,7 +126,8 @@ next_at old new r valid next = let o = opens old valid in by r o (next o.found o
               ∙ ap (λ (ds : Items). item (data_of ts) ds) (sym (ap (λ (o : Option Data). unwrap_or (as_array (unwrap_or o null)) no_items) goes_on)),
         )
 
-pub next_valid : (old new : List Token) (r : Option (List Token)) → is_some (data_at (Token.begin_array ∷ old)) ≡ true → NextItem old r new → IfNone r (new ≡ old)
+pub next_valid : (old new : List Token) (r : Option (List Token)) → is_some (data_at (Token.begin_array ∷ old)) ≡ true → NextItem old r new → IfNone r
+    (new ≡ old)
     → is_some (data_at (Token.begin_array ∷ new)) ≡ true
 next_valid old new None valid next stays = subst (λ ts. is_some (data_at (Token.begin_array ∷ ts)) ≡ true) (sym stays) valid
 next_valid old new (Some ts) valid next stays = (next_at old new (Some ts) valid next).1

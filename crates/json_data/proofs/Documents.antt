@@ -1,5 +1,6 @@
 -- What serde_json reads of a text, by what `json` reads of it and by what its tokens hold.
-use Rattle.std.proofs.Common.{◌≡◌, ℕ, ◌≤◌, List, [], ◌∷◌, Bool, true, false, ◌&&◌, Option, Some, None, is_some, option_and_then, refl, sym, ap, ◌∙◌, subst, arith, append-nil}
+use Rattle.std.proofs.Common.{◌≡◌, ℕ, ◌≤◌, List, [], ◌∷◌, Bool, true, false, ◌&&◌, Option, Some, None, is_some, option_and_then, refl, sym, ap, ◌∙◌, subst}
+use Rattle.std.proofs.Common.{arith, append-nil}
 use Rattle.std.specs.Prelude.{IsSome, nat_le, unwrap_or}
 use Rattle.std.proofs.lemmas.Bool.Decides.{nat_tests}
 use Rattle.json.specs.Token.{Token}
@@ -31,7 +32,8 @@ not_read t none = at (value max_depth (tokens t)) refl
     at (Some (j, x ∷ xs)) is = refl
     at (Some (j, [])) is =
         let wide : depth j ≤ 128 = omega (arith, value-depth max_depth (tokens t) [] j is) in
-        let whole : document t ≡ Some j = ap (λ o. option_and_then (λ (p : Json × List Token). if_last p.0 p.1) o) (value_in max_depth 128 (tokens t) [] j is wide) in
+        let whole : document t ≡ Some j = ap (λ o. option_and_then (λ (p : Json × List Token). if_last p.0 p.1) o)
+        (value_in max_depth 128 (tokens t) [] j is wide) in
         absurd (cc (none, whole))
 
 -- the tokens of a document that nests no deeper than serde_json allows begin with its value
@@ -45,9 +47,11 @@ too_deep t j is deep = at (value max_depth (tokens t)) refl
     at : (o : Option (Json × List Token)) → value max_depth (tokens t) ≡ o → o ≡ None
     at None found = refl
     at (Some (k, r)) found =
-        let here : value (depth j) (tokens t) ≡ Some (j, []) = subst (λ ts. value (depth j) ts ≡ Some (j, [])) (append-nil (json_tokens j) ∙ sym (tokens-document t j is)) (value-json_tokens j (depth j) [] (omega arith)) in
+        let here : value (depth j) (tokens t) ≡ Some (j, []) = subst (λ ts. value (depth j) ts ≡ Some (j, []))
+        (append-nil (json_tokens j) ∙ sym (tokens-document t j is)) (value-json_tokens j (depth j) [] (omega arith)) in
         let same : (k, r) ≡ (j, []) = Some_inj (k, r) (j, []) (one_reading max_depth (depth j) (tokens t) (k, r) (j, []) found here) in
-        let less : depth j ≤ max_depth = subst (λ (i : Json). depth i ≤ max_depth) (ap (λ (p : Json × List Token). p.0) same) (value-depth max_depth (tokens t) r k found) in
+        let less : depth j ≤ max_depth = subst (λ (i : Json). depth i ≤ max_depth) (ap (λ (p : Json × List Token). p.0) same)
+        (value-depth max_depth (tokens t) r k found) in
         absurd (grind (arith, nat_tests, less, deep))
 
 and_true : (b : Bool) → (b && true) ≡ b

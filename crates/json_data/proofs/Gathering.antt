@@ -1,5 +1,6 @@
 -- The members of an object, one after another, and what is found among them.
-use Rattle.std.proofs.Common.{◌≡◌, ℕ, zero, suc, ◌<◌, ◌≤◌, length, drop, get_or, List, [], ◌∷◌, ◌++◌, Bool, true, false, cond, Option, Some, None, is_some, refl, sym, ap, ◌∙◌, subst, arith, bytes_eq}
+use Rattle.std.proofs.Common.{◌≡◌, ℕ, zero, suc, ◌<◌, ◌≤◌, length, drop, get_or, List, [], ◌∷◌, ◌++◌, Bool, true, false, cond, Option, Some, None, is_some}
+use Rattle.std.proofs.Common.{refl, sym, ap, ◌∙◌, subst, arith, bytes_eq}
 use Rattle.std.proofs.lemmas.Slice.Eq.{bytes_eq-Decides}
 use Rattle.json.specs.Token.{Token}
 use Rattle.json.specs.Json as json
@@ -17,7 +18,7 @@ use Rattle.json_data.specs.Opening.{AreRead}
 use Rattle.json_data.specs.Reading.{data_at, lesser_unknown}
 use Rattle.json_data.specs.View.{view}
 use Rattle.json_data.proofs.Members.{then_some, taken}
-use Rattle.json_data.proofs.Places.{begun, some_data, starts}
+use Rattle.json_data.proofs.Values.{parsed_value, some_data, starts}
 
 -- one more is passed
 pub passed_more : (held : List (Option Named)) (it : Named) (j : json.Json) (all rest more : json.Members)
@@ -46,7 +47,7 @@ begins_read ts j begins some deep = (some_data ts j (starts begins.0 ts begins.1
 -- what an item shows is what serde_json reads of the value there
 shown : (it : Item) (j : json.Json) (d : Data) → BeginsWith it.element j → of_json j ≡ Some d → view it ≡ d
 shown it j d begins is =
-    let b = begun it.element it.valid in
+    let b = parsed_value it.element it.valid in
     let same = Some_inj (b.value, b.rest) (j, begins.1) (one_reading max_depth begins.0 it.element (b.value, b.rest) (j, begins.1) b.is begins.2) in
     let value : b.value ≡ j = ap (λ (p : json.Json × List Token). p.0) same in
     b.shows ∙ Some_inj b.read d (sym b.reads ∙ ap of_json value ∙ is)

@@ -54,8 +54,8 @@ three x y least = by (is_less least y) (is_less least x) refl refl
         is_first false r = absurd (cc (sym q ∙ ranked.chain least y x p r))
     by false false p q = both x y
 
-again : (x least : List ℕ) → lesser x (lesser x least) ≡ lesser x least
-again x least = by (is_less least x) refl
+second : (x least : List ℕ) → lesser x (lesser x least) ≡ lesser x least
+second x least = by (is_less least x) refl
   where
     same : (b : Bool) → cond b x x ≡ x
     same true = refl
@@ -67,23 +67,28 @@ again x least = by (is_less least x) refl
 
 -- ---- with the names that are known
 
-pub twice : (known : List (List ℕ)) (x : List ℕ) (least : Option (List ℕ)) → lesser_unknown known x (lesser_unknown known x least) ≡ lesser_unknown known x least
+pub twice : (known : List (List ℕ)) (x : List ℕ) (least : Option (List ℕ)) → lesser_unknown known x (lesser_unknown known x least) ≡ lesser_unknown known x
+    least
 twice known x least = by (list_any (bytes_eq x) known) least
   where
-    by : (b : Bool) (least : Option (List ℕ)) → cond b (cond b least (Some (option_map_or (lesser x) least x))) (Some (option_map_or (lesser x) (cond b least (Some (option_map_or (lesser x) least x))) x)) ≡ cond b least (Some (option_map_or (lesser x) least x))
+    by : (b : Bool) (least : Option (List ℕ)) → cond b (cond b least (Some (option_map_or (lesser x) least x)))
+        (Some (option_map_or (lesser x) (cond b least (Some (option_map_or (lesser x) least x))) x)) ≡ cond b least (Some (option_map_or (lesser x) least x))
     by true least = refl
     by false None = ap Some (same (is_less x x))
       where
         same : (b : Bool) → cond b x x ≡ x
         same true = refl
         same false = refl
-    by false (Some least) = ap Some (again x least)
+    by false (Some least) = ap Some (second x least)
 
-pub swap : (known : List (List ℕ)) (x y : List ℕ) (least : Option (List ℕ)) → lesser_unknown known x (lesser_unknown known y least) ≡ lesser_unknown known y (lesser_unknown known x least)
+pub swap : (known : List (List ℕ)) (x y : List ℕ) (least : Option (List ℕ)) → lesser_unknown known x (lesser_unknown known y least) ≡ lesser_unknown known y
+    (lesser_unknown known x least)
 swap known x y least = by (list_any (bytes_eq x) known) (list_any (bytes_eq y) known) least
   where
-    by : (b e : Bool) (least : Option (List ℕ)) → cond b (cond e least (Some (option_map_or (lesser y) least y))) (Some (option_map_or (lesser x) (cond e least (Some (option_map_or (lesser y) least y))) x))
-        ≡ cond e (cond b least (Some (option_map_or (lesser x) least x))) (Some (option_map_or (lesser y) (cond b least (Some (option_map_or (lesser x) least x))) y))
+    by : (b e : Bool) (least : Option (List ℕ)) → cond b (cond e least (Some (option_map_or (lesser y) least y)))
+        (Some (option_map_or (lesser x) (cond e least (Some (option_map_or (lesser y) least y))) x))
+        ≡ cond e (cond b least (Some (option_map_or (lesser x) least x)))
+        (Some (option_map_or (lesser y) (cond b least (Some (option_map_or (lesser x) least x))) y))
     by true e least = refl
     by false true least = refl
     by false false None = ap Some (both x y)

@@ -4,6 +4,6 @@ pub mod Gathering
 pub mod Least
 mod Members
 pub mod Objects
-pub mod Places
+pub mod Values
 pub mod Ranges
 pub mod Twice

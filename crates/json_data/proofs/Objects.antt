@@ -18,7 +18,7 @@ use Rattle.json_data.specs.Reading.{data_at, data_of, least_unknown, least_unkno
 use Rattle.json_data.specs.View.{view}
 use Rattle.json_data.proofs.Gathering.{are_read, found_held, names_held}
 use Rattle.json_data.proofs.Members.{mapped_some, names_read, taken, taken_all}
-use Rattle.json_data.proofs.Places.{begun}
+use Rattle.json_data.proofs.Values.{parsed_value}
 
 none : (j : json.Json) (d : Data) → of_json j ≡ Some d → json_find.as_object j ≡ None → None ≡ as_object d
 none json.null d is never = ap as_object (Some_inj null d is)
@@ -29,7 +29,7 @@ none (json.array js) d is never = let m = mapped_some array (of_items js) d is i
 none (json.object ms) d is never = absurd (cc never)
 
 pub no_object : (ts : List Token) → is_some (data_at ts) ≡ true → Opens ts None → None ≡ as_object (data_of ts)
-no_object ts valid finds = let b = begun ts valid in none b.value b.read b.reads (finds b.value (max_depth, b.rest, b.is)) ∙ ap as_object (sym b.shows)
+no_object ts valid finds = let b = parsed_value ts valid in none b.value b.read b.reads (finds b.value (max_depth, b.rest, b.is)) ∙ ap as_object (sym b.shows)
 
 -- what stands in an object
 pub record Object (ts rest : List Token) : Type 0 where
@@ -41,32 +41,36 @@ pub record Object (ts rest : List Token) : Type 0 where
 
 pub an_object : (ts rest : List Token) → is_some (data_at ts) ≡ true → Opens ts (Some rest) → Object ts rest
 an_object ts rest valid finds =
-    let b = begun ts valid in
+    let b = parsed_value ts valid in
     let found = finds b.value (max_depth, b.rest, b.is) in
     let m = mapped_some object (of_members found.0 no_members) b.read (ap of_json (sym found.1) ∙ b.reads) in
     record { found = found.0; members = m.0; inside = found.2; reads = m.1; shows = ap as_object (b.shows ∙ m.2) }
 
 -- an object's least unknown name is that of its keys
-pub unknown_name : (names : List (List ℕ)) (ts rest : List Token) (least : Option (List ℕ)) (members : Members) → is_some (data_at ts) ≡ true → Opens ts (Some rest)
-    → ((all : json.Members) → InMembers rest all → least ≡ least_unknown_key names all) → as_object (data_of ts) ≡ Some members → least ≡ least_unknown names members
+pub unknown_name : (names : List (List ℕ)) (ts rest : List Token) (least : Option (List ℕ)) (members : Members) → is_some (data_at ts) ≡ true → Opens ts
+    (Some rest)
+    → ((all : json.Members) → InMembers rest all → least ≡ least_unknown_key names all) → as_object (data_of ts) ≡ Some members → least ≡ least_unknown names
+    members
 unknown_name names ts rest least members valid finds keys is =
     let o = an_object ts rest valid finds in
     let same : o.members ≡ members = Some_inj o.members members (sym o.shows ∙ is) in
     keys o.found o.inside ∙ sym (names_read names o.found o.members o.reads) ∙ ap (least_unknown names) same
 
 -- one key, and those after it
-pub keys_turn : (names : List (List ℕ)) (old new at : List Token) (k : List ℕ) (ms : json.Members) (least : Option (List ℕ)) → NextMember old (Some (k, at)) new → InMembers old ms
+pub keys_turn : (names : List (List ℕ)) (old new at : List Token) (k : List ℕ) (ms : json.Members) (least : Option (List ℕ)) → NextMember old (Some (k, at)) new
+    → InMembers old ms
     → (rest : json.Members) × InMembers new rest × (taken names ms least ≡ taken names rest (lesser_unknown names k least))
 keys_turn names old new at k ms least next inside = let f = next ms inside in (f.1, f.4, ap (λ (ms : json.Members). taken names ms least) f.2)
 
-pub keys_end : (names : List (List ℕ)) (old new : List Token) (ms : json.Members) (least : Option (List ℕ)) → NextMember old None new → InMembers old ms → taken names ms least ≡ least
+pub keys_end : (names : List (List ℕ)) (old new : List Token) (ms : json.Members) (least : Option (List ℕ)) → NextMember old None new → InMembers old ms → taken
+    names ms least ≡ least
 keys_end names old new ms least next inside = ap (λ (ms : json.Members). taken names ms least) (next ms inside)
 
 -- ---- an object whose members are gone through
 
 pub object_readable : (item : Item) (rest : List Token) → Opens item.element (Some rest) → AreReadable rest
 object_readable item rest opens =
-    let b = begun item.element item.valid in
+    let b = parsed_value item.element item.valid in
     let found = opens b.value (max_depth, b.rest, b.is) in
     let m = mapped_some object (of_members found.0 no_members) b.read (ap of_json (sym found.1) ∙ b.reads) in
     let deep : depth (json.object found.0) ≤ max_depth =

@@ -1,5 +1,6 @@
 -- A walk over the nodes of a tape: what was passed, and what is left of the keys that stand again.
-use Rattle.std.proofs.Common.{◌≡◌, ℕ, ◌+◌, ◌≤◌, ◌<◌, List, Option, is_some, option_and_then, [], ◌∷◌, ◌++◌, length, map, drop, get_or, bytes_eq, true, false, cond, ◌||◌, Some, None, refl, sym, ap, ◌∙◌, subst, arith, append_assoc}
+use Rattle.std.proofs.Common.{◌≡◌, ℕ, ◌+◌, ◌≤◌, ◌<◌, List, Option, is_some, option_and_then, [], ◌∷◌, ◌++◌, length, map, drop, get_or, bytes_eq, true, false}
+use Rattle.std.proofs.Common.{cond, ◌||◌, Some, None, refl, sym, ap, ◌∙◌, subst, arith, append_assoc}
 use Rattle.std.specs.Prelude.{slice_get, Result, IfOk}
 use Rattle.std.specs.Borrow.{Bor}
 use Rattle.std.specs.List.{list_any}
@@ -15,7 +16,7 @@ use Rattle.json.specs.declared.tape.Node.{Node}
 use Rattle.json.specs.declared.tape.Node.TheVariants.{Object, EndObject, Array, EndArray, Key, String, Number, Bool as Truth, Null}
 use Rattle.json.proofs.Unique.Spelling.{value-json_tokens_back}
 use Rattle.json.proofs.Nesting.{value-depth}
-use Rattle.json_data.specs.Doubled.{doubled_in, doubled_in_items, doubled_in_members, first_doubled, if_again, key_of}
+use Rattle.json_data.specs.Doubled.{doubled_in, doubled_in_items, doubled_in_members, first_doubled, if_doubled, key_of}
 use Rattle.json_data.specs.Passing.{GoesOn, Passes}
 use Rattle.json_data.specs.Reading.{data_at}
 use Rattle.json_data.specs.Seen.{has_seen}
@@ -24,7 +25,7 @@ use Rattle.json_data.specs.declared.doubled.Passed.{Passed}
 use Rattle.json_data.specs.declared.doubled.Passed.TheVariants.{Twice, Next}
 use Rattle.json_data.specs.declared.seen.SeenNames.{SeenNames}
 use Rattle.json_data.proofs.Documents.{value_in}
-use Rattle.json_data.proofs.Places.{Begun, begun}
+use Rattle.json_data.proofs.Values.{ParsedValue, parsed_value}
 
 -- ---- by the first token
 
@@ -365,7 +366,7 @@ record MemberNext (ts : List Token) (at next : ℕ) (name : List ℕ) (before : 
   others : Members
   reads : drop (next + 1) ts ≡ json_tokens first ++ (members_tokens others ++ rest)
   same : doubled_in_members at [] all
-      ≡ if_again next name before ++ doubled_in (next + 1) first ++ doubled_in_members
+      ≡ if_doubled next name before ++ doubled_in (next + 1) first ++ doubled_in_members
       (next + 1 + length (json_tokens first)) (name ∷ before) others
   ends : next + 1 + length (json_tokens first ++ members_tokens others)
       ≡ at + length (members_tokens all)
@@ -392,26 +393,26 @@ member_next ns at next key names all rest l low is = by l.left (sym (here ns nex
           first = j;
           others = ms;
           reads = more ∙ append_assoc (json_tokens j) (members_tokens ms) rest;
-          same = same ∙ ap (λ n. if_again next n l.before ++ doubled_in
+          same = same ∙ ap (λ n. if_doubled next n l.before ++ doubled_in
               (next + 1) j ++ doubled_in_members (next + 1 + length (json_tokens j))
               (n ∷ l.before) ms) name;
           ends = omega (arith, ends);
         }
 
 -- the name was there before
-pub name_again : (ns : List Node) (at next : ℕ) (key : Bor (List ℕ)) (names : SeenNames)
+pub name_doubled : (ns : List Node) (at next : ℕ) (key : Bor (List ℕ)) (names : SeenNames)
     (all : Members) (rest : List Token) → MembersLeft (map node_token ns) at next names all rest
     → next < length ns → get_or ns next (Object 0) ≡ Key key
     → has_seen names key.now ≡ true
     → Passes (doubled_in_members at [] all) (at + length (members_tokens all)) (Twice
     (record { name = key; token = next }))
-name_again ns at next key names all rest l low is there =
+name_doubled ns at next key names all rest l low is there =
     let n = member_next ns at next key names all rest l low is in
-    let again : list_any (bytes_eq key.now) l.before ≡ true = sym (l.seen key.now) ∙ there in
+    let second : list_any (bytes_eq key.now) l.before ≡ true = sym (l.seen key.now) ∙ there in
     ap (λ keys. slice_get keys 0) (n.same
     ∙ ap (λ b. cond b (record { token = next; name = key.now } ∷ []) [] ++ doubled_in
     (next + 1) n.first ++ doubled_in_members (next + 1 + length (json_tokens n.first))
-    (key.now ∷ l.before) n.others) again)
+    (key.now ∷ l.before) n.others) second)
 
 -- the name is new
 new_name : (ns : List Node) (at next : ℕ) (key : Bor (List ℕ)) (names : SeenNames) (all : Members)
@@ -421,10 +422,10 @@ new_name : (ns : List Node) (at next : ℕ) (key : Bor (List ℕ)) (names : Seen
     ≡ doubled_in (next + 1) n.first ++ doubled_in_members (next + 1 + length
     (json_tokens n.first)) (key.now ∷ l.before) n.others
 new_name ns at next key names all rest l n there =
-    let again : list_any (bytes_eq key.now) l.before ≡ false = sym (l.seen key.now) ∙ there in
+    let second : list_any (bytes_eq key.now) l.before ≡ false = sym (l.seen key.now) ∙ there in
     n.same ∙ ap (λ b. cond b (record { token = next; name = key.now } ∷ []) [] ++ doubled_in
     (next + 1) n.first ++ doubled_in_members (next + 1 + length (json_tokens n.first))
-    (key.now ∷ l.before) n.others) again
+    (key.now ∷ l.before) n.others) second
 
 pub members_turn : (ns : List Node) (at next after : ℕ) (item : Passed) (key : Bor (List ℕ))
     (names now : SeenNames) (all : Members) (rest : List Token)
@@ -489,7 +490,7 @@ record Whole (ts : List Token) : Type 0 where
 
 whole_of : (ts : List Token) → is_some (data_at ts) ≡ true → Whole ts
 whole_of ts valid =
-    let b : Begun ts = begun ts valid in
+    let b : ParsedValue ts = parsed_value ts valid in
     let wide : depth b.value ≤ 128 = omega (arith, value-depth max_depth ts b.rest b.value b.is) in
     record {
       whole = b.value;

@@ -17,8 +17,8 @@ abbrev pub key_of : Doubled → Key
 key_of doubled = record { token = doubled.token; name = doubled.name.now }
 
 -- the key at a token, where its name is one of those that stand before
-abbrev pub if_again : ℕ → List ℕ → List (List ℕ) → List Key
-if_again at name before =
+abbrev pub if_doubled : ℕ → List ℕ → List (List ℕ) → List Key
+if_doubled at name before =
     if list_any (bytes_eq name) before then record { token = at; name = name } ∷ [] else []
 
 -- The keys in a value that stand again, in the order of the text. The value begins at a token.
@@ -41,7 +41,7 @@ abbrev mutual
   pub doubled_in_members : ℕ → List (List ℕ) → Members → List Key
   doubled_in_members at before json.no_members = []
   doubled_in_members at before (json.member name first rest) =
-      if_again at name before ++ doubled_in (at + 1) first
+      if_doubled at name before ++ doubled_in (at + 1) first
       ++ doubled_in_members (at + 1 + length (json_tokens first)) (name ∷ before) rest
 
 -- the first of them in the value that tokens begin with

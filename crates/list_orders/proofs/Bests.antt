@@ -62,7 +62,8 @@ module _ (test : ℕ → Bool) (before : ℕ → ℕ → Bool) (rank : IsRank be
   leader [] = inl tt
   leader (x ∷ ids) = at (test x) refl (leader ids)
     where
-      at : (b : Bool) → test x ≡ b → AllByRecursion (λ j. test j ≡ false) ids ⊎ ((i : ℕ) × IsLeader ids i) → AllByRecursion (λ j. test j ≡ false) (x ∷ ids) ⊎ ((i : ℕ) × IsLeader (x ∷ ids) i)
+      at : (b : Bool) → test x ≡ b → AllByRecursion (λ j. test j ≡ false) ids ⊎ ((i : ℕ) × IsLeader ids i) → AllByRecursion (λ j. test j ≡ false) (x ∷ ids) ⊎
+          ((i : ℕ) × IsLeader (x ∷ ids) i)
       at true passes (inl none) = inr (
         x,
         record {
@@ -73,10 +74,19 @@ module _ (test : ℕ → Bool) (before : ℕ → ℕ → Bool) (rank : IsRank be
       )
       at true passes (inr some) = inr (ahead x some.0 ids passes some.1 (before some.0 x) refl)
       at false fails (inl none) = inl (fails, none)
-      at false fails (inr some) = inr (some.0, record { there = grind (arith, some.1.there); passes = some.1.passes; leads = (grind (arith, fails), some.1.leads) })
+      at false fails (inr some) = inr (
+        some.0,
+        record {
+          there = grind (arith, some.1.there);
+          passes = some.1.passes;
+          leads =
+              (grind (arith, fails), some.1.leads);
+        },
+      )
 
   -- what is found passes, and goes before each that passes
-  pub best_found : (ids : List ℕ) (i : ℕ) → best test before ids ≡ Some i → (has i ids ≡ true) × (test i ≡ true) × ((j : ℕ) → has j ids ≡ true → test j ≡ true → before i j ≡ true)
+  pub best_found : (ids : List ℕ) (i : ℕ) → best test before ids ≡ Some i → (has i ids ≡ true) × (test i ≡ true) ×
+      ((j : ℕ) → has j ids ≡ true → test j ≡ true → before i j ≡ true)
   unfolding best
   best_found ids i same =
       let it = found (is_best test before ids) ids i same in
@@ -88,5 +98,11 @@ module _ (test : ℕ → Bool) (before : ℕ → ℕ → Bool) (rank : IsRank be
   unfolding best
   best_none ids none j there = elim (leader ids) [
     | inl all ↦ All-has (λ k. test k ≡ false) j ids all there
-    | inr some ↦ absurd (grind (arith, missed (is_best test before ids) ids none some.0 some.1.there, some.1.passes, list_all_from (λ k. not (test k) || before some.0 k) ids some.1.leads))
+    | inr some ↦ absurd (grind (
+      arith,
+      missed (is_best test before ids) ids none some.0 some.1.there,
+      some.1.passes,
+      list_all_from
+          (λ k. not (test k) || before some.0 k) ids some.1.leads,
+    ))
   ]

@@ -29,7 +29,8 @@ module _ {X : Type 0} where
 
   pub All-filter : (P : X → Type 0) (p : X → Bool) (xs : List X) → AllByRecursion P xs → AllByRecursion P (filter p xs)
   All-filter P p [] all = tt
-  All-filter P p (x ∷ xs) all = elim (p x) as (λ b. AllByRecursion P (cond b (x ∷ filter p xs) (filter p xs))) [ true ↦ (all.0, All-filter P p xs all.1) | false ↦ All-filter P p xs all.1 ]
+  All-filter P p (x ∷ xs) all = elim (p x) as (λ b. AllByRecursion P (cond b (x ∷ filter p xs) (filter p xs)))
+      [ true ↦ (all.0, All-filter P p xs all.1) | false ↦ All-filter P p xs all.1 ]
 
   pub All-filter_passes : (p : X → Bool) (xs : List X) → AllByRecursion (λ x. p x ≡ true) (filter p xs)
   All-filter_passes p [] = tt

@@ -14,7 +14,8 @@ use Rattle.list_orders.specs.Listings.{IsListing}
 IsDistinct-filter : (p : ℕ → Bool) (xs : List ℕ) → IsDistinct eqb xs → IsDistinct eqb (filter p xs)
 unfolding IsDistinct
 IsDistinct-filter p [] once = tt
-IsDistinct-filter p (x ∷ xs) once = elim (p x) as (λ b. IsDistinct eqb (cond b (x ∷ filter p xs) (filter p xs))) [ true ↦ (filters.All-filter (λ y. eqb x y ≡ false) p xs once.0, IsDistinct-filter p xs once.1) | false ↦ IsDistinct-filter p xs once.1 ]
+IsDistinct-filter p (x ∷ xs) once = elim (p x) as (λ b. IsDistinct eqb (cond b (x ∷ filter p xs) (filter p xs)))
+    [ true ↦ (filters.All-filter (λ y. eqb x y ≡ false) p xs once.0, IsDistinct-filter p xs once.1) | false ↦ IsDistinct-filter p xs once.1 ]
 
 pub listing_without : (n t : ℕ) (xs : List ℕ) → IsListing n xs → IsListing n (without t xs)
 listing_without n t xs listing = record {
@@ -37,7 +38,8 @@ listing_push n t xs listing low free = record {
 
 pub listing_length : (n : ℕ) (xs : List ℕ) → IsListing n xs → length xs ≤ n
 listing_length n xs listing =
-    length-le_from_distinct_below xs n listing.once (λ q found. All-has (λ i. i < n) q xs (recursion_from_All (λ i. i < n) xs listing.below) (sym (has_either_way q xs) ∙ found))
+    length-le_from_distinct_below xs n listing.once (λ q found. All-has (λ i. i < n) q xs (recursion_from_All (λ i. i < n) xs listing.below)
+    (sym (has_either_way q xs) ∙ found))
 
 -- a listing without some number below n is shorter than n
 pub listing_room : (n t : ℕ) (xs : List ℕ) → IsListing n xs → t < n → has t xs ≡ false → length xs < n

@@ -1,5 +1,6 @@
 -- Lists in one order: two orders of one list agree on it, and two lists of the same numbers in one order are one.
-use Rattle.std.proofs.Common.{◌≡◌, ◌≢◌, ℕ, zero, suc, ◌+◌, ◌<◌, ◌≤◌, Bool, true, false, eqb, ltb, ◌&&◌, List, [], ◌∷◌, refl, sym, ap, ap₂, subst, ◌∙◌, arith, inl, inr}
+use Rattle.std.proofs.Common.{◌≡◌, ◌≢◌, ℕ, zero, suc, ◌+◌, ◌<◌, ◌≤◌, Bool, true, false, eqb, ltb, ◌&&◌, List, [], ◌∷◌, refl, sym, ap, ap₂, subst, ◌∙◌, arith}
+use Rattle.std.proofs.Common.{inl, inr}
 use Rattle.std.specs.Prelude.{◌⊎◌}
 use Rattle.std.specs.List.{filter, range_with_len}
 use Rattle.std.proofs.lemmas.Bool.{cases_eq}
@@ -64,10 +65,15 @@ module _ (order : ℕ → ℕ → Bool) (apart : (i j : ℕ) → order i j ≡ t
 
 range_rises : (a n : ℕ) → IsOrdered ltb (range_with_len a n)
 range_rises a zero = tt
-range_rises a (suc n) = (All-weaker (λ i. (a + 1 ≤ i) × (i < a + 1 + n)) (λ i. ltb a i ≡ true) (λ i h. grind (arith, nat_tests, h.0)) (range_with_len (a + 1) n) (range_all (a + 1) n), range_rises (a + 1) n)
+range_rises a (suc n) = (
+  All-weaker (λ i. (a + 1 ≤ i) × (i < a + 1 + n)) (λ i. ltb a i ≡ true) (λ i h. grind (arith, nat_tests, h.0)) (range_with_len (a + 1) n)
+      (range_all (a + 1) n),
+  range_rises (a + 1) n,
+)
 
 -- numbers by stamps that were each given once have strictly rising stamps
-pub by_stamp_rises : (stamp : ℕ → ℕ) (test : ℕ → Bool) (n : ℕ) → ((i j : ℕ) → i < n → j < n → stamp i ≡ stamp j → i ≡ j) → (bound : ℕ) → IsOrdered (λ i j. ltb (stamp i) (stamp j)) (by_stamp stamp test (numbers n) bound)
+pub by_stamp_rises : (stamp : ℕ → ℕ) (test : ℕ → Bool) (n : ℕ) → ((i j : ℕ) → i < n → j < n → stamp i ≡ stamp j → i ≡ j) → (bound : ℕ) → IsOrdered
+    (λ i j. ltb (stamp i) (stamp j)) (by_stamp stamp test (numbers n) bound)
 by_stamp_rises stamp test n given_once bound =
     by_stamp_in_order (λ i j. ltb (stamp i) (stamp j)) stamp test (numbers n) (λ i j h. grind (arith, nat_tests, h)) at_once bound
   where
@@ -76,5 +82,6 @@ by_stamp_rises stamp test n given_once bound =
         let these = λ (i : ℕ). test i && eqb (stamp i) b in
         IsOrdered-weaker ltb (λ i j. ltb (stamp i) (stamp j)) (λ i. (i < n) × (stamp i ≡ b))
         (λ i j h k less. absurd (grind (arith, nat_tests, less, given_once i j h.0 k.0 (h.1 ∙ sym k.1))))
-        (filter these (numbers n)) (All-both (λ i. i < n) (λ i. stamp i ≡ b) (filter these (numbers n)) (All-filter (λ i. i < n) these (numbers n) (numbers_below n)) (stamped_so stamp test b (numbers n)))
+        (filter these (numbers n)) (All-both (λ i. i < n) (λ i. stamp i ≡ b) (filter these (numbers n))
+        (All-filter (λ i. i < n) these (numbers n) (numbers_below n)) (stamped_so stamp test b (numbers n)))
         (IsOrdered-filter ltb these (numbers n) (range_rises 0 n))

@@ -1,5 +1,6 @@
 -- Ranked lists: the first item that passes a test, found in the list as it was before the ranking, and what makes two alike.
-use Rattle.std.proofs.Common.{◌≡◌, ℕ, ◌+◌, ◌<◌, ◌≤◌, Bool, true, false, cond, not, eqb, leb, ◌&&◌, List, [], ◌∷◌, ◌++◌, length, take, get_or, Some, refl, sym, ap, ◌∙◌, arith, inl, inr}
+use Rattle.std.proofs.Common.{◌≡◌, ℕ, ◌+◌, ◌<◌, ◌≤◌, Bool, true, false, cond, not, eqb, leb, ◌&&◌, List, [], ◌∷◌, ◌++◌, length, take, get_or, Some, refl, sym}
+use Rattle.std.proofs.Common.{ap, ◌∙◌, arith, inl, inr}
 use Rattle.std.specs.List.{filter, find, fold, AllByRecursion}
 use Rattle.std.proofs.lemmas.Bool.{cases_lt}
 use Rattle.std.proofs.lemmas.Bool.Decides.{nat_tests}
@@ -20,7 +21,8 @@ module _ {X : Type 0} (front : X → X → Bool) (rank : IsRank front) where
       apart false on = refl
 
   none_ahead : (x y : X) (ys : List X) → front y x ≡ false → AllByRecursion (λ z. front y z ≡ true) ys → filter (λ z. front z x) ys ≡ []
-  none_ahead x y ys last first = filter_none (λ z. front z x) ys (All-weaker (λ z. front y z ≡ true) (λ z. front z x ≡ false) (λ z h. after_too x y z last h) ys first)
+  none_ahead x y ys last first = filter_none (λ z. front z x) ys (All-weaker (λ z. front y z ≡ true) (λ z. front z x ≡ false) (λ z h. after_too x y z last h) ys
+      first)
 
   flipped : (x z : X) → not (front z x) ≡ true → front x z ≡ true
   flipped x z off = rank.total z x (grind (arith, off))
@@ -30,9 +32,13 @@ module _ {X : Type 0} (front : X → X → Bool) (rank : IsRank front) where
   ordered-placed x xs ordered =
       let before = filter (λ y. front y x) xs in
       let after = filter (λ y. not (front y x)) xs in
-      let lasts : AllByRecursion (λ z. front x z ≡ true) after = All-weaker (λ z. not (front z x) ≡ true) (λ z. front x z ≡ true) (λ z h. flipped x z h) after (All-filter_passes (λ y. not (front y x)) xs) in
-      IsOrdered-append front before (x ∷ after) (IsOrdered-filter front (λ y. front y x) xs ordered) (lasts, IsOrdered-filter front (λ y. not (front y x)) xs ordered)
-      (All-weaker (λ y. front y x ≡ true) (λ y. AllByRecursion (λ z. front y z ≡ true) (x ∷ after)) (λ y h. (h, All-weaker (λ z. front x z ≡ true) (λ z. front y z ≡ true) (λ z k. rank.chain y x z h k) after lasts)) before (All-filter_passes (λ y. front y x) xs))
+      let lasts : AllByRecursion (λ z. front x z ≡ true) after = All-weaker (λ z. not (front z x) ≡ true) (λ z. front x z ≡ true) (λ z h. flipped x z h) after
+      (All-filter_passes (λ y. not (front y x)) xs) in
+      IsOrdered-append front before (x ∷ after) (IsOrdered-filter front (λ y. front y x) xs ordered)
+      (lasts, IsOrdered-filter front (λ y. not (front y x)) xs ordered)
+      (All-weaker (λ y. front y x ≡ true) (λ y. AllByRecursion (λ z. front y z ≡ true) (x ∷ after))
+      (λ y h. (h, All-weaker (λ z. front x z ≡ true) (λ z. front y z ≡ true) (λ z k. rank.chain y x z h k) after lasts)) before
+      (All-filter_passes (λ y. front y x) xs))
 
   ordered-fold : (done xs : List X) → IsOrdered front done → IsOrdered front (fold (λ done x. placed front x done) done xs)
   ordered-fold done [] ordered = ordered
@@ -42,12 +48,14 @@ module _ {X : Type 0} (front : X → X → Bool) (rank : IsRank front) where
   unfolding ranked
   ordered-ranked xs = ordered-fold [] xs tt
 
-  first-placed : (x : X) (xs : List X) → IsOrdered front xs → find (λ _. true) (placed front x xs) ≡ cond (is_better front (find (λ _. true) xs) x) (Some x) (find (λ _. true) xs)
+  first-placed : (x : X) (xs : List X) → IsOrdered front xs → find (λ _. true) (placed front x xs) ≡ cond (is_better front (find (λ _. true) xs) x) (Some x)
+      (find (λ _. true) xs)
   unfolding placed
   first-placed x [] ordered = refl
   first-placed x (y ∷ ys) ordered = either (front y x) refl
     where
-      either : (b : Bool) → front y x ≡ b → find (λ _. true) (cond b (y ∷ filter (λ z. front z x) ys) (filter (λ z. front z x) ys) ++ x ∷ cond (not b) (y ∷ filter (λ z. not (front z x)) ys) (filter (λ z. not (front z x)) ys)) ≡ cond (not b) (Some x) (Some y)
+      either : (b : Bool) → front y x ≡ b → find (λ _. true) (cond b (y ∷ filter (λ z. front z x) ys) (filter (λ z. front z x) ys) ++ x ∷ cond (not b)
+          (y ∷ filter (λ z. not (front z x)) ys) (filter (λ z. not (front z x)) ys)) ≡ cond (not b) (Some x) (Some y)
       either true first = refl
       either false last = rw (none_ahead x y ys last ordered.0) refl
 
@@ -58,13 +66,15 @@ module _ {X : Type 0} (front : X → X → Bool) (rank : IsRank front) where
   find-ranked_push : (p : X → Bool) (xs : List X) (x : X) → find p (ranked front (xs ++ x ∷ [])) ≡ better_of front p (find p (ranked front xs)) x
   find-ranked_push p xs x = first_kept p (xs ++ x ∷ []) ∙ ap (λ ys. find (λ _. true) (ranked front ys)) (filter-append p xs (x ∷ [])) ∙ either (p x)
     where
-      either : (b : Bool) → find (λ _. true) (ranked front (filter p xs ++ cond b (x ∷ []) [])) ≡ cond (b && is_better front (find p (ranked front xs)) x) (Some x) (find p (ranked front xs))
+      either : (b : Bool) → find (λ _. true) (ranked front (filter p xs ++ cond b (x ∷ []) [])) ≡ cond (b && is_better front (find p (ranked front xs)) x)
+          (Some x) (find p (ranked front xs))
       either true =
           ap (find (λ _. true)) (ranked-push front (filter p xs) x) ∙ first-placed x (ranked front (filter p xs)) (ordered-ranked (filter p xs))
           ∙ ap (λ best. cond (is_better front best x) (Some x) best) (sym (first_kept p xs))
       either false = ap (λ ys. find (λ _. true) (ranked front ys)) (append-nil (filter p xs)) ∙ sym (first_kept p xs)
 
-  pub find-ranked_more : (p : X → Bool) (xs : List X) (i : ℕ) (d : X) → i < length xs → find p (ranked front (take (i + 1) xs)) ≡ better_of front p (find p (ranked front (take i xs))) (get_or xs i d)
+  pub find-ranked_more : (p : X → Bool) (xs : List X) (i : ℕ) (d : X) → i < length xs → find p (ranked front (take (i + 1) xs)) ≡ better_of front p
+      (find p (ranked front (take i xs))) (get_or xs i d)
   find-ranked_more p xs i d low = ap (λ ys. find p (ranked front ys)) (take_more xs i d low) ∙ find-ranked_push p (take i xs) (get_or xs i d)
 
 -- Numbers of a greater rank before those of a smaller: such a list is known by its numbers of each rank.
@@ -76,9 +86,14 @@ module _ (rank : ℕ → ℕ) where
   of_rank r i = eqb (rank i) r
 
   none_above : (r : ℕ) (y : ℕ) (ys : List ℕ) → IsOrdered ahead (y ∷ ys) → rank y < r → filter (of_rank r) (y ∷ ys) ≡ []
-  none_above r y ys ordered low = filter_none (of_rank r) (y ∷ ys) (grind (arith, nat_tests, low), All-weaker (λ z. ahead y z ≡ true) (λ z. of_rank r z ≡ false) (λ z h. grind (arith, nat_tests, h, low)) ys ordered.0)
+  none_above r y ys ordered low = filter_none (of_rank r) (y ∷ ys) (
+    grind (arith, nat_tests, low),
+    All-weaker (λ z. ahead y z ≡ true) (λ z. of_rank r z ≡ false)
+        (λ z h. grind (arith, nat_tests, h, low)) ys ordered.0,
+  )
 
-  first_no_lower : (x y : ℕ) (xs ys : List ℕ) → IsOrdered ahead (y ∷ ys) → filter (of_rank (rank x)) (x ∷ xs) ≡ filter (of_rank (rank x)) (y ∷ ys) → rank x ≤ rank y
+  first_no_lower : (x y : ℕ) (xs ys : List ℕ) → IsOrdered ahead (y ∷ ys) → filter (of_rank (rank x)) (x ∷ xs) ≡ filter (of_rank (rank x)) (y ∷ ys) → rank x ≤
+      rank y
   first_no_lower x y xs ys ordered same = elim (cases_lt (rank y) (rank x)) [
     | inl lower ↦ absurd (grind (arith, nat_tests, same, none_above (rank x) y ys ordered lower))
     | inr no_lower ↦ no_lower
@@ -104,11 +119,14 @@ module _ (rank : ℕ → ℕ) where
       ∙ ranked_same ahead (λ i. of_rank r i ≡ true) (λ a b h k. grind (arith, nat_tests, h, k)) (filter (of_rank r) xs) (All-filter_passes (of_rank r) xs)
 
   -- two lists of ranks below a number are ranked alike where they have the same numbers of each rank, in one order
-  pub ranked_alike : (n : ℕ) (xs ys : List ℕ) → AllByRecursion (λ i. rank i < n) xs → AllByRecursion (λ i. rank i < n) ys → ((r : ℕ) → r < n → filter (of_rank r) xs ≡ filter (of_rank r) ys) → ranked ahead xs ≡ ranked ahead ys
-  ranked_alike n xs ys low lower same = alike (ranked ahead xs) (ranked ahead ys) (ordered-ranked ahead rank-IsRank xs) (ordered-ranked ahead rank-IsRank ys) (λ r. of_rank-ranked r xs ∙ each r ∙ sym (of_rank-ranked r ys))
+  pub ranked_alike : (n : ℕ) (xs ys : List ℕ) → AllByRecursion (λ i. rank i < n) xs → AllByRecursion (λ i. rank i < n) ys →
+      ((r : ℕ) → r < n → filter (of_rank r) xs ≡ filter (of_rank r) ys) → ranked ahead xs ≡ ranked ahead ys
+  ranked_alike n xs ys low lower same = alike (ranked ahead xs) (ranked ahead ys) (ordered-ranked ahead rank-IsRank xs) (ordered-ranked ahead rank-IsRank ys)
+      (λ r. of_rank-ranked r xs ∙ each r ∙ sym (of_rank-ranked r ys))
     where
       none : (r : ℕ) → n ≤ r → (zs : List ℕ) → AllByRecursion (λ i. rank i < n) zs → filter (of_rank r) zs ≡ []
-      none r high zs all = filter_none (of_rank r) zs (All-weaker (λ i. rank i < n) (λ i. of_rank r i ≡ false) (λ i h. grind (arith, nat_tests, h, high)) zs all)
+      none r high zs all = filter_none (of_rank r) zs (All-weaker (λ i. rank i < n) (λ i. of_rank r i ≡ false) (λ i h. grind (arith, nat_tests, h, high)) zs
+          all)
 
       each : (r : ℕ) → filter (of_rank r) xs ≡ filter (of_rank r) ys
       each r = elim (cases_lt r n) [

@@ -1,5 +1,7 @@
 -- Checkpoints: they begin with the start, ascend, and each place is fewer than two spans after one.
-use Rattle.std.proofs.Common.{◌≡◌, ◌⊎◌, inl, inr, ⊎_elim, ℕ, zero, suc, ◌+◌, ◌-◌, ◌*◌, ◌/◌, ◌%◌, ◌<◌, ◌≤◌, max, Bool, true, false, cond, eqb, ◌&&◌, ◌||◌, leb, ltb, List, [], ◌∷◌, Some, Ok, slice_get, refl, sym, ap, ap₂, subst, ◌∙◌, arith, length-set, mod-lt, mod-eq_of_lt, div-mul-le_self, div-add-mod'}
+use Rattle.std.proofs.Common.{◌≡◌, ◌⊎◌, inl, inr, ⊎_elim, ℕ, zero, suc, ◌+◌, ◌-◌, ◌*◌, ◌/◌, ◌%◌, ◌<◌, ◌≤◌, max, Bool, true, false, cond, eqb, ◌&&◌, ◌||◌, leb}
+use Rattle.std.proofs.Common.{ltb, List, [], ◌∷◌, Some, Ok, slice_get, refl, sym, ap, ap₂, subst, ◌∙◌, arith, length-set, mod-lt, mod-eq_of_lt, div-mul-le_self}
+use Rattle.std.proofs.Common.{div-add-mod'}
 use Rattle.std.specs.Prelude.{◌↔◌, All, AllPairs, filter}
 use Rattle.std.specs.List.{list_any, range_with_len}
 use Rattle.std.specs.List.Sorted.{IsStrictlyIncreasing}
@@ -18,11 +20,13 @@ use Rattle.list_orders.proofs.Filters.{All-has, All-weaker, All-filter, has-filt
 use Rattle.list_orders.proofs.Stamped.{numbers_below, numbers_have}
 use Rattle.order_laws.proofs.Selects.{list_any_at}
 use Rattle.bench_model.specs.Edits.{accepted, edited}
-use Rattle.bench_model.specs.Meeting.{CheckpointedSession, last_place, checkpoint_before, first_checkpoints, place_of, moved_place, is_compared, replayed_from, met, moved_checkpoints, segment_end, is_added, next_checkpoints}
+use Rattle.bench_model.specs.Meeting.{CheckpointedSession, last_place, checkpoint_before, first_checkpoints, place_of, moved_place, is_compared, replayed_from}
+use Rattle.bench_model.specs.Meeting.{met, moved_checkpoints, segment_end, is_added, next_checkpoints}
 use Rattle.bench_model.specs.Tally.{greatest}
 use Rattle.meeting_laws.specs.CheckpointLaws.{AreCheckpoints, IsLastBefore, IsMoved, IsAdded}
 use Rattle.meeting_laws.proofs.Meetings.{met_within, met_after, met_from}
-use Rattle.meeting_laws.proofs.Moves.{is_after, last_after_insert, last_after_remove, stays_before, inserted_after, moved_within, edit_there, insert_bounds, remove_bounds}
+use Rattle.meeting_laws.proofs.Moves.{is_after, last_after_insert, last_after_remove, stays_before, inserted_after, moved_within, edit_there, insert_bounds}
+use Rattle.meeting_laws.proofs.Moves.{remove_bounds}
 use Rattle.meeting_laws.proofs.Places.{has_first, has_rest, has_later, any_found, least_within, least_from, least_each}
 
 -- ---- the greatest of some places
@@ -44,7 +48,8 @@ greatest_reached (first ∷ places) = at (leb (greatest places) first) refl (gre
     n : ℕ
     n = max first (greatest places)
 
-    at : (b : Bool) → leb (greatest places) first ≡ b → (greatest places ≡ 0) ⊎ (has (greatest places) places ≡ true) → (n ≡ 0) ⊎ (has n (first ∷ places) ≡ true)
+    at : (b : Bool) → leb (greatest places) first ≡ b → (greatest places ≡ 0) ⊎ (has (greatest places) places ≡ true) → (n ≡ 0) ⊎
+        (has n (first ∷ places) ≡ true)
     at true is later =
         let low : greatest places ≤ first = grind (arith, nat_tests, is) in
         let here : n ≡ first = omega (arith, low) in
@@ -69,17 +74,20 @@ module _ (checkpoints : List ℕ) (place : ℕ) where
       has-filter (λ checkpoint. leb checkpoint place) checkpoint checkpoints ∙ ap₂ (λ a b. a && b) so listed
 
   earlier_parts : (checkpoint : ℕ) → has checkpoint earlier ≡ true → (leb checkpoint place ≡ true) × (has checkpoint checkpoints ≡ true)
-  earlier_parts checkpoint found = and_parts (leb checkpoint place) (has checkpoint checkpoints) (sym (has-filter (λ checkpoint. leb checkpoint place) checkpoint checkpoints) ∙ found)
+  earlier_parts checkpoint found = and_parts (leb checkpoint place) (has checkpoint checkpoints)
+      (sym (has-filter (λ checkpoint. leb checkpoint place) checkpoint checkpoints) ∙ found)
 
   pub before_within : checkpoint_before checkpoints place ≤ place
   unfolding checkpoint_before
-  before_within = ⊎_elim (λ none. omega (arith, none)) (λ found. grind (arith, nat_tests, (earlier_parts (greatest earlier) found).0)) (greatest_reached earlier)
+  before_within = ⊎_elim (λ none. omega (arith, none)) (λ found. grind (arith, nat_tests, (earlier_parts (greatest earlier) found).0))
+      (greatest_reached earlier)
 
   pub before_is_last : has 0 checkpoints ≡ true → IsLastBefore checkpoints place (checkpoint_before checkpoints place)
   unfolding checkpoint_before
   before_is_last start =
       let zero_there = is_earlier 0 start (omega arith) in
-      let there : has (greatest earlier) earlier ≡ true = ⊎_elim (λ none. ap (λ n. has n earlier) none ∙ zero_there) (λ found. found) (greatest_reached earlier) in
+      let there : has (greatest earlier) earlier ≡ true = ⊎_elim (λ none. ap (λ n. has n earlier) none ∙ zero_there) (λ found. found) (greatest_reached earlier)
+      in
       let parts = earlier_parts (greatest earlier) there in
       record {
         listed = parts.1;
@@ -88,7 +96,8 @@ module _ (checkpoints : List ℕ) (place : ℕ) where
       }
 
   -- a checkpoint that is near is no nearer than the last
-  pub near_by : (checkpoint far : ℕ) → has 0 checkpoints ≡ true → has checkpoint checkpoints ≡ true → checkpoint ≤ place → place < checkpoint + far → place < checkpoint_before checkpoints place + far
+  pub near_by : (checkpoint far : ℕ) → has 0 checkpoints ≡ true → has checkpoint checkpoints ≡ true → checkpoint ≤ place → place < checkpoint + far → place <
+      checkpoint_before checkpoints place + far
   near_by checkpoint far start listed before near = omega (arith, near, (before_is_last start).last checkpoint listed before)
 
 -- where each place but the start has a checkpoint before it and near it, each segment is short
@@ -99,9 +108,11 @@ module _ (span last : ℕ) (checkpoints : List ℕ) where
   segment_first : (checkpoint next : ℕ) → has next checkpoints ≡ true → checkpoint < next → segment_end last checkpoints checkpoint ≤ next
   segment_first checkpoint next listed past =
       let so : ltb checkpoint next ≡ true = grind (arith, nat_tests, past) in
-      least_each last next (filter (λ next. ltb checkpoint next) checkpoints) (has-filter (λ next. ltb checkpoint next) next checkpoints ∙ ap₂ (λ a b. a && b) so listed)
+      least_each last next (filter (λ next. ltb checkpoint next) checkpoints)
+      (has-filter (λ next. ltb checkpoint next) next checkpoints ∙ ap₂ (λ a b. a && b) so listed)
 
-  segment_from : (bound checkpoint : ℕ) → bound ≤ last → ((next : ℕ) → has next checkpoints ≡ true → checkpoint < next → bound ≤ next) → bound ≤ segment_end last checkpoints checkpoint
+  segment_from : (bound checkpoint : ℕ) → bound ≤ last → ((next : ℕ) → has next checkpoints ≡ true → checkpoint < next → bound ≤ next) → bound ≤ segment_end
+      last checkpoints checkpoint
   segment_from bound checkpoint within each =
       least_from bound last (filter (λ next. ltb checkpoint next) checkpoints) within (λ next found.
       let parts = and_parts (ltb checkpoint next) (has next checkpoints) (sym (has-filter (λ next. ltb checkpoint next) next checkpoints) ∙ found) in
@@ -111,7 +122,8 @@ module _ (span last : ℕ) (checkpoints : List ℕ) where
   segment_within : (checkpoint : ℕ) → segment_end last checkpoints checkpoint ≤ last
   segment_within checkpoint = least_within last (filter (λ next. ltb checkpoint next) checkpoints)
 
-  short_by : 1 ≤ span → ((place : ℕ) → 0 < place → place ≤ last → NearOne place) → (checkpoint : ℕ) → segment_end last checkpoints checkpoint < checkpoint + 2 * span
+  short_by : 1 ≤ span → ((place : ℕ) → 0 < place → place ≤ last → NearOne place) → (checkpoint : ℕ) → segment_end last checkpoints checkpoint < checkpoint + 2 *
+      span
   short_by some near checkpoint = at (ltb checkpoint end) refl
     where
       end : ℕ
@@ -155,9 +167,11 @@ module _ (test : ℕ → Bool) (top : ℕ) where
   starts_passing passes = ap (λ b. slice_get (cond b (0 ∷ filter test (range_with_len 1 top)) (filter test (range_with_len 1 top))) 0) passes
 
   within_passing : (last : ℕ) → top ≤ last → All (λ n. n ≤ last) passing
-  within_passing last high = All-from_recursion (λ n. n ≤ last) passing (All-weaker (λ n. n < suc top) (λ n. n ≤ last) (λ n low. omega (arith, low, high)) passing (All-filter (λ n. n < suc top) test (numbers (suc top)) (numbers_below (suc top))))
+  within_passing last high = All-from_recursion (λ n. n ≤ last) passing (All-weaker (λ n. n < suc top) (λ n. n ≤ last) (λ n low. omega (arith, low, high))
+      passing (All-filter (λ n. n < suc top) test (numbers (suc top)) (numbers_below (suc top))))
 
-  pub passing_fit : (span last : ℕ) → 1 ≤ span → top ≤ last → test 0 ≡ true → ((place : ℕ) → 0 < place → place ≤ last → (n : ℕ) × (n ≤ top) × (test n ≡ true) × (n < place) × (place < n + 2 * span)) → AreCheckpoints span last passing
+  pub passing_fit : (span last : ℕ) → 1 ≤ span → top ≤ last → test 0 ≡ true →
+      ((place : ℕ) → 0 < place → place ≤ last → (n : ℕ) × (n ≤ top) × (test n ≡ true) × (n < place) × (place < n + 2 * span)) → AreCheckpoints span last passing
   passing_fit span last some high passes near = record {
     start = starts_passing passes;
     ascend = IsStrictlyIncreasing-filter test (numbers (suc top)) (numbers_ascend (suc top));
@@ -210,7 +224,8 @@ module _ (span last : ℕ) (checkpoints : List ℕ) (fit : AreCheckpoints span l
   near_one place late within =
       let is = before_is_last checkpoints (place - 1) has_start in
       let q = checkpoint_before checkpoints (place - 1) in
-      let far = segment_from span last checkpoints place q within (λ next listed past. not_before next place late (λ before. is.last next listed before) past) in
+      let far = segment_from span last checkpoints place q within (λ next listed past. not_before next place late (λ before. is.last next listed before) past)
+      in
       (q, is.listed, omega (arith, late, is.before), omega (arith, far, fit.short q is.listed))
     where
       not_before : {q : ℕ} (next place : ℕ) → 0 < place → (next ≤ place - 1 → next ≤ q) → q < next → place ≤ next
@@ -223,7 +238,8 @@ module _ (span last : ℕ) (checkpoints : List ℕ) (fit : AreCheckpoints span l
               let early : next ≤ place - 1 = omega (arith, before) in
               absurd (omega (arith, none early, past))
 
-pub places_near : (span last : ℕ) (checkpoints : List ℕ) (place : ℕ) → 1 ≤ span → AreCheckpoints span last checkpoints → place ≤ last → place < checkpoint_before checkpoints place + 2 * span
+pub places_near : (span last : ℕ) (checkpoints : List ℕ) (place : ℕ) → 1 ≤ span → AreCheckpoints span last checkpoints → place ≤ last → place <
+    checkpoint_before checkpoints place + 2 * span
 places_near span last checkpoints zero some fit within = omega (arith, some)
 places_near span last checkpoints (suc place) some fit within =
     let near = near_one span last checkpoints fit (suc place) (omega arith) within in
@@ -251,13 +267,15 @@ module _ (kept : CheckpointedSession) (some : 1 ≤ kept.span) (fit : AreCheckpo
       let stays = stays_before edit near.0 (omega (arith, before, near.2)) in
       (near.0, near.1, omega (arith, stays, near.2), inl (omega (arith, stays, near.3)))
 
-  near_inserted : (at : ℕ) (step : Step) (place : ℕ) → accepted kept.session (Insert at step) ≡ Ok tt → at < place → place ≤ last_place (edited (Insert at step) kept.session) → NearMoved kept (Insert at step) place
+  near_inserted : (at : ℕ) (step : Step) (place : ℕ) → accepted kept.session (Insert at step) ≡ Ok tt → at < place → place ≤ last_place
+      (edited (Insert at step) kept.session) → NearMoved kept (Insert at step) place
   near_inserted at step place accepts past within = by (ltb 1 place) refl
     where
       edit : Edit
       edit = Insert at step
 
-      fits : (q : ℕ) → q < place - 1 → place - 1 < q + 2 * kept.span → (b : Bool) → ltb at q ≡ b → (c : Bool) → ltb place (q + 2 * kept.span) ≡ c → (place < moved_place (Insert at step) q + 2 * kept.span) ⊎ IsLonger kept (Insert at step) q place
+      fits : (q : ℕ) → q < place - 1 → place - 1 < q + 2 * kept.span → (b : Bool) → ltb at q ≡ b → (c : Bool) → ltb place (q + 2 * kept.span) ≡ c →
+          (place < moved_place (Insert at step) q + 2 * kept.span) ⊎ IsLonger kept (Insert at step) q place
       fits q low close true is c short =
           let later : at < q = grind (arith, nat_tests, is) in
           inl (omega (arith, close, inserted_after at q step later))
@@ -287,13 +305,15 @@ module _ (kept : CheckpointedSession) (some : 1 ≤ kept.span) (fit : AreCheckpo
           let stays = stays_before (Insert at step) 0 (omega arith) in
           (0, has_start kept.span (last_place kept.session) kept.checkpoints fit, omega (arith, stays, past), inl (omega (arith, stays, early, some)))
 
-  near_removed : (at place : ℕ) → accepted kept.session (Remove at) ≡ Ok tt → at < place → place ≤ last_place (edited (Remove at) kept.session) → NearMoved kept (Remove at) place
+  near_removed : (at place : ℕ) → accepted kept.session (Remove at) ≡ Ok tt → at < place → place ≤ last_place (edited (Remove at) kept.session) → NearMoved kept
+      (Remove at) place
   near_removed at place accepts past within =
       let near = near_old (place + 1) (omega arith) (omega (arith, within, last_after_remove kept.session at accepts)) in
       let moved = remove_bounds at near.0 place (omega (arith, near.2)) past in
       (near.0, near.1, moved.0, inl (omega (arith, near.3, moved.1)))
 
-  near_moved : (edit : Edit) (place : ℕ) → accepted kept.session edit ≡ Ok tt → 0 < place → place ≤ last_place (edited edit kept.session) → NearMoved kept edit place
+  near_moved : (edit : Edit) (place : ℕ) → accepted kept.session edit ≡ Ok tt → 0 < place → place ≤ last_place (edited edit kept.session) → NearMoved kept edit
+      place
   near_moved (Insert at step) place accepts late within = by (leb place at) refl
     where
       by : (b : Bool) → leb place at ≡ b → NearMoved kept (Insert at step) place
@@ -327,12 +347,14 @@ module _ (span last : ℕ) (places : List ℕ) (some : 1 ≤ span) (start : has 
       at false = added
 
   -- a checkpoint whose segment has two spans
-  added_after : (c place : ℕ) → IsLastBefore places (place - 1) c → 0 < place → place ≤ last → place ≡ c + 2 * span → is_added span last places (c + span) ≡ true
+  added_after : (c place : ℕ) → IsLastBefore places (place - 1) c → 0 < place → place ≤ last → place ≡ c + 2 * span → is_added span last places (c + span) ≡
+      true
   added_after c place is late within far =
       let long = segment_from span last places (c + 2 * span) c (omega (arith, far, within)) (λ next listed past. not_before next past (is.last next listed)) in
       let here : eqb (c + span) (c + span) ≡ true = grind (arith, nat_tests) in
       let so : leb (c + 2 * span) (segment_end last places c) ≡ true = grind (arith, nat_tests, long) in
-      list_any_at (λ checkpoint. eqb (checkpoint + span) (c + span) && leb (checkpoint + 2 * span) (segment_end last places checkpoint)) c places is.listed (ap₂ (λ a b. a && b) here so)
+      list_any_at (λ checkpoint. eqb (checkpoint + span) (c + span) && leb (checkpoint + 2 * span) (segment_end last places checkpoint)) c places is.listed
+      (ap₂ (λ a b. a && b) here so)
     where
       not_before : (next : ℕ) → c < next → (next ≤ place - 1 → next ≤ c) → c + 2 * span ≤ next
       not_before next past none = at (leb next (place - 1)) refl
@@ -345,7 +367,8 @@ module _ (span last : ℕ) (places : List ℕ) (some : 1 ≤ span) (start : has 
               let later : place - 1 < next = grind (arith, nat_tests, is) in
               omega (arith, later, far)
 
-  near_added : (place near : ℕ) → 0 < place → place ≤ last → has near places ≡ true → near < place → place ≤ near + 2 * span → (n : ℕ) × (n ≤ last) × ((has n places || is_added span last places n) ≡ true) × (n < place) × (place < n + 2 * span)
+  near_added : (place near : ℕ) → 0 < place → place ≤ last → has near places ≡ true → near < place → place ≤ near + 2 * span → (n : ℕ) × (n ≤ last) ×
+      ((has n places || is_added span last places n) ≡ true) × (n < place) × (place < n + 2 * span)
   near_added place near late within listed before close = by (ltb place (c + 2 * span)) refl
     where
       c : ℕ
@@ -354,23 +377,32 @@ module _ (span last : ℕ) (places : List ℕ) (some : 1 ≤ span) (start : has 
       is : IsLastBefore places (place - 1) (checkpoint_before places (place - 1))
       is = before_is_last places (place - 1) start
 
-      by : (b : Bool) → ltb place (c + 2 * span) ≡ b → (n : ℕ) × (n ≤ last) × ((has n places || is_added span last places n) ≡ true) × (n < place) × (place < n + 2 * span)
+      by : (b : Bool) → ltb place (c + 2 * span) ≡ b → (n : ℕ) × (n ≤ last) × ((has n places || is_added span last places n) ≡ true) × (n < place) ×
+          (place < n + 2 * span)
       by true so =
           let short : place < c + 2 * span = grind (arith, nat_tests, so) in
           (c, omega (arith, is.before, within), kept_one c is.listed, omega (arith, is.before, late), short)
       by false so =
           let long : c + 2 * span ≤ place = grind (arith, nat_tests, so) in
           let nearer : near ≤ c = is.last near listed (omega (arith, before)) in
-          let far : place ≡ c + 2 * span = omega (arith, long, close, nearer) in
-          (c + span, omega (arith, far, within), added_one (c + span) (added_after c place is late within far), omega (arith, far, some), omega (arith, far, some))
+          let far : place ≡ c + 2 * span = omega (arith, long, close, nearer) in (
+            c + span,
+            omega (arith, far, within),
+            added_one (c + span) (added_after c place is late within far),
+            omega (arith, far, some),
+            omega
+                (arith, far, some),
+          )
 
 -- a checkpoint of the session lies where it has moved to
-module _ (kept : CheckpointedSession) (edit : Edit) (accepts : accepted kept.session edit ≡ Ok tt) (fit : AreCheckpoints kept.span (last_place kept.session) kept.checkpoints) where
+module _ (kept : CheckpointedSession) (edit : Edit) (accepts : accepted kept.session edit ≡ Ok tt)
+    (fit : AreCheckpoints kept.span (last_place kept.session) kept.checkpoints) where
   moved_listed : (checkpoint : ℕ) → has checkpoint kept.checkpoints ≡ true → has (moved_place edit checkpoint) (moved_checkpoints kept edit) ≡ true
   moved_listed checkpoint listed =
       let within = listed_within kept.span (last_place kept.session) kept.checkpoints fit checkpoint listed in
       let same : eqb (moved_place edit checkpoint) (moved_place edit checkpoint) ≡ true = grind (arith, nat_tests) in
-      is_passing (λ place. list_any (λ checkpoint. eqb (moved_place edit checkpoint) place) kept.checkpoints) (last_place (edited edit kept.session)) (moved_place edit checkpoint) (moved_within kept.session edit checkpoint accepts within)
+      is_passing (λ place. list_any (λ checkpoint. eqb (moved_place edit checkpoint) place) kept.checkpoints) (last_place (edited edit kept.session))
+      (moved_place edit checkpoint) (moved_within kept.session edit checkpoint accepts within)
       (list_any_at (λ other. eqb (moved_place edit other) (moved_place edit checkpoint)) checkpoint kept.checkpoints listed same)
 
   start_moved : has 0 (moved_checkpoints kept edit) ≡ true
@@ -379,28 +411,38 @@ module _ (kept : CheckpointedSession) (edit : Edit) (accepts : accepted kept.ses
       ∙ moved_listed 0 (has_start kept.span (last_place kept.session) kept.checkpoints fit)
 
 -- at most two spans in either case
-moved_close : (kept : CheckpointedSession) (edit : Edit) (checkpoint place : ℕ) → (place < moved_place edit checkpoint + 2 * kept.span) ⊎ IsLonger kept edit checkpoint place → place ≤ moved_place edit checkpoint + 2 * kept.span
+moved_close : (kept : CheckpointedSession) (edit : Edit) (checkpoint place : ℕ) → (place < moved_place edit checkpoint + 2 * kept.span) ⊎ IsLonger kept edit
+    checkpoint place → place ≤ moved_place edit checkpoint + 2 * kept.span
 moved_close kept edit checkpoint place (inl near) = omega (arith, near)
 moved_close kept edit checkpoint place (inr longer) = omega (arith, longer.0, stays_before edit checkpoint longer.1)
 
-pub next_fit : (kept : CheckpointedSession) (edit : Edit) → 1 ≤ kept.span → accepted kept.session edit ≡ Ok tt → AreCheckpoints kept.span (last_place kept.session) kept.checkpoints → AreCheckpoints kept.span (last_place (edited edit kept.session)) (next_checkpoints kept edit)
+pub next_fit : (kept : CheckpointedSession) (edit : Edit) → 1 ≤ kept.span → accepted kept.session edit ≡ Ok tt → AreCheckpoints kept.span
+    (last_place kept.session) kept.checkpoints → AreCheckpoints kept.span (last_place (edited edit kept.session)) (next_checkpoints kept edit)
 next_fit kept edit some accepts fit =
     let last = last_place (edited edit kept.session) in
     let places = moved_checkpoints kept edit in
     let start = start_moved kept edit accepts fit in
-    passing_fit (λ place. has place places || is_added kept.span last places place) last kept.span last some (omega arith) (kept_one kept.span last places some start 0 start)
+    passing_fit (λ place. has place places || is_added kept.span last places place) last kept.span last some (omega arith)
+    (kept_one kept.span last places some start 0 start)
     (λ place late within.
     let near = near_moved kept some fit edit place accepts late within in
-    near_added kept.span last places some start place (moved_place edit near.0) late within (moved_listed kept edit accepts fit near.0 near.1) near.2 (moved_close kept edit near.0 place near.3))
+    near_added kept.span last places some start place (moved_place edit near.0) late within (moved_listed kept edit accepts fit near.0 near.1) near.2
+    (moved_close kept edit near.0 place near.3))
 
 -- ---- the checkpoint that is added
 
-module _ (kept : CheckpointedSession) (edit : Edit) (some : 1 ≤ kept.span) (accepts : accepted kept.session edit ≡ Ok tt) (fit : AreCheckpoints kept.span (last_place kept.session) kept.checkpoints) where
+module _ (kept : CheckpointedSession) (edit : Edit) (some : 1 ≤ kept.span) (accepts : accepted kept.session edit ≡ Ok tt)
+    (fit : AreCheckpoints kept.span (last_place kept.session) kept.checkpoints) where
   -- no checkpoint lies between c and two spans after it
   module _ (c : ℕ) (long : c + 2 * kept.span ≤ segment_end (last_place (edited edit kept.session)) (moved_checkpoints kept edit) c) where
     not_between : (checkpoint : ℕ) → has checkpoint kept.checkpoints ≡ true → c < moved_place edit checkpoint → c + 2 * kept.span ≤ moved_place edit checkpoint
     not_between checkpoint listed past =
-        omega (arith, long, segment_first kept.span (last_place (edited edit kept.session)) (moved_checkpoints kept edit) c (moved_place edit checkpoint) (moved_listed kept edit accepts fit checkpoint listed) past)
+        omega (
+          arith,
+          long,
+          segment_first kept.span (last_place (edited edit kept.session)) (moved_checkpoints kept edit) c (moved_place edit checkpoint)
+              (moved_listed kept edit accepts fit checkpoint listed) past,
+        )
 
     not_past : (checkpoint : ℕ) → has checkpoint kept.checkpoints ≡ true → moved_place edit checkpoint < c + 2 * kept.span → moved_place edit checkpoint ≤ c
     not_past checkpoint listed low = at (ltb c (moved_place edit checkpoint)) refl
@@ -419,15 +461,20 @@ module _ (kept : CheckpointedSession) (edit : Edit) (some : 1 ≤ kept.span) (ac
         let low = not_past from is.listed (omega (arith, stays, is.before, past)) in
         omega (arith, same, stays, low, is.last q listed before)
 
-    longer_there : (q : ℕ) → has q kept.checkpoints ≡ true → moved_place edit q < c + 2 * kept.span → (c + 2 * kept.span < moved_place edit q + 2 * kept.span) ⊎ IsLonger kept edit q (c + 2 * kept.span) → (c ≡ replayed_from kept edit) × (c + 2 * kept.span ≤ met kept edit)
+    longer_there : (q : ℕ) → has q kept.checkpoints ≡ true → moved_place edit q < c + 2 * kept.span → (c + 2 * kept.span < moved_place edit q + 2 * kept.span) ⊎
+        IsLonger kept edit q (c + 2 * kept.span) → (c ≡ replayed_from kept edit) × (c + 2 * kept.span ≤ met kept edit)
     longer_there q listed low (inl near) = absurd (omega (arith, near, not_past q listed low))
     longer_there q listed low (inr longer) =
         let same : q ≡ c = omega (arith, longer.0) in
-        let within = segment_within kept.span (last_place (edited edit kept.session)) (moved_checkpoints kept edit) c in
-        (begins_there q listed same longer.1 longer.2, met_after kept edit (c + 2 * kept.span) (omega (arith, long, within)) (λ other there compared. not_between other there (omega (arith, same, longer.3 other compared))))
+        let within = segment_within kept.span (last_place (edited edit kept.session)) (moved_checkpoints kept edit) c in (
+          begins_there q listed same longer.1 longer.2,
+          met_after kept edit (c + 2 * kept.span) (omega (arith, long, within))
+              (λ other there compared. not_between other there (omega (arith, same, longer.3 other compared))),
+        )
 
   -- so a checkpoint that has no other for two spans is where the replay begins
-  long_is_first : (c : ℕ) → c + 2 * kept.span ≤ segment_end (last_place (edited edit kept.session)) (moved_checkpoints kept edit) c → (c ≡ replayed_from kept edit) × (c + 2 * kept.span ≤ met kept edit)
+  long_is_first : (c : ℕ) → c + 2 * kept.span ≤ segment_end (last_place (edited edit kept.session)) (moved_checkpoints kept edit) c →
+      (c ≡ replayed_from kept edit) × (c + 2 * kept.span ≤ met kept edit)
   long_is_first c long =
       let within = segment_within kept.span (last_place (edited edit kept.session)) (moved_checkpoints kept edit) c in
       let near = near_moved kept some fit edit (c + 2 * kept.span) accepts (omega (arith, some)) (omega (arith, long, within)) in
@@ -444,7 +491,8 @@ module _ (kept : CheckpointedSession) (edit : Edit) (some : 1 ≤ kept.span) (ac
   from_listed : has (replayed_from kept edit) (moved_checkpoints kept edit) ≡ true
   from_listed =
       let is = before_is_last kept.checkpoints (place_of edit) (has_start kept.span (last_place kept.session) kept.checkpoints fit) in
-      sym (ap (λ n. has n (moved_checkpoints kept edit)) (stays_before edit (replayed_from kept edit) is.before)) ∙ moved_listed kept edit accepts fit (replayed_from kept edit) is.listed
+      sym (ap (λ n. has n (moved_checkpoints kept edit)) (stays_before edit (replayed_from kept edit) is.before)) ∙ moved_listed kept edit accepts fit
+      (replayed_from kept edit) is.listed
 
   moved_to : (place : ℕ) → has place (moved_checkpoints kept edit) ≡ true → IsMoved kept edit place
   moved_to place listed =
@@ -459,7 +507,8 @@ module _ (kept : CheckpointedSession) (edit : Edit) (some : 1 ≤ kept.span) (ac
   added_to place added =
       let last = last_place (edited edit kept.session) in
       let places = moved_checkpoints kept edit in
-      let found = any_found (λ checkpoint. eqb (checkpoint + kept.span) place && leb (checkpoint + 2 * kept.span) (segment_end last places checkpoint)) places added in
+      let found = any_found (λ checkpoint. eqb (checkpoint + kept.span) place && leb (checkpoint + 2 * kept.span) (segment_end last places checkpoint)) places
+      added in
       let parts = and_parts (eqb (found.0 + kept.span) place) (leb (found.0 + 2 * kept.span) (segment_end last places found.0)) found.2 in
       let here : found.0 + kept.span ≡ place = grind (arith, nat_tests, parts.0) in
       let long : found.0 + 2 * kept.span ≤ segment_end last places found.0 = grind (arith, nat_tests, parts.1) in
@@ -467,12 +516,14 @@ module _ (kept : CheckpointedSession) (edit : Edit) (some : 1 ≤ kept.span) (ac
       (omega (arith, here, first), subst (λ c. c + 2 * kept.span ≤ segment_end last places c) first long)
 
   one_of_these : (place : ℕ) → has place (next_checkpoints kept edit) ≡ true → IsMoved kept edit place ⊎ IsAdded kept edit place
-  one_of_these place listed = at (has place (moved_checkpoints kept edit)) refl (and_parts (next_test place) (has place all) (sym (has-filter next_test place all) ∙ listed)).0
+  one_of_these place listed = at (has place (moved_checkpoints kept edit)) refl
+      (and_parts (next_test place) (has place all) (sym (has-filter next_test place all) ∙ listed)).0
     where
       all : List ℕ
       all = numbers (suc (last_place (edited edit kept.session)))
 
-      at : (b : Bool) → has place (moved_checkpoints kept edit) ≡ b → (b || is_added kept.span (last_place (edited edit kept.session)) (moved_checkpoints kept edit) place) ≡ true → IsMoved kept edit place ⊎ IsAdded kept edit place
+      at : (b : Bool) → has place (moved_checkpoints kept edit) ≡ b → (b || is_added kept.span (last_place (edited edit kept.session))
+          (moved_checkpoints kept edit) place) ≡ true → IsMoved kept edit place ⊎ IsAdded kept edit place
       at true is passes = inl (moved_to place is)
       at false is passes = inr (added_to place passes)
 
@@ -490,8 +541,10 @@ module _ (kept : CheckpointedSession) (edit : Edit) (some : 1 ≤ kept.span) (ac
       let within = segment_within kept.span last places from in
       let here : eqb (from + kept.span) place ≡ true = grind (arith, nat_tests, added.0) in
       let so : leb (from + 2 * kept.span) (segment_end last places from) ≡ true = grind (arith, nat_tests, added.1) in
-      let is = list_any_at (λ checkpoint. eqb (checkpoint + kept.span) place && leb (checkpoint + 2 * kept.span) (segment_end last places checkpoint)) from places from_listed (ap₂ (λ a b. a && b) here so) in
-      is_passing next_test last place (omega (arith, added.0, added.1, within)) (added_one kept.span last places some (start_moved kept edit accepts fit) place is)
+      let is = list_any_at (λ checkpoint. eqb (checkpoint + kept.span) place && leb (checkpoint + 2 * kept.span) (segment_end last places checkpoint)) from
+      places from_listed (ap₂ (λ a b. a && b) here so) in
+      is_passing next_test last place (omega (arith, added.0, added.1, within))
+      (added_one kept.span last places some (start_moved kept edit accepts fit) place is)
 
   pub next_are_these : (place : ℕ) → (has place (next_checkpoints kept edit) ≡ true) ↔ (IsMoved kept edit place ⊎ IsAdded kept edit place)
   next_are_these place = (one_of_these place, these_are_listed place)
@@ -513,27 +566,35 @@ first_or_rest first place places found = at (eqb first place) refl
     at true is = inl (grind (arith, nat_tests, is))
     at false is = inr (has_later first place places is found)
 
-same_first : (x y : ℕ) (xs ys : List ℕ) → AllPairs (λ a b. a < b) (x ∷ xs) → AllPairs (λ a b. a < b) (y ∷ ys) → has x (y ∷ ys) ≡ true → has y (x ∷ xs) ≡ true → x ≡ y
+same_first : (x y : ℕ) (xs ys : List ℕ) → AllPairs (λ a b. a < b) (x ∷ xs) → AllPairs (λ a b. a < b) (y ∷ ys) → has x (y ∷ ys) ≡ true → has y (x ∷ xs) ≡ true →
+    x ≡ y
 same_first x y xs ys up upward one other =
-    ⊎_elim (λ same. sym same) (λ later. ⊎_elim (λ same. same) (λ earlier. absurd (omega (arith, first_below x y xs up earlier, first_below y x ys upward later))) (first_or_rest x y xs other)) (first_or_rest y x ys one)
+    ⊎_elim (λ same. sym same) (λ later. ⊎_elim (λ same. same) (λ earlier. absurd
+    (omega (arith, first_below x y xs up earlier, first_below y x ys upward later))) (first_or_rest x y xs other)) (first_or_rest y x ys one)
 
-same_rest : (x y place : ℕ) (xs ys : List ℕ) → x ≡ y → AllPairs (λ a b. a < b) (x ∷ xs) → (has place (x ∷ xs) ≡ true → has place (y ∷ ys) ≡ true) → has place xs ≡ true → has place ys ≡ true
+same_rest : (x y place : ℕ) (xs ys : List ℕ) → x ≡ y → AllPairs (λ a b. a < b) (x ∷ xs) → (has place (x ∷ xs) ≡ true → has place (y ∷ ys) ≡ true) → has place xs
+    ≡ true → has place ys ≡ true
 same_rest x y place xs ys same up over listed =
-    ⊎_elim (λ here. absurd (omega (arith, here, same, first_below x place xs up listed))) (λ later. later) (first_or_rest y place ys (over (has_rest x place xs listed)))
+    ⊎_elim (λ here. absurd (omega (arith, here, same, first_below x place xs up listed))) (λ later. later)
+    (first_or_rest y place ys (over (has_rest x place xs listed)))
 
-same_pairs : (xs ys : List ℕ) → AllPairs (λ a b. a < b) xs → AllPairs (λ a b. a < b) ys → ((place : ℕ) → (has place xs ≡ true) ↔ (has place ys ≡ true)) → xs ≡ ys
+same_pairs : (xs ys : List ℕ) → AllPairs (λ a b. a < b) xs → AllPairs (λ a b. a < b) ys → ((place : ℕ) → (has place xs ≡ true) ↔ (has place ys ≡ true)) → xs ≡
+    ys
 same_pairs [] [] up upward same = refl
 same_pairs [] (y ∷ ys) up upward same = absurd (cc ((same y).1 (has_first y ys)))
 same_pairs (x ∷ xs) [] up upward same = absurd (cc ((same x).0 (has_first x xs)))
 same_pairs (x ∷ xs) (y ∷ ys) up upward same =
     let first = same_first x y xs ys up upward ((same x).0 (has_first x xs)) ((same y).1 (has_first y ys)) in
-    let rest = same_pairs xs ys (rest_pairs x xs up) (rest_pairs y ys upward) (λ place. (same_rest x y place xs ys first up (same place).0, same_rest y x place ys xs (sym first) upward (same place).1)) in
+    let rest = same_pairs xs ys (rest_pairs x xs up) (rest_pairs y ys upward)
+    (λ place. (same_rest x y place xs ys first up (same place).0, same_rest y x place ys xs (sym first) upward (same place).1)) in
     ap₂ (λ z zs. z ∷ zs) first rest
 
-pub ascending_are_one : (xs ys : List ℕ) → IsStrictlyIncreasing xs → IsStrictlyIncreasing ys → ((place : ℕ) → (has place xs ≡ true) ↔ (has place ys ≡ true)) → xs ≡ ys
+pub ascending_are_one : (xs ys : List ℕ) → IsStrictlyIncreasing xs → IsStrictlyIncreasing ys → ((place : ℕ) → (has place xs ≡ true) ↔ (has place ys ≡ true)) →
+    xs ≡ ys
 ascending_are_one xs ys up upward same = same_pairs xs ys (AllPairs-from_increasing xs up) (AllPairs-from_increasing ys upward) same
 
 -- ---- the replay between its two ends
 
-pub replay_is_within : (kept : CheckpointedSession) (edit : Edit) → accepted kept.session edit ≡ Ok tt → (replayed_from kept edit ≤ met kept edit) × (met kept edit ≤ last_place (edited edit kept.session))
+pub replay_is_within : (kept : CheckpointedSession) (edit : Edit) → accepted kept.session edit ≡ Ok tt → (replayed_from kept edit ≤ met kept edit) ×
+    (met kept edit ≤ last_place (edited edit kept.session))
 replay_is_within kept edit accepts = (omega (arith, before_within kept.checkpoints (place_of edit), met_from kept edit accepts), met_within kept edit)

@@ -1,5 +1,6 @@
 -- What is untouched before an edit, what is as it was after a meeting, and the first meeting.
-use Rattle.std.proofs.Common.{◌≡◌, inl, inr, ⊎_elim, ℕ, suc, ◌+◌, ◌-◌, ◌<◌, ◌≤◌, Bool, true, ◌&&◌, List, length, map, take, drop, Some, None, Ok, sym, ap, ap₂, subst, ◌∙◌, arith}
+use Rattle.std.proofs.Common.{◌≡◌, inl, inr, ⊎_elim, ℕ, suc, ◌+◌, ◌-◌, ◌<◌, ◌≤◌, Bool, true, ◌&&◌, List, length, map, take, drop, Some, None, Ok, sym, ap, ap₂}
+use Rattle.std.proofs.Common.{subst, ◌∙◌, arith}
 use Rattle.std.specs.Prelude.{filter, option_map, slice_get, nat_le, if◌then◌else◌}
 use Rattle.std.proofs.lemmas.Bool.{and_parts}
 use Rattle.std.proofs.lemmas.Bool.Decides.{nat_tests}
@@ -20,13 +21,14 @@ use Rattle.session_laws.proofs.EditedSessions.{edited_session}
 use Rattle.meeting_laws.specs.MeetingLaws.{IsUntouchedAt, MeetAt, IsKeptAt, IsMeeting, MayEnd, IsFirstEnd, ticks_later}
 use Rattle.meeting_laws.specs.RunLaws.{MeetBy}
 use Rattle.meeting_laws.proofs.Going.{go_on_alike}
-use Rattle.meeting_laws.proofs.Meets.{meetings_told}
+use Rattle.meeting_laws.proofs.Meets.{meetings_decided}
 use Rattle.meeting_laws.proofs.Places.{last_taken, least_from, least_each, least_reached, least_within, moved_found, moved_has}
 use Rattle.meeting_laws.proofs.Moves.{moved_later, moved_within, moved_from, edit_within, edit_there, steps_before_stay, steps_after_move}
 
 -- ---- before the edit
 
-module _ (session : Session) (edit : Edit) (place : ℕ) (accepts : accepted session edit ≡ Ok tt) (header : (edited edit session).header ≡ session.header) (before : place ≤ place_of edit) where
+module _ (session : Session) (edit : Edit) (place : ℕ) (accepts : accepted session edit ≡ Ok tt) (header : (edited edit session).header ≡ session.header)
+    (before : place ≤ place_of edit) where
   state_untouched : state_at (edited edit session).header (edited edit session).steps place ≡ state_at session.header session.steps place
   unfolding state_at
   state_untouched = ap₂ (λ (header : Header) steps. state_after (start header) steps) header (steps_before_stay session edit place accepts before)
@@ -40,7 +42,8 @@ module _ (session : Session) (edit : Edit) (place : ℕ) (accepts : accepted ses
       ∙ ap (λ table. Some (running table.control)) state_untouched
       ∙ sym (ap (λ (b : Bool). if b then Some (running (state_at session.header session.steps place).control) else None) there)
 
-  reply_untouched : place < place_of edit → reply_at (edited edit session).header (edited edit session).steps place ≡ reply_at session.header session.steps place
+  reply_untouched : place < place_of edit → reply_at (edited edit session).header (edited edit session).steps place ≡ reply_at session.header session.steps
+      place
   unfolding reply_at
   reply_untouched early =
       let next = edited edit session in
@@ -50,7 +53,8 @@ module _ (session : Session) (edit : Edit) (place : ℕ) (accepts : accepted ses
       same_step : (xs ys : List Step) (n : ℕ) → take (suc n) xs ≡ take (suc n) ys → slice_get xs n ≡ slice_get ys n
       same_step xs ys n same = sym (last_taken xs n) ∙ ap (λ zs. slice_get zs n) same ∙ last_taken ys n
 
-pub before_is_untouched : (session : Session) (edit : Edit) (place : ℕ) → accepted session edit ≡ Ok tt → (edited edit session).header ≡ session.header → place ≤ place_of edit → IsUntouchedAt session edit place
+pub before_is_untouched : (session : Session) (edit : Edit) (place : ℕ) → accepted session edit ≡ Ok tt → (edited edit session).header ≡ session.header → place
+    ≤ place_of edit → IsUntouchedAt session edit place
 before_is_untouched session edit place accepts header before = record {
   state = state_untouched session edit place accepts header before;
   row = row_untouched session edit place accepts header before;
@@ -59,19 +63,25 @@ before_is_untouched session edit place accepts header before = record {
 
 -- ---- from a meeting on
 
-pub meeting_lasts : (session : Session) (edit : Edit) (meeting place : ℕ) → IsSession session → IsEditOfWords edit → accepted session edit ≡ Ok tt → meeting ≤ last_place session → is_compared edit meeting ≡ true → MeetAt session edit meeting → meeting ≤ place → IsKeptAt (ticks_later session edit meeting) session edit place
+pub meeting_lasts : (session : Session) (edit : Edit) (meeting place : ℕ) → IsSession session → IsEditOfWords edit → accepted session edit ≡ Ok tt → meeting ≤
+    last_place session → is_compared edit meeting ≡ true → MeetAt session edit meeting → meeting ≤ place → IsKeptAt (ticks_later session edit meeting) session
+    edit place
 meeting_lasts session edit meeting place is words accepts within compared alike later =
     let next = edited edit session in
     let there = moved_place edit meeting in
     let by = ticks_later session edit meeting in
     let same_steps = steps_after_move session edit meeting accepts compared in
-    let meet = (meetings_told (state_at session.header session.steps meeting) (state_at next.header next.steps there) (drop there next.steps)).0 alike in
-    let on = go_on_alike by session next meeting there is (edited_session session edit is words accepts) within (moved_within session edit meeting accepts within) (subst (MeetBy by (state_at session.header session.steps meeting) (state_at next.header next.steps there)) same_steps meet) (sym same_steps) in
+    let meet = (meetings_decided (state_at session.header session.steps meeting) (state_at next.header next.steps there) (drop there next.steps)).0 alike in
+    let on = go_on_alike by session next meeting there is (edited_session session edit is words accepts) within
+    (moved_within session edit meeting accepts within) (subst
+    (MeetBy by (state_at session.header session.steps meeting) (state_at next.header next.steps there)) same_steps meet) (sym same_steps) in
     let k : ℕ = place - meeting in
     let old : meeting + k ≡ place = omega (arith, later) in
     let new : there + k ≡ moved_place edit place = sym (moved_later edit meeting place compared later) in
     record {
-      state = subst (λ p. view_of (state_at next.header next.steps (moved_place edit place)) ≡ shifted by (view_of (state_at session.header session.steps p))) old (subst (λ q. view_of (state_at next.header next.steps q) ≡ shifted by (view_of (state_at session.header session.steps (meeting + k)))) new (on.states k));
+      state = subst (λ p. view_of (state_at next.header next.steps (moved_place edit place)) ≡ shifted by (view_of (state_at session.header session.steps p)))
+          old (subst (λ q. view_of (state_at next.header next.steps q) ≡ shifted by (view_of (state_at session.header session.steps (meeting + k)))) new
+          (on.states k));
       reply = sym (sym (ap (reply_at session.header session.steps) old) ∙ on.replies k ∙ ap (reply_at next.header next.steps) new);
       row = sym (sym (ap (running_at session.header session.steps) old) ∙ on.rows k ∙ ap (running_at next.header next.steps) new);
     }
@@ -85,7 +95,8 @@ is_meeting kept edit place = is_compared edit place && goes_on_alike kept.sessio
 passes_meeting : (kept : CheckpointedSession) (edit : Edit) (place : ℕ) → IsMeeting kept edit place → is_meeting kept edit place ≡ true
 passes_meeting kept edit place meeting = ap₂ (λ a b. a && b) meeting.compared meeting.alike
 
-is_one : (kept : CheckpointedSession) (edit : Edit) (place : ℕ) → has place kept.checkpoints ≡ true → is_meeting kept edit place ≡ true → IsMeeting kept edit place
+is_one : (kept : CheckpointedSession) (edit : Edit) (place : ℕ) → has place kept.checkpoints ≡ true → is_meeting kept edit place ≡ true → IsMeeting kept edit
+    place
 is_one kept edit place listed passes =
     let parts = and_parts (is_compared edit place) (goes_on_alike kept.session edit place) passes in
     record { listed = listed; compared = parts.0; alike = parts.1 }
@@ -99,7 +110,9 @@ unfolding met
 met_within kept edit = least_within (last_place (edited edit kept.session)) (moved_meetings kept edit)
 
 -- it is not before a place that no meeting lies before
-pub met_after : (kept : CheckpointedSession) (edit : Edit) (place : ℕ) → place ≤ last_place (edited edit kept.session) → ((checkpoint : ℕ) → has checkpoint kept.checkpoints ≡ true → is_compared edit checkpoint ≡ true → place ≤ moved_place edit checkpoint) → place ≤ met kept edit
+pub met_after : (kept : CheckpointedSession) (edit : Edit) (place : ℕ) → place ≤ last_place (edited edit kept.session) →
+    ((checkpoint : ℕ) → has checkpoint kept.checkpoints ≡ true → is_compared edit checkpoint ≡ true → place ≤ moved_place edit checkpoint) → place ≤ met kept
+    edit
 unfolding met
 met_after kept edit place within each =
     least_from place (last_place (edited edit kept.session)) (moved_meetings kept edit) within
@@ -126,7 +139,12 @@ met_is_first kept edit =
       ends = ⊎_elim (λ same. inl same) (may_end kept edit (least last places)) (least_reached last places);
       first = λ other. ⊎_elim
           (λ same. omega (arith, same, least_within last places))
-          (λ found. omega (arith, found.2, least_each last (moved_place edit found.0) places (moved_has (moved_place edit) (is_meeting kept edit) kept.checkpoints found.0 found.1.listed (passes_meeting kept edit found.0 found.1))));
+          (λ found. omega (
+            arith,
+            found.2,
+            least_each last (moved_place edit found.0) places
+                (moved_has (moved_place edit) (is_meeting kept edit) kept.checkpoints found.0 found.1.listed (passes_meeting kept edit found.0 found.1)),
+          ));
     }
 
 pub first_end_is_met : (kept : CheckpointedSession) (edit : Edit) (place : ℕ) → IsFirstEnd kept edit place → place ≡ met kept edit

@@ -1,5 +1,6 @@
 -- Tables that meet before steps: the test tells so, and from both the steps run alike.
-use Rattle.std.proofs.Common.{◌≡◌, ◌⊎◌, inl, inr, ⊎_elim, ℕ, zero, suc, ◌+◌, ◌%◌, ◌^◌, Bool, true, false, ◌||◌, ◌&&◌, not, List, [], ◌∷◌, take, refl, sym, ap, ap₂, subst, ◌∙◌, arith}
+use Rattle.std.proofs.Common.{◌≡◌, ◌⊎◌, inl, inr, ⊎_elim, ℕ, zero, suc, ◌+◌, ◌%◌, ◌^◌, Bool, true, false, ◌||◌, ◌&&◌, not, List, [], ◌∷◌, take, refl, sym, ap}
+use Rattle.std.proofs.Common.{ap₂, subst, ◌∙◌, arith}
 use Rattle.std.specs.Prelude.{◌↔◌, All, Some, slice_get}
 use Rattle.std.proofs.lemmas.Bool.{or_parts}
 use Rattle.std.proofs.lemmas.List.Elements.{All-cons, All-nil}
@@ -10,20 +11,21 @@ use Rattle.bench_types.specs.Step.{IsCheckedStep}
 use Rattle.bench_model.specs.Control.{running}
 use Rattle.bench_model.specs.Equal.{Same}
 use Rattle.bench_model.specs.Lists.{View, view_of}
-use Rattle.bench_model.specs.Session.{step_of, state_after, trace}
+use Rattle.bench_model.specs.Session.{step_of, state_after, run_results}
 use Rattle.bench_model.specs.Shifted.{SameShifted, delays_until, is_met, shift_between, shifted, some_delays_until}
 use Rattle.bench_model.specs.Sound.{IsSound}
 use Rattle.bench_model.specs.Table.{Table}
 use Rattle.shift_laws.specs.Shifts.{IsShifted, RunShifted}
 use Rattle.shift_laws.proofs.Runs.{run_shifted}
-use Rattle.shift_laws.proofs.ShiftTests.{met_told}
+use Rattle.shift_laws.proofs.ShiftTests.{met_decided}
 use Rattle.shift_laws.proofs.Steps.{no_ticks_between, not_shifted, same_from_shifted, shifted_from_same, unshifted}
 use Rattle.meeting_laws.specs.RunLaws.{MeetBy, ticks_between}
 use Rattle.meeting_laws.proofs.Runs.{run_alike}
 
 -- ---- runs
 
-pub met_run_alike : (by : ℕ) (a b : Table) (steps : List Step) → IsSound a → IsSound b → MeetBy by a b steps → All (IsCheckedStep a.settings) steps → RunShifted by a b steps
+pub met_run_alike : (by : ℕ) (a b : Table) (steps : List Step) → IsSound a → IsSound b → MeetBy by a b steps → All (IsCheckedStep a.settings) steps → RunShifted
+    by a b steps
 met_run_alike by a b steps first second meet all = ⊎_elim
     (λ none.
     let run = run_alike a b steps first second (unshifted a b (subst (λ n. IsShifted n a b) none meet.later)) all in
@@ -48,13 +50,15 @@ unread_at (one ∷ steps) zero step found unread =
 unread_at (one ∷ steps) (suc k) step found unread = unread_at steps k step found (or_parts (delays_until one) (some_delays_until steps) unread).1
 
 -- tables that met before the steps meet before one of them
-pub met_step : (by : ℕ) (a b : Table) (steps : List Step) (k : ℕ) (step : Step) → slice_get steps k ≡ Some step → view_of b ≡ shifted by (view_of a) → (by ≡ 0) ⊎ (some_delays_until steps ≡ false) → MeetBy by a b (step ∷ [])
+pub met_step : (by : ℕ) (a b : Table) (steps : List Step) (k : ℕ) (step : Step) → slice_get steps k ≡ Some step → view_of b ≡ shifted by (view_of a) → (by ≡ 0)
+    ⊎ (some_delays_until steps ≡ false) → MeetBy by a b (step ∷ [])
 met_step by a b steps k step found later unread = record {
   later = later;
   unread = ⊎_elim (λ none. inl none) (λ unread. inr (unread_at steps k step found unread)) unread;
 }
 
-pub met_reply : (by : ℕ) (a b : Table) (step : Step) → IsSound a → IsSound b → MeetBy by a b (step ∷ []) → IsCheckedStep a.settings step → (step_of step a).0 ≡ (step_of step b).0
+pub met_reply : (by : ℕ) (a b : Table) (step : Step) → IsSound a → IsSound b → MeetBy by a b (step ∷ []) → IsCheckedStep a.settings step → (step_of step a).0 ≡
+    (step_of step b).0
 met_reply by a b step first second meet checked =
     let run = met_run_alike by a b (step ∷ []) first second meet (All-cons (IsCheckedStep a.settings) step [] checked (All-nil (IsCheckedStep a.settings))) in
     ap (λ outcomes. reply_in outcomes) run.outcomes
@@ -67,7 +71,8 @@ met_reply by a b step first second meet checked =
 
 equal_meet : (a b : Table) (steps : List Step) → Same a b → MeetBy (ticks_between a b) a b steps
 equal_meet a b steps same =
-    let none : ticks_between a b ≡ 0 = ap (λ (view : View). shift_between view.orders.tick (view_of b).orders.tick) same ∙ no_ticks_between (view_of b).orders.tick in
+    let none : ticks_between a b ≡ 0 = ap (λ (view : View). shift_between view.orders.tick (view_of b).orders.tick) same ∙ no_ticks_between
+    (view_of b).orders.tick in
     record { later = subst (λ n. IsShifted n a b) (sym none) (not_shifted a b same); unread = inl none }
 
 later_meet : (a b : Table) (steps : List Step) → SameShifted a b → some_delays_until steps ≡ false → MeetBy (ticks_between a b) a b steps
@@ -75,13 +80,13 @@ later_meet a b steps same unread = record { later = shifted_from_same a b same; 
 
 pub meetings_pass : (by : ℕ) (a b : Table) (steps : List Step) → MeetBy by a b steps → is_met a b steps ≡ true
 meetings_pass by a b steps meet =
-    (met_told a b steps).1 (⊎_elim
+    (met_decided a b steps).1 (⊎_elim
     (λ none. inl (unshifted a b (subst (λ n. IsShifted n a b) none meet.later)))
     (λ unread. inr (same_from_shifted by a b meet.later, unread))
     meet.unread)
 
-pub meetings_told : (a b : Table) (steps : List Step) → (is_met a b steps ≡ true) ↔ MeetBy (ticks_between a b) a b steps
-meetings_told a b steps = (
-  λ passes. ⊎_elim (equal_meet a b steps) (λ both. later_meet a b steps both.0 both.1) ((met_told a b steps).0 passes),
+pub meetings_decided : (a b : Table) (steps : List Step) → (is_met a b steps ≡ true) ↔ MeetBy (ticks_between a b) a b steps
+meetings_decided a b steps = (
+  λ passes. ⊎_elim (equal_meet a b steps) (λ both. later_meet a b steps both.0 both.1) ((met_decided a b steps).0 passes),
   meetings_pass (ticks_between a b) a b steps,
 )

@@ -1,5 +1,6 @@
 -- Where places and steps lie after an edit.
-use Rattle.std.proofs.Common.{◌≡◌, ℕ, suc, ◌+◌, ◌-◌, ◌<◌, ◌≤◌, Bool, true, false, cond, ltb, List, [], ◌∷◌, ◌++◌, length, take, drop, set, Ok, refl, sym, ap, ◌∙◌, arith, take-take, drop-drop, length-take-le, length-set, drop-set-lt}
+use Rattle.std.proofs.Common.{◌≡◌, ℕ, suc, ◌+◌, ◌-◌, ◌<◌, ◌≤◌, Bool, true, false, cond, ltb, List, [], ◌∷◌, ◌++◌, length, take, drop, set, Ok, refl, sym, ap}
+use Rattle.std.proofs.Common.{◌∙◌, arith, take-take, drop-drop, length-take-le, length-set, drop-set-lt}
 use Rattle.std.specs.Prelude.{insert, remove, nat_lt}
 use Rattle.std.proofs.lemmas.Bool.Decides.{nat_tests}
 use Rattle.std.proofs.lemmas.List.{take-append-le, take-set}
@@ -29,7 +30,8 @@ replace_place session at step accepts =
     let passes = passed session (Replace at step) accepts in
     grind (arith, nat_tests, passes.place)
 
-pub last_after_insert : (session : Session) (at : ℕ) (step : Step) → accepted session (Insert at step) ≡ Ok tt → last_place (edited (Insert at step) session) ≡ suc (last_place session)
+pub last_after_insert : (session : Session) (at : ℕ) (step : Step) → accepted session (Insert at step) ≡ Ok tt → last_place (edited (Insert at step) session) ≡
+    suc (last_place session)
 last_after_insert session at step accepts = length-insert session.steps at step (insert_place session at step accepts)
 
 pub last_after_remove : (session : Session) (at : ℕ) → accepted session (Remove at) ≡ Ok tt → last_place (edited (Remove at) session) + 1 ≡ last_place session
@@ -80,7 +82,8 @@ remove_bounds at place later within past = at_test (ltb at place) refl
         (omega (arith, before, past), omega arith)
 
 -- later places stay as far after a compared one as they were
-pub moved_later : (edit : Edit) (place later : ℕ) → is_compared edit place ≡ true → place ≤ later → moved_place edit later ≡ moved_place edit place + (later - place)
+pub moved_later : (edit : Edit) (place later : ℕ) → is_compared edit place ≡ true → place ≤ later → moved_place edit later ≡ moved_place edit place +
+    (later - place)
 moved_later (Insert at step) place later compared within =
     let past = is_after at place compared in
     omega (arith, past, within, inserted_after at place step past, inserted_after at later step (omega (arith, past, within)))
@@ -90,7 +93,8 @@ moved_later (Remove at) place later compared within =
 moved_later (Replace at step) place later compared within = omega (arith, within)
 moved_later (ChangeTask task priority mask) place later compared within = omega (arith, within)
 
-pub moved_within : (session : Session) (edit : Edit) (place : ℕ) → accepted session edit ≡ Ok tt → place ≤ last_place session → moved_place edit place ≤ last_place (edited edit session)
+pub moved_within : (session : Session) (edit : Edit) (place : ℕ) → accepted session edit ≡ Ok tt → place ≤ last_place session → moved_place edit place ≤
+    last_place (edited edit session)
 moved_within session (Insert at step) place accepts within = at_test (ltb at place)
   where
     at_test : (b : Bool) → cond b (place + 1) place ≤ last_place (edited (Insert at step) session)
@@ -157,16 +161,20 @@ module _ {X : Type 0} where
       let same : at + n ≡ length (take at xs) + n = omega (arith, length-take-le at xs within) in
       ap (λ n. drop n (take at xs ++ rest)) same ∙ drop_past (take at xs) rest n
 
-pub steps_before_stay : (session : Session) (edit : Edit) (place : ℕ) → accepted session edit ≡ Ok tt → place ≤ place_of edit → take place (edited edit session).steps ≡ take place session.steps
+pub steps_before_stay : (session : Session) (edit : Edit) (place : ℕ) → accepted session edit ≡ Ok tt → place ≤ place_of edit → take place
+    (edited edit session).steps ≡ take place session.steps
 steps_before_stay session (Insert at step) place accepts before =
-    take_fewer place at (insert session.steps at step) session.steps before (take_front at session.steps (step ∷ drop at session.steps) (insert_place session at step accepts))
+    take_fewer place at (insert session.steps at step) session.steps before
+    (take_front at session.steps (step ∷ drop at session.steps) (insert_place session at step accepts))
 steps_before_stay session (Remove at) place accepts before =
-    take_fewer place at (remove session.steps at) session.steps before (take_front at session.steps (drop (suc at) session.steps) (omega (arith, remove_place session at accepts)))
+    take_fewer place at (remove session.steps at) session.steps before (take_front at session.steps (drop (suc at) session.steps)
+    (omega (arith, remove_place session at accepts)))
 steps_before_stay session (Replace at step) place accepts before =
     take_fewer place at (set session.steps at step) session.steps before (take-set session.steps at step)
 steps_before_stay session (ChangeTask task priority mask) place accepts before = refl
 
-pub steps_after_move : (session : Session) (edit : Edit) (place : ℕ) → accepted session edit ≡ Ok tt → is_compared edit place ≡ true → drop (moved_place edit place) (edited edit session).steps ≡ drop place session.steps
+pub steps_after_move : (session : Session) (edit : Edit) (place : ℕ) → accepted session edit ≡ Ok tt → is_compared edit place ≡ true → drop
+    (moved_place edit place) (edited edit session).steps ≡ drop place session.steps
 steps_after_move session (Insert at step) place accepts compared =
     let steps = session.steps in
     let past = is_after at place compared in

@@ -1,5 +1,6 @@
 -- Lists of places: their items, their least and their greatest.
-use Rattle.std.proofs.Common.{◌≡◌, ◌⊎◌, inl, inr, ⊎_elim, ℕ, zero, suc, ◌<◌, ◌≤◌, min, Bool, true, false, eqb, ◌&&◌, ◌||◌, leb, List, [], ◌∷◌, map, take, refl, sym, ap, ap₂, ◌∙◌, arith}
+use Rattle.std.proofs.Common.{◌≡◌, ◌⊎◌, inl, inr, ⊎_elim, ℕ, zero, suc, ◌<◌, ◌≤◌, min, Bool, true, false, eqb, ◌&&◌, ◌||◌, leb, List, [], ◌∷◌, map, take, refl}
+use Rattle.std.proofs.Common.{sym, ap, ap₂, ◌∙◌, arith}
 use Rattle.std.specs.Prelude.{filter, slice_get}
 use Rattle.std.specs.List.{list_any}
 use Rattle.std.proofs.lemmas.Bool.{and_parts}
@@ -34,7 +35,9 @@ pub any_found : (test : ℕ → Bool) (places : List ℕ) → list_any test plac
 any_found test [] found = absurd (cc found)
 any_found test (place ∷ places) found = at (test place) refl found (any_found test places)
   where
-    at : (b : Bool) → test place ≡ b → (b || list_any test places) ≡ true → (list_any test places ≡ true → (other : ℕ) × (has other places ≡ true) × (test other ≡ true)) → (other : ℕ) × (has other (place ∷ places) ≡ true) × (test other ≡ true)
+    at : (b : Bool) → test place ≡ b → (b || list_any test places) ≡ true →
+        (list_any test places ≡ true → (other : ℕ) × (has other places ≡ true) × (test other ≡ true)) → (other : ℕ) × (has other (place ∷ places) ≡ true) ×
+        (test other ≡ true)
     at true is found later = (place, has_first place places, is)
     at false is found later = let rest = later found in (rest.0, has_rest place rest.0 places rest.1, rest.2)
 
@@ -93,4 +96,5 @@ module _ (move : ℕ → ℕ) (test : ℕ → Bool) (places : List ℕ) where
   moved_has place listed passes =
       let kept = has-filter test place places ∙ ap₂ (λ a b. a && b) passes listed in
       let same : eqb (move place) (move place) ≡ true = grind (arith, nat_tests) in
-      list_any-map (λ m. eqb m (move place)) move (filter test places) ∙ list_any_at (λ other. eqb (move other) (move place)) place (filter test places) kept same
+      list_any-map (λ m. eqb m (move place)) move (filter test places) ∙ list_any_at (λ other. eqb (move other) (move place)) place (filter test places) kept
+      same

@@ -10,7 +10,7 @@ use Rattle.bench_types.specs.Step.{IsCheckedStep}
 use Rattle.bench_model.specs.Control.{Control, running}
 use Rattle.bench_model.specs.Equal.{Same}
 use Rattle.bench_model.specs.Lists.{View, list_queues}
-use Rattle.bench_model.specs.Session.{step_of, state_after, trace}
+use Rattle.bench_model.specs.Session.{step_of, state_after, run_results}
 use Rattle.bench_model.specs.Sound.{IsSound}
 use Rattle.bench_model.specs.Table.{Table, stamp_queues}
 use Rattle.bench_model.specs.Tallied.{tallied, moment_of, tallied_after, first_tallies, first_tally, part_tallies, added}
@@ -45,13 +45,15 @@ alike_after a b step alike checked =
 
 -- ---- lists of steps
 
-outcomes_alike : (steps : List Step) (a b : Table) → AreAlike a b → All (IsCheckedStep a.settings) steps → trace a steps ≡ trace b steps
+outcomes_alike : (steps : List Step) (a b : Table) → AreAlike a b → All (IsCheckedStep a.settings) steps → run_results a steps ≡ run_results b steps
 outcomes_alike [] a b alike all = refl
 outcomes_alike (step ∷ steps) a b alike all =
     let checked = All-head (IsCheckedStep a.settings) step steps all in
     let both = equal_after a b step alike.first alike.second alike.same checked in
-    let one : ◌≡◌ {A = Reply × List ℕ} ((step_of step a).0, running (step_of step a).1.control) ((step_of step b).0, running (step_of step b).1.control) = ap₂ (λ reply (control : Control). (reply, running control)) both.0 (alike_control (step_of step a).1 (step_of step b).1 both.1) in
-    ap₂ (λ outcome rest. outcome ∷ rest) one (outcomes_alike steps (step_of step a).1 (step_of step b).1 (alike_after a b step alike checked) (checked_rest a step steps alike.first all))
+    let one : ◌≡◌ {A = Reply × List ℕ} ((step_of step a).0, running (step_of step a).1.control) ((step_of step b).0, running (step_of step b).1.control) = ap₂
+    (λ reply (control : Control). (reply, running control)) both.0 (alike_control (step_of step a).1 (step_of step b).1 both.1) in
+    ap₂ (λ outcome rest. outcome ∷ rest) one (outcomes_alike steps (step_of step a).1 (step_of step b).1 (alike_after a b step alike checked)
+    (checked_rest a step steps alike.first all))
 
 states_alike : (steps : List Step) (a b : Table) → AreAlike a b → All (IsCheckedStep a.settings) steps → Same (state_after a steps) (state_after b steps)
 states_alike [] a b alike all = alike.same
@@ -62,11 +64,13 @@ states_alike (step ∷ steps) a b alike all =
 -- ---- tallies
 
 -- a step from either table counts the same
-counted_alike : (a b : Table) (step : Step) (tallies : List TaskTally) → AreAlike a b → IsCheckedStep a.settings step → length tallies ≤ a.settings.tasks → tallied stamp_queues (moment_of a step) tallies ≡ tallied stamp_queues (moment_of b step) tallies
+counted_alike : (a b : Table) (step : Step) (tallies : List TaskTally) → AreAlike a b → IsCheckedStep a.settings step → length tallies ≤ a.settings.tasks →
+    tallied stamp_queues (moment_of a step) tallies ≡ tallied stamp_queues (moment_of b step) tallies
 counted_alike a b step tallies alike checked few =
     let both = equal_after a b step alike.first alike.second alike.same checked in
     let tasks = ap (λ (settings : Settings). settings.tasks) (alike_settings a b alike.same) in
-    let moments = ap₃ (λ (before : View) (reply : Reply) (later : View). tallied list_queues (record { before = before; step = step; reply = reply; after = later }) tallies) alike.same both.0 both.1 in
+    let moments = ap₃ (λ (before : View) (reply : Reply) (later : View). tallied list_queues
+    (record { before = before; step = step; reply = reply; after = later }) tallies) alike.same both.0 both.1 in
     tallied_seen (moment_of a step) tallies alike.first.consistent few
     ∙ moments
     ∙ sym (tallied_seen (moment_of b step) tallies alike.second.consistent (omega (arith, few, tasks)))
@@ -78,16 +82,19 @@ length_tallied : (table : Table) (step : Step) (tallies : List TaskTally) → le
 unfolding tallied
 length_tallied table step tallies = length_each _ (length tallies)
 
-tallies_alike : (steps : List Step) (a b : Table) (tallies : List TaskTally) → AreAlike a b → All (IsCheckedStep a.settings) steps → length tallies ≤ a.settings.tasks → tallied_after a steps tallies ≡ tallied_after b steps tallies
+tallies_alike : (steps : List Step) (a b : Table) (tallies : List TaskTally) → AreAlike a b → All (IsCheckedStep a.settings) steps → length tallies ≤
+    a.settings.tasks → tallied_after a steps tallies ≡ tallied_after b steps tallies
 tallies_alike [] a b tallies alike all few = refl
 tallies_alike (step ∷ steps) a b tallies alike all few =
     let checked = All-head (IsCheckedStep a.settings) step steps all in
     let counted = tallied stamp_queues (moment_of a step) tallies in
     let tasks = ap (λ (settings : Settings). settings.tasks) (settings_after a step alike.first) in
-    tallies_alike steps (step_of step a).1 (step_of step b).1 counted (alike_after a b step alike checked) (checked_rest a step steps alike.first all) (omega (arith, few, tasks, length_tallied a step tallies))
+    tallies_alike steps (step_of step a).1 (step_of step b).1 counted (alike_after a b step alike checked) (checked_rest a step steps alike.first all)
+    (omega (arith, few, tasks, length_tallied a step tallies))
     ∙ ap (tallied_after (step_of step b).1 steps) (counted_alike a b step tallies alike checked few)
 
-parts_alike : (steps : List Step) (a b : Table) → AreAlike a b → All (IsCheckedStep a.settings) steps → part_tallies a.settings a steps ≡ part_tallies a.settings b steps
+parts_alike : (steps : List Step) (a b : Table) → AreAlike a b → All (IsCheckedStep a.settings) steps → part_tallies a.settings a steps ≡ part_tallies
+    a.settings b steps
 parts_alike steps a b alike all =
     let first = first_tallies a.settings a.control in
     tallies_alike steps a b first alike all (omega (arith, length_each (first_tally a.settings a.control) a.settings.tasks))
@@ -104,14 +111,19 @@ run_alike a b steps first second same all =
 
 -- ---- steps that follow others
 
-pub traces_follow : (table : Table) (first second : List Step) → trace table (first ++ second) ≡ trace table first ++ trace (state_after table first) second
-traces_follow table [] second = refl
-traces_follow table (step ∷ first) second = let outcome = step_of step table in ap (λ rest. (outcome.0, running outcome.1.control) ∷ rest) (traces_follow outcome.1 first second)
+pub results_follow : (table : Table) (first second : List Step) → run_results table (first ++ second) ≡ run_results table first ++ run_results
+    (state_after table first) second
+results_follow table [] second = refl
+results_follow table (step ∷ first) second = let outcome = step_of step table in ap (λ rest. (outcome.0, running outcome.1.control) ∷ rest)
+    (results_follow outcome.1 first second)
 
-pub segments_add_up : (settings : Settings) (table : Table) (first : List Step) (segments : List (List Step)) → part_tallies settings table (fold (λ steps segment. steps ++ segment) first segments) ≡ fold added (part_tallies settings table first) (tallies_in_turn settings (state_after table first) segments)
+pub segments_add_up : (settings : Settings) (table : Table) (first : List Step) (segments : List (List Step)) → part_tallies settings table
+    (fold (λ steps segment. steps ++ segment) first segments) ≡ fold added (part_tallies settings table first)
+    (tallies_in_turn settings (state_after table first) segments)
 segments_add_up settings table first [] = refl
 segments_add_up settings table first (second ∷ segments) =
     let after_both = fold-append (λ table step. (step_of step table).1) table first second in
     segments_add_up settings table (first ++ second) segments
     ∙ ap (λ counted. fold added counted (tallies_in_turn settings (state_after table (first ++ second)) segments)) (parts_added settings table first second)
-    ∙ ap (λ left. fold added (added (part_tallies settings table first) (part_tallies settings (state_after table first) second)) (tallies_in_turn settings left segments)) after_both
+    ∙ ap (λ left. fold added (added (part_tallies settings table first) (part_tallies settings (state_after table first) second))
+    (tallies_in_turn settings left segments)) after_both

@@ -5,7 +5,8 @@ use Rattle.bench_types.specs.declared.edit.Edit.{Edit}
 use Rattle.bench_types.specs.Session.{Session}
 use Rattle.list_orders.specs.Search.{has}
 use Rattle.bench_model.specs.Edits.{accepted, edited}
-use Rattle.bench_model.specs.Meeting.{CheckpointedSession, last_place, checkpoint_before, first_checkpoints, place_of, moved_place, is_compared, replayed_from, met, moved_checkpoints, segment_end, next_checkpoints}
+use Rattle.bench_model.specs.Meeting.{CheckpointedSession, last_place, checkpoint_before, first_checkpoints, place_of, moved_place, is_compared, replayed_from}
+use Rattle.bench_model.specs.Meeting.{met, moved_checkpoints, segment_end, next_checkpoints}
 
 -- they begin with the start and ascend to the last place at most, and each segment is shorter than
 -- two spans

@@ -8,7 +8,7 @@ use Rattle.bench_types.specs.Step.{IsCheckedStep}
 use Rattle.bench_model.specs.Equal.{Same, StandsFor}
 use Rattle.bench_model.specs.Lists.{View, view_of}
 use Rattle.bench_model.specs.Meeting.{last_place}
-use Rattle.bench_model.specs.Session.{state_after, trace, state_at, reply_at, running_at}
+use Rattle.bench_model.specs.Session.{state_after, run_results, state_at, reply_at, running_at}
 use Rattle.bench_model.specs.Shifted.{shift_between, some_delays_until, is_met}
 use Rattle.bench_model.specs.Sound.{IsSound}
 use Rattle.bench_model.specs.Table.{Table}
@@ -19,7 +19,7 @@ use Rattle.shift_laws.specs.Shifts.{IsShifted, RunShifted}
 -- from both tables the steps have the same replies, the same running tasks after each and the same
 -- tallies, and lead to equal states at each place
 pub record RunAlike (a b : Table) (steps : List Step) : Type 0 where
-  pub outcomes : trace a steps ≡ trace b steps
+  pub outcomes : run_results a steps ≡ run_results b steps
   pub tallies : part_tallies a.settings a steps ≡ part_tallies a.settings b steps
   pub states :
       (place : ℕ) → Same (state_after a (take place steps)) (state_after b (take place steps))
@@ -58,10 +58,11 @@ MetRunAlike =
     → All (IsCheckedStep a.settings) steps → RunShifted by a b steps
 
 -- the outcomes of steps that follow others are those from the state that these left
-abbrev pub TracesFollow : Type 0
-TracesFollow =
+abbrev pub ResultsFollow : Type 0
+ResultsFollow =
     (table : Table) (first second : List Step)
-    → trace table (first ++ second) ≡ trace table first ++ trace (state_after table first) second
+    → run_results table (first ++ second) ≡ run_results table first
+    ++ run_results (state_after table first) second
 
 -- the tallies of segments, each from the state that the one before it left
 abbrev pub tallies_in_turn : Settings → Table → List (List Step) → List (List TaskTally)

@@ -5,7 +5,7 @@
 
 ghost use Rattle.meeting_laws.specs.CheckpointLaws.{FirstCheckpointsFit, NextCheckpointsFit, PlacesAreNear, NextAreThese, AddedIsReplayed, AscendingAreOne, CheckpointBeforeIsLast, MovedPlacesAreWithin, LaterPlacesMoveAlike, ReplayIsWithin};
 ghost use Rattle.meeting_laws.specs.MeetingLaws.{StepsBeforeStay, StepsAfterMove, BeforeIsUntouched, MeetingLasts, MetIsFirstEnd, FirstEndIsMet};
-ghost use Rattle.meeting_laws.specs.RunLaws.{EqualRunAlike, MeetingsAreTested, MeetingsPass, MetRunAlike, TracesFollow, SegmentsAddUp, StatesAreSound, StatesGoOn, EqualStandAlike, MetGoOnAlike};
+ghost use Rattle.meeting_laws.specs.RunLaws.{EqualRunAlike, MeetingsAreTested, MeetingsPass, MetRunAlike, ResultsFollow, SegmentsAddUp, StatesAreSound, StatesGoOn, EqualStandAlike, MetGoOnAlike};
 
 /// Lists of steps.
 pub fn laws_of_runs()
@@ -19,7 +19,7 @@ pub fn laws_of_runs()
     ensures meetings_pass { MeetingsPass }
     // Replies and running tasks of steps that follow others are those from the state that these
     // left, and the tallies of segments add up to those of all.
-    ensures traces_follow { TracesFollow }
+    ensures results_follow { ResultsFollow }
     ensures segments_add_up { SegmentsAddUp }
     // Every state of a session is sound, and a later one is that after the steps between.
     ensures states_are_sound { StatesAreSound }

@@ -19,10 +19,15 @@ in_use_ready task priority cores = at (has task cores.ready) refl
     itself : (eqb task task || has task (without task cores.ready)) ≡ true
     itself = grind (arith, nat_tests)
 
-    at : (b : Bool) → has task cores.ready ≡ b → has task (cores_of (record (bare_view cores) { control = changed; orders = cond b (add_to_ready_list changed task (bare_view cores).orders) (bare_view cores).orders })).ready ≡ has task cores.ready
+    at : (b : Bool) → has task cores.ready ≡ b → has task (cores_of
+        (record (bare_view cores) {
+          control = changed;
+          orders = cond b (add_to_ready_list changed task (bare_view cores).orders) (bare_view cores).orders;
+        })).ready ≡ has task cores.ready
     at true ready = list_any-placed (outranks changed) (λ m. eqb m task) task (without task cores.ready) ∙ itself ∙ sym ready
     at false blocked = refl
 
-pub in_use_tasks : (task priority : ℕ) (cores : CoresView) → length (cores_rule (in_use_set list_queues task priority) cores).control.tasks ≡ length cores.control.tasks
+pub in_use_tasks : (task priority : ℕ) (cores : CoresView) → length (cores_rule (in_use_set list_queues task priority) cores).control.tasks ≡ length
+    cores.control.tasks
 unfolding in_use_set
 in_use_tasks task priority cores = length-set cores.control.tasks task _

@@ -1,5 +1,7 @@
 -- What lists of waiters show as a waiter comes and goes, and what is found in them.
-use Rattle.std.proofs.Common.{◌≡◌, ◌≢◌, ℕ, zero, suc, ◌+◌, ◌-◌, ◌<◌, ◌≤◌, Bool, true, false, cond, not, eqb, leb, ltb, ◌||◌, ◌&&◌, List, [], ◌∷◌, ◌++◌, length, map, set, get_or, replicate, Option, Some, None, option_map, unwrap_or, refl, sym, ap, ◌∙◌, append_assoc, get_or-set_same, get_or-set_other, arith, inl, inr, zero-add}
+use Rattle.std.proofs.Common.{◌≡◌, ◌≢◌, ℕ, zero, suc, ◌+◌, ◌-◌, ◌<◌, ◌≤◌, Bool, true, false, cond, not, eqb, leb, ltb, ◌||◌, ◌&&◌, List, [], ◌∷◌, ◌++◌, length}
+use Rattle.std.proofs.Common.{map, set, get_or, replicate, Option, Some, None, option_map, unwrap_or, refl, sym, ap, ◌∙◌, append_assoc, get_or-set_same}
+use Rattle.std.proofs.Common.{get_or-set_other, arith, inl, inr, zero-add}
 use Rattle.std.specs.List.{filter, find, list_any, position_or_len, AllByRecursion}
 use Rattle.std.proofs.Math.ListN.{get_or-map}
 use Rattle.std.proofs.lemmas.Bool.{cases_eq}
@@ -9,7 +11,8 @@ use Rattle.std.proofs.lemmas.List.Elements.{filter-append}
 use Rattle.bench_types.specs.declared.kernel_data.MutexWait.{MutexWait}
 use Rattle.bench_types.specs.declared.kernel_data.Waiter.{Waiter}
 use Rattle.list_orders.specs.Search.{placed, ranked}
-use Rattle.list_orders.proofs.Filters.{filter_all, filter_none, filter_agrees, filter-map, find_filter, list_any-map, All-append, All-map, All-weaker, All_each, All-filter}
+use Rattle.list_orders.proofs.Filters.{filter_all, filter_none, filter_agrees, filter-map, find_filter, list_any-map, All-append, All-map, All-weaker, All_each}
+use Rattle.list_orders.proofs.Filters.{All-filter}
 use Rattle.list_orders.proofs.Ranks.{All-placed, filter-ranked}
 use Rattle.list_orders.proofs.Placements.{ranked-placed}
 use Rattle.index_lists.specs.Listed.{Listed, ListsView, items_of, has_item, without_item, list_of, key_of, lowest_first, EachInOneList}
@@ -38,16 +41,19 @@ next_of_sum : (m k : ℕ) → (m + 1) + k ≡ m + suc k
 next_of_sum m k = omega arith
 
 -- ---- a waiter that is placed in one of two parts
-placed_left : (x : Waiter) (xs ys : List Waiter) → AllByRecursion (λ y. waits_first y x ≡ false) ys → placed waits_first x (xs ++ ys) ≡ placed waits_first x xs ++ ys
+placed_left : (x : Waiter) (xs ys : List Waiter) → AllByRecursion (λ y. waits_first y x ≡ false) ys → placed waits_first x (xs ++ ys) ≡ placed waits_first x xs
+    ++ ys
 unfolding placed
 placed_left x xs ys later =
     let none = filter_none (front x) ys later in
     let all = filter_all (back x) ys (All-weaker (λ y. waits_first y x ≡ false) (λ y. back x y ≡ true) (λ y h. ap not h) ys later) in
-    ap (λ zs. zs ++ x ∷ filter (back x) (xs ++ ys)) (filter-append (front x) xs ys ∙ ap (λ zs. filter (front x) xs ++ zs) none ∙ append-nil (filter (front x) xs))
+    ap (λ zs. zs ++ x ∷ filter (back x) (xs ++ ys)) (filter-append (front x) xs ys ∙ ap (λ zs. filter (front x) xs ++ zs) none ∙ append-nil
+    (filter (front x) xs))
     ∙ ap (λ zs. filter (front x) xs ++ x ∷ zs) (filter-append (back x) xs ys ∙ ap (λ zs. filter (back x) xs ++ zs) all)
     ∙ sym (append_assoc (filter (front x) xs) (x ∷ filter (back x) xs) ys)
 
-placed_right : (x : Waiter) (xs ys : List Waiter) → AllByRecursion (λ y. waits_first y x ≡ true) xs → placed waits_first x (xs ++ ys) ≡ xs ++ placed waits_first x ys
+placed_right : (x : Waiter) (xs ys : List Waiter) → AllByRecursion (λ y. waits_first y x ≡ true) xs → placed waits_first x (xs ++ ys) ≡ xs ++ placed waits_first
+    x ys
 unfolding placed
 placed_right x xs ys ahead =
     let all = filter_all (front x) xs ahead in
@@ -66,7 +72,8 @@ module _ (n : ℕ) where
   from_mutex m (row ∷ rows) =
       All-append (λ (w : Waiter). m ≤ w.wait.mutex) (map (waiter_at n m) row) (waiters_from n (m + 1) rows)
       (All-weaker (λ (w : Waiter). w.wait.mutex ≡ m) (λ (w : Waiter). m ≤ w.wait.mutex) (λ w is. omega (arith, is)) (map (waiter_at n m) row) (one_mutex m row))
-      (All-weaker (λ (w : Waiter). m + 1 ≤ w.wait.mutex) (λ (w : Waiter). m ≤ w.wait.mutex) (λ w low. omega (arith, low)) (waiters_from n (m + 1) rows) (from_mutex (m + 1) rows))
+      (All-weaker (λ (w : Waiter). m + 1 ≤ w.wait.mutex) (λ (w : Waiter). m ≤ w.wait.mutex) (λ w low. omega (arith, low)) (waiters_from n (m + 1) rows)
+      (from_mutex (m + 1) rows))
 
   -- those of a mutex are those of its list
   pub of_mutex : (m k : ℕ) (rows : List (List Listed)) → filter (waits_for (m + k)) (waiters_from n m rows) ≡ map (waiter_at n (m + k)) (row_at rows k)
@@ -78,20 +85,24 @@ module _ (n : ℕ) where
       let rest = waiters_from n (m + 1) rows in
       ap (λ j. filter (waits_for j) (here ++ rest)) none
       ∙ filter-append (waits_for m) here rest
-      ∙ ap (λ ws. ws ++ filter (waits_for m) rest) (filter_all (waits_for m) here (All-weaker (λ (w : Waiter). w.wait.mutex ≡ m) (λ w. waits_for m w ≡ true) (λ w is. grind (arith, nat_tests, is)) here (one_mutex m row)))
-      ∙ ap (λ ws. here ++ ws) (filter_none (waits_for m) rest (All-weaker (λ (w : Waiter). m + 1 ≤ w.wait.mutex) (λ w. waits_for m w ≡ false) (λ w low. grind (arith, nat_tests, low)) rest (from_mutex (m + 1) rows)))
+      ∙ ap (λ ws. ws ++ filter (waits_for m) rest) (filter_all (waits_for m) here
+      (All-weaker (λ (w : Waiter). w.wait.mutex ≡ m) (λ w. waits_for m w ≡ true) (λ w is. grind (arith, nat_tests, is)) here (one_mutex m row)))
+      ∙ ap (λ ws. here ++ ws) (filter_none (waits_for m) rest (All-weaker (λ (w : Waiter). m + 1 ≤ w.wait.mutex) (λ w. waits_for m w ≡ false)
+      (λ w low. grind (arith, nat_tests, low)) rest (from_mutex (m + 1) rows)))
       ∙ append-nil here ∙ ap (λ j. map (waiter_at n j) row) (sym none)
   of_mutex m (suc k) (row ∷ rows) =
       let here = map (waiter_at n m) row in
       let rest = waiters_from n (m + 1) rows in
       filter-append (waits_for (m + suc k)) here rest
-      ∙ ap (λ ws. ws ++ filter (waits_for (m + suc k)) rest) (filter_none (waits_for (m + suc k)) here (All-weaker (λ (w : Waiter). w.wait.mutex ≡ m) (λ w. waits_for (m + suc k) w ≡ false) (λ w is. grind (arith, nat_tests, is)) here (one_mutex m row)))
+      ∙ ap (λ ws. ws ++ filter (waits_for (m + suc k)) rest) (filter_none (waits_for (m + suc k)) here
+      (All-weaker (λ (w : Waiter). w.wait.mutex ≡ m) (λ w. waits_for (m + suc k) w ≡ false) (λ w is. grind (arith, nat_tests, is)) here (one_mutex m row)))
       ∙ ap (λ j. filter (waits_for j) rest) (sym (next_of_sum m k))
       ∙ of_mutex (m + 1) k rows
       ∙ ap (λ j. map (waiter_at n j) (row_at rows k)) (next_of_sum m k)
 
   pub of_list : (k : ℕ) (rows : List (List Listed)) → filter (waits_for k) (waiters_from n 0 rows) ≡ map (waiter_at n k) (row_at rows k)
-  of_list k rows = ap (λ j. filter (waits_for j) (waiters_from n 0 rows)) (sym (zero-add k)) ∙ of_mutex 0 k rows ∙ ap (λ j. map (waiter_at n j) (row_at rows k)) (zero-add k)
+  of_list k rows = ap (λ j. filter (waits_for j) (waiters_from n 0 rows)) (sym (zero-add k)) ∙ of_mutex 0 k rows ∙ ap (λ j. map (waiter_at n j) (row_at rows k))
+      (zero-add k)
 
   tasks_in : (m : ℕ) (row : List Listed) → map (λ (w : Waiter). w.task) (map (waiter_at n m) row) ≡ items_of row
   tasks_in m [] = refl
@@ -124,7 +135,8 @@ module _ (n : ℕ) where
           let high : n - a.key < n - b.key = grind (arith, nat_tests, is, ka.1, kb.1) in
           grind (arith, nat_tests, high)
 
-  map-placed : (m : ℕ) (x : Listed) (xs : List Listed) → is_key n x → AreKeys n xs → map (waiter_at n m) (placed lowest_first x xs) ≡ placed waits_first (waiter_at n m x) (map (waiter_at n m) xs)
+  map-placed : (m : ℕ) (x : Listed) (xs : List Listed) → is_key n x → AreKeys n xs → map (waiter_at n m) (placed lowest_first x xs) ≡ placed waits_first
+      (waiter_at n m x) (map (waiter_at n m) xs)
   unfolding placed
   map-placed m x xs here all =
       let f = waiter_at n m in
@@ -137,14 +149,16 @@ module _ (n : ℕ) where
       ∙ ap (λ ws. ws ++ w ∷ map f (filter after xs)) (ap (map f) (filter_agrees ahead (λ y. front w (f y)) xs agree) ∙ sym (filter-map (front w) f xs))
       ∙ ap (λ ws. filter (front w) (map f xs) ++ w ∷ ws) (ap (map f) (filter_agrees after (λ y. back w (f y)) xs agree_not) ∙ sym (filter-map (back w) f xs))
 
-  pub waiters_with : (m k : ℕ) (x : Listed) (rows : List (List Listed)) → k < length rows → is_key n x → AreKeys n (row_at rows k) → waiters_from n m (set rows k (placed lowest_first x (row_at rows k))) ≡ placed waits_first (waiter_at n (m + k) x) (waiters_from n m rows)
+  pub waiters_with : (m k : ℕ) (x : Listed) (rows : List (List Listed)) → k < length rows → is_key n x → AreKeys n (row_at rows k) → waiters_from n m
+      (set rows k (placed lowest_first x (row_at rows k))) ≡ placed waits_first (waiter_at n (m + k) x) (waiters_from n m rows)
   waiters_with m k x [] low here all = absurd (omega (arith, low))
   waiters_with m zero x (row ∷ rows) low here all =
       let none : m + 0 ≡ m = omega arith in
       let rest = waiters_from n (m + 1) rows in
       let w = waiter_at n m x in
       ap (λ ws. ws ++ rest) (map-placed m x row here all)
-      ∙ sym (placed_left w (map (waiter_at n m) row) rest (All-weaker (λ (y : Waiter). m + 1 ≤ y.wait.mutex) (λ y. waits_first y w ≡ false) (λ y above. grind (arith, nat_tests, above)) rest (from_mutex (m + 1) rows)))
+      ∙ sym (placed_left w (map (waiter_at n m) row) rest (All-weaker (λ (y : Waiter). m + 1 ≤ y.wait.mutex) (λ y. waits_first y w ≡ false)
+      (λ y above. grind (arith, nat_tests, above)) rest (from_mutex (m + 1) rows)))
       ∙ ap (λ j. placed waits_first (waiter_at n j x) (map (waiter_at n m) row ++ rest)) (sym none)
   waiters_with m (suc k) x (row ∷ rows) low here all =
       let here_row = map (waiter_at n m) row in
@@ -152,7 +166,8 @@ module _ (n : ℕ) where
       let w = waiter_at n (m + suc k) x in
       ap (λ ws. here_row ++ ws) (waiters_with (m + 1) k x rows (omega (arith, low)) here all)
       ∙ ap (λ j. here_row ++ placed waits_first (waiter_at n j x) rest) (next_of_sum m k)
-      ∙ sym (placed_right w here_row rest (All-weaker (λ (y : Waiter). y.wait.mutex ≡ m) (λ y. waits_first y w ≡ true) (λ y is. grind (arith, nat_tests, is)) here_row (one_mutex m row)))
+      ∙ sym (placed_right w here_row rest (All-weaker (λ (y : Waiter). y.wait.mutex ≡ m) (λ y. waits_first y w ≡ true) (λ y is. grind (arith, nat_tests, is))
+      here_row (one_mutex m row)))
 
   -- ---- the mutex that a task waits for
   wait_later : (t : ℕ) (xs ys : List Waiter) → list_any (λ (w : Waiter). eqb w.task t) xs ≡ false → wait_of t (xs ++ ys) ≡ wait_of t ys
@@ -162,11 +177,14 @@ module _ (n : ℕ) where
   abbrev mutex_of : MutexWait → ℕ
   mutex_of wait = wait.mutex
 
-  wait_here : (t m : ℕ) (row : List Listed) (ys : List Waiter) → has_item t row ≡ true → option_map mutex_of (wait_of t (map (waiter_at n m) row ++ ys)) ≡ Some m
+  wait_here : (t m : ℕ) (row : List Listed) (ys : List Waiter) → has_item t row ≡ true → option_map mutex_of (wait_of t (map (waiter_at n m) row ++ ys)) ≡ Some
+      m
   wait_here t m [] ys here = absurd (cc (here))
   wait_here t m (e ∷ row) ys here = at (eqb e.item t) refl (wait_here t m row ys)
     where
-      at : (b : Bool) → eqb e.item t ≡ b → (has_item t row ≡ true → option_map mutex_of (wait_of t (map (waiter_at n m) row ++ ys)) ≡ Some m) → option_map mutex_of (option_map (λ (w : Waiter). w.wait) (cond b (Some (waiter_at n m e)) (find (λ (w : Waiter). eqb w.task t) (map (waiter_at n m) row ++ ys)))) ≡ Some m
+      at : (b : Bool) → eqb e.item t ≡ b → (has_item t row ≡ true → option_map mutex_of (wait_of t (map (waiter_at n m) row ++ ys)) ≡ Some m) → option_map
+          mutex_of (option_map (λ (w : Waiter). w.wait) (cond b (Some (waiter_at n m e)) (find (λ (w : Waiter). eqb w.task t) (map (waiter_at n m) row ++ ys))))
+          ≡ Some m
       at true is rest = refl
       at false is rest = rest (grind (arith, here, is))
 
@@ -183,7 +201,8 @@ module _ (n : ℕ) where
       pol : ℕ
       pol = position_or_len (has_item t) rows
 
-      at : (b : Bool) → has_item t row ≡ b → option_map mutex_of (wait_of t rest) ≡ place_in t (m + 1) rows → option_map mutex_of (wait_of t (map (waiter_at n m) row ++ rest)) ≡ cond (ltb (cond (not b) (1 + pol) 0) (suc (length rows))) (Some (m + cond (not b) (1 + pol) 0)) None
+      at : (b : Bool) → has_item t row ≡ b → option_map mutex_of (wait_of t rest) ≡ place_in t (m + 1) rows → option_map mutex_of
+          (wait_of t (map (waiter_at n m) row ++ rest)) ≡ cond (ltb (cond (not b) (1 + pol) 0) (suc (length rows))) (Some (m + cond (not b) (1 + pol) 0)) None
       at true here later =
           let within : ltb 0 (suc (length rows)) ≡ true = grind (arith, nat_tests) in
           let none : m + 0 ≡ m = omega arith in
@@ -215,8 +234,10 @@ module _ (n : ℕ) where
       let entry : x ≡ y = ap (λ i. record { item = i; key = x.key }) item ∙ ap (λ k. record { item = y.item; key = k }) key in
       cc (entry, same_row m xs ys kx.1 ky.1 rest)
 
-  pub same_rows : (xs ys : List (List Listed)) → AreWaiters n xs → AreWaiters n ys → waiters_from n 0 xs ≡ waiters_from n 0 ys → (k : ℕ) → row_at xs k ≡ row_at ys k
-  same_rows xs ys wx wy same k = same_row k (row_at xs k) (row_at ys k) (wx.keys k) (wy.keys k) (sym (of_list k xs) ∙ ap (filter (waits_for k)) same ∙ of_list k ys)
+  pub same_rows : (xs ys : List (List Listed)) → AreWaiters n xs → AreWaiters n ys → waiters_from n 0 xs ≡ waiters_from n 0 ys → (k : ℕ) → row_at xs k ≡ row_at
+      ys k
+  same_rows xs ys wx wy same k = same_row k (row_at xs k) (row_at ys k) (wx.keys k) (wy.keys k)
+      (sym (of_list k xs) ∙ ap (filter (waits_for k)) same ∙ of_list k ys)
 
 -- ---- what the lists keep
 pub empty_row : (lists k : ℕ) → row_at (replicate lists []) k ≡ []
@@ -268,7 +289,8 @@ module _ (n k : ℕ) (x : Listed) (rows : List (List Listed)) (low : k < length 
   }
 
 -- ---- the key of the first of a list
-found_row : (t k : ℕ) (rows : List (List Listed)) → has_item t (row_at rows k) ≡ true → ((j : ℕ) → has_item t (row_at rows j) ≡ true → j ≡ k) → find (has_item t) rows ≡ Some (row_at rows k)
+found_row : (t k : ℕ) (rows : List (List Listed)) → has_item t (row_at rows k) ≡ true → ((j : ℕ) → has_item t (row_at rows j) ≡ true → j ≡ k) → find
+    (has_item t) rows ≡ Some (row_at rows k)
 found_row t zero [] here sole = absurd (cc (here))
 found_row t (suc k) [] here sole = absurd (cc (here))
 found_row t zero (row ∷ rows) here sole = ap (λ b. cond b (Some row) (find (has_item t) rows)) here
@@ -279,7 +301,8 @@ found_row t (suc k) (row ∷ rows) here sole = at (has_item t row) refl (found_r
     at false away later = later
 
 -- the first of a list, and its key
-pub first_key : (k : ℕ) (view : ListsView) (e : Listed) (rest : List Listed) → EachInOneList view → row_at view.lists k ≡ e ∷ rest → key_of e.item view ≡ Some e.key
+pub first_key : (k : ℕ) (view : ListsView) (e : Listed) (rest : List Listed) → EachInOneList view → row_at view.lists k ≡ e ∷ rest → key_of e.item view ≡ Some
+    e.key
 first_key k view e rest each is =
     let itself : eqb e.item e.item ≡ true = grind (arith, nat_tests) in
     let here : has_item e.item (row_at view.lists k) ≡ true = ap (has_item e.item) is ∙ ap (λ b. b || has_item e.item rest) itself in

@@ -1,5 +1,6 @@
 -- What the fields of the mutexes show.
-use Rattle.std.proofs.Common.{◌≡◌, ◌≢◌, ℕ, ◌-◌, ◌<◌, ◌≤◌, ◌^◌, true, eqb, List, [], ◌∷◌, map, replicate, length, Option, Some, None, option_map, refl, sym, ap, subst, ◌∙◌, zero-add, arith}
+use Rattle.std.proofs.Common.{◌≡◌, ◌≢◌, ℕ, ◌-◌, ◌<◌, ◌≤◌, ◌^◌, true, eqb, List, [], ◌∷◌, map, replicate, length, Option, Some, None, option_map, refl, sym, ap}
+use Rattle.std.proofs.Common.{subst, ◌∙◌, zero-add, arith}
 use Rattle.std.specs.Option.{ForSome}
 use Rattle.std.specs.List.{filter, find}
 use Rattle.std.proofs.lemmas.List.{length-replicate, ext_get_or}
@@ -8,12 +9,14 @@ use Rattle.std.proofs.lemmas.Option.{same_Some}
 use Rattle.bench_types.specs.declared.kernel_data.MutexWait.{MutexWait}
 use Rattle.bench_types.specs.declared.kernel_data.Waiter.{Waiter}
 use Rattle.list_orders.specs.Search.{placed}
-use Rattle.index_lists.specs.Listed.{Listed, ListsView, empty_lists, with_list, items_of, list_of, key_of, without_item, lowest_first, first_of as first_item, EachInOneList}
+use Rattle.index_lists.specs.Listed.{Listed, ListsView, empty_lists, with_list, items_of, list_of, key_of, without_item, lowest_first, first_of as first_item}
+use Rattle.index_lists.specs.Listed.{EachInOneList}
 use Rattle.bench_model.specs.Lists.{without_waiter, first_of}
 use Rattle.bench_model.specs.MutexParts.{with_waiter, wait_of}
 use Rattle.mutex_inherit.specs.Parts.{MutexPart, waiter_at, waiters_from, tasks_for, seen_mutexes, free_mutexes}
 use Rattle.mutex_inherit.specs.Shape.{AreKeys, AreWaiters, IsMutexShape}
-use Rattle.mutex_inherit.proofs.Rows.{row_at, no_waiters, waiters_none, of_list, list_tasks, first_waiting, waiters_without, waiters_with, waits_in, same_row, same_rows, first_key}
+use Rattle.mutex_inherit.proofs.Rows.{row_at, no_waiters, waiters_none, of_list, list_tasks, first_waiting, waiters_without, waiters_with, waits_in, same_row}
+use Rattle.mutex_inherit.proofs.Rows.{same_rows, first_key}
 
 abbrev part_of : ℕ → ℕ → List (Option ℕ) → List Waiter → MutexPart
 part_of tasks priorities holders waiters = record { tasks = tasks; priorities = priorities; holders = holders; waiters = waiters }
@@ -37,8 +40,10 @@ free_shape tasks priorities mutexes few = record {
   waiting = waiters_none priorities mutexes;
 }
 
-pub seen_free_mutexes : (tasks priorities mutexes : ℕ) → seen_mutexes tasks priorities (replicate mutexes None) (empty_lists tasks mutexes) ≡ free_mutexes tasks priorities mutexes
-seen_free_mutexes tasks priorities mutexes = ap (λ ws. record { tasks = tasks; priorities = priorities; holders = replicate mutexes None; waiters = ws }) (no_waiters priorities 0 mutexes)
+pub seen_free_mutexes : (tasks priorities mutexes : ℕ) → seen_mutexes tasks priorities (replicate mutexes None) (empty_lists tasks mutexes) ≡ free_mutexes tasks
+    priorities mutexes
+seen_free_mutexes tasks priorities mutexes = ap (λ ws. record { tasks = tasks; priorities = priorities; holders = replicate mutexes None; waiters = ws })
+    (no_waiters priorities 0 mutexes)
 
 -- ---- fields that show a part
 module _ (t n : ℕ) (hs : List (Option ℕ)) (view : ListsView) (part : MutexPart) (is : seen_mutexes t n hs view ≡ part) where
@@ -52,17 +57,21 @@ module _ (t n : ℕ) (hs : List (Option ℕ)) (view : ListsView) (part : MutexPa
   free_seen task free = mutex_seen task ∙ ap (option_map (λ (wait : MutexWait). wait.mutex)) free
 
   -- a waiter leaves, and one comes
-  pub seen_leave : (task : ℕ) → seen_mutexes t n hs (record view { lists = map (without_item task) view.lists }) ≡ record part { waiters = without_waiter task part.waiters }
+  pub seen_leave : (task : ℕ) → seen_mutexes t n hs (record view { lists = map (without_item task) view.lists }) ≡ record part
+      { waiters = without_waiter task part.waiters }
   seen_leave task =
       ap (λ (ws : List Waiter). part_of t n hs ws) (waiters_without n task 0 view.lists)
       ∙ ap (λ (p : MutexPart). record p { waiters = without_waiter task p.waiters }) is
 
-  pub seen_enter : (task m priority : ℕ) → m < length view.lists → priority < n → AreWaiters n view.lists → seen_mutexes t n hs (with_list m (placed lowest_first (record { item = task; key = n - priority }) (row_at view.lists m)) view) ≡ record part { waiters = with_waiter (record { task = task; wait = record { mutex = m; priority = priority } }) part.waiters }
+  pub seen_enter : (task m priority : ℕ) → m < length view.lists → priority < n → AreWaiters n view.lists → seen_mutexes t n hs
+      (with_list m (placed lowest_first (record { item = task; key = n - priority }) (row_at view.lists m)) view) ≡ record part
+      { waiters = with_waiter (record { task = task; wait = record { mutex = m; priority = priority } }) part.waiters }
   seen_enter task m priority low below waiting =
       let x : Listed = record { item = task; key = n - priority } in
       let back : n - (n - priority) ≡ priority = omega (arith, below) in
       ap (λ (ws : List Waiter). part_of t n hs ws) (waiters_with n 0 m x view.lists low (omega (arith, below), omega arith) (waiting.keys m))
-      ∙ ap (λ (j : ℕ). part_of t n hs (with_waiter (record { task = task; wait = record { mutex = j; priority = n - (n - priority) } }) (waiters_from n 0 view.lists))) (zero-add m)
+      ∙ ap (λ (j : ℕ). part_of t n hs (with_waiter (record { task = task; wait = record { mutex = j; priority = n - (n - priority) } })
+      (waiters_from n 0 view.lists))) (zero-add m)
       ∙ ap (λ (j : ℕ). part_of t n hs (with_waiter (record { task = task; wait = record { mutex = m; priority = j } }) (waiters_from n 0 view.lists))) back
       ∙ ap (λ (p : MutexPart). record p { waiters = with_waiter (record { task = task; wait = record { mutex = m; priority = priority } }) p.waiters }) is
 
@@ -92,8 +101,16 @@ module _ (t n : ℕ) (hs : List (Option ℕ)) (view : ListsView) (part : MutexPa
     of_head (e ∷ rest) row first =
         let item : e.item ≡ task = same_Some _ _ first in
         let keys : AreKeys n (e ∷ rest) = subst (AreKeys n) row (waiting.keys m) in
-        let found = ap (λ r. find (λ _. true) (map (waiter_at n m) r)) row in
-        (e.key, (keys.0.0, keys.0.1, ap (λ i. key_of i view) (sym item) ∙ first_key m view e rest each row, ap (λ i. Some (waiter_from i m (n - e.key))) (sym item) ∙ sym found ∙ sym (first_waiting n m view.lists) ∙ ap (λ (p : MutexPart). first_of m p.waiters) is))
+        let found = ap (λ r. find (λ _. true) (map (waiter_at n m) r)) row in (
+          e.key,
+          (
+            keys.0.0,
+            keys.0.1,
+            ap (λ i. key_of i view) (sym item) ∙ first_key m view e rest each row,
+            ap (λ i. Some (waiter_from i m (n - e.key)))
+                (sym item) ∙ sym found ∙ sym (first_waiting n m view.lists) ∙ ap (λ (p : MutexPart). first_of m p.waiters) is,
+          ),
+        )
 
     pub the_key : (below : ℕ) × its_key below
     the_key = of_head (row_at view.lists m) refl some
@@ -111,7 +128,9 @@ module _ (t n : ℕ) (hs : List (Option ℕ)) (view : ListsView) (part : MutexPa
     has_key none = absurd (cc (sym the_key.1.2 ∙ none))
 
 -- ---- two of them
-module _ (t n : ℕ) (hs : List (Option ℕ)) (view : ListsView) (part : MutexPart) (is : seen_mutexes t n hs view ≡ part) (u o : ℕ) (gs : List (Option ℕ)) (view' : ListsView) (part' : MutexPart) (is' : seen_mutexes u o gs view' ≡ part') (shape : IsMutexShape t n hs view) (shape' : IsMutexShape u o gs view') (alike : part.priorities ≡ part'.priorities) where
+module _ (t n : ℕ) (hs : List (Option ℕ)) (view : ListsView) (part : MutexPart) (is : seen_mutexes t n hs view ≡ part) (u o : ℕ) (gs : List (Option ℕ))
+    (view' : ListsView) (part' : MutexPart) (is' : seen_mutexes u o gs view' ≡ part') (shape : IsMutexShape t n hs view) (shape' : IsMutexShape u o gs view')
+    (alike : part.priorities ≡ part'.priorities) where
   same_n : o ≡ n
   same_n = ap (λ (p : MutexPart). p.priorities) is' ∙ sym alike ∙ sym (ap (λ (p : MutexPart). p.priorities) is)
 
@@ -130,11 +149,16 @@ module _ (t n : ℕ) (hs : List (Option ℕ)) (view : ListsView) (part : MutexPa
   group' : (k : ℕ) → filter (λ w. eqb w.wait.mutex k) part'.waiters ≡ map (waiter_at n k) (row_at view'.lists k)
   group' k = ap (filter (λ (w : Waiter). eqb w.wait.mutex k)) (sym seen') ∙ of_list n k view'.lists
 
-  pub same_group : (k : ℕ) → row_at view.lists k ≡ row_at view'.lists k → filter (λ w. eqb w.wait.mutex k) part.waiters ≡ filter (λ w. eqb w.wait.mutex k) part'.waiters
+  pub same_group : (k : ℕ) → row_at view.lists k ≡ row_at view'.lists k → filter (λ w. eqb w.wait.mutex k) part.waiters ≡ filter (λ w. eqb w.wait.mutex k)
+      part'.waiters
   same_group k same = group k ∙ ap (map (waiter_at n k)) same ∙ sym (group' k)
 
-  pub same_groups : part.holders ≡ part'.holders → ((k : ℕ) → k < length hs → filter (λ w. eqb w.wait.mutex k) part.waiters ≡ filter (λ w. eqb w.wait.mutex k) part'.waiters) → part.waiters ≡ part'.waiters
+  pub same_groups : part.holders ≡ part'.holders → ((k : ℕ) → k < length hs → filter (λ w. eqb w.wait.mutex k) part.waiters ≡ filter (λ w. eqb w.wait.mutex k)
+      part'.waiters) → part.waiters ≡ part'.waiters
   same_groups holders same =
-      let sized : length view.lists ≡ length view'.lists = shape.each ∙ ap (λ (p : MutexPart). length p.holders) is ∙ ap length holders ∙ sym (ap (λ (p : MutexPart). length p.holders) is') ∙ sym shape'.each in
-      let rows : view.lists ≡ view'.lists = ext_get_or the_row view.lists view'.lists sized (λ k low. same_row n k (row_at view.lists k) (row_at view'.lists k) (shape.waiting.keys k) (waiting'.keys k) (sym (group k) ∙ same k (omega (arith, low, shape.each)) ∙ group' k)) in
+      let sized : length view.lists ≡ length view'.lists = shape.each ∙ ap (λ (p : MutexPart). length p.holders) is ∙ ap length holders ∙ sym
+      (ap (λ (p : MutexPart). length p.holders) is') ∙ sym shape'.each in
+      let rows : view.lists ≡ view'.lists = ext_get_or the_row view.lists view'.lists sized
+      (λ k low. same_row n k (row_at view.lists k) (row_at view'.lists k) (shape.waiting.keys k) (waiting'.keys k)
+      (sym (group k) ∙ same k (omega (arith, low, shape.each)) ∙ group' k)) in
       sym (ap (λ (p : MutexPart). p.waiters) is) ∙ ap (waiters_from n 0) rows ∙ seen'

@@ -1,11 +1,11 @@
 //! The notifications of all tasks.
 ghost use Rattle.std.specs.Prelude.{◌≡◌, ◌↔◌, ◌*◌, ◌<◌, ◌^◌, length, slice_set, IsTrue, IfOk};
 ghost use Rattle.bench_types.specs.declared.note.NoteState.TheVariants.{NotWaiting};
-ghost use Rattle.bench_model.specs.Notes.{is_received, is_waiting, notified, passes, slot_in, state_cleared, take_begun, take_ended, value_cleared, wait_begun, wait_ended, without_bits};
+ghost use Rattle.bench_model.specs.Notes.{is_received, is_waiting, notified, passes, slot_in, state_cleared, take_entered, take_ended, value_cleared, wait_entered, wait_ended, without_bits};
 ghost use Rattle.notify_core.specs.Parts.{fresh_notes, note_in, of_note};
 
 use bench_model::notes::{is_received, is_waiting, notified, passes, without_bits};
-use bench_types::{Action, NoteState, Notification};
+use bench_types::{NoteState, Notification, NotifyAction};
 use std::alloc::{AllocError, Global};
 use std::marker::Model;
 
@@ -128,7 +128,7 @@ impl Notes {
 
     /// Notifies the task at the index. Returns whether the notification was passed, and whether a
     /// call of the task waited for it.
-    pub fn notify(&mut self, task: u32, index: u32, action: Action) -> (bool, bool)
+    pub fn notify(&mut self, task: u32, index: u32, action: NotifyAction) -> (bool, bool)
         requires task { task < self.old.tasks }
         requires index { index < self.old.entries }
         ensures answer { let note
@@ -147,11 +147,11 @@ impl Notes {
 
     /// Begins to wait for a notification: clears the bits of the value. Returns whether there is
     /// nothing to complete with; where there is, nothing changes.
-    #[tactic(auto, unfolding(bench_model::specs::Notes::wait_begun))]
+    #[tactic(auto, unfolding(bench_model::specs::Notes::wait_entered))]
     pub fn begin_wait(&mut self, task: u32, index: u32, entry: u32) -> bool
         requires task { task < self.old.tasks }
         requires index { index < self.old.entries }
-        ensures { (result, self.new) ≡ of_note task index (wait_begun entry) self.old }
+        ensures { (result, self.new) ≡ of_note task index (wait_entered entry) self.old }
     {
         let note = self.note(task, index);
         if is_received(note.state) {
@@ -186,11 +186,11 @@ impl Notes {
 
     /// Begins to take the value. Returns whether there is nothing to complete with, as the value is
     /// 0; where there is, nothing changes.
-    #[tactic(auto, unfolding(bench_model::specs::Notes::take_begun))]
+    #[tactic(auto, unfolding(bench_model::specs::Notes::take_entered))]
     pub fn begin_take(&mut self, task: u32, index: u32) -> bool
         requires task { task < self.old.tasks }
         requires index { index < self.old.entries }
-        ensures { (result, self.new) ≡ of_note task index take_begun self.old }
+        ensures { (result, self.new) ≡ of_note task index take_entered self.old }
     {
         let note = self.note(task, index);
         let empty = note.value == 0;

@@ -29,4 +29,10 @@ best_core control task among = at (best (is_candidate control task among) (yield
           (All-has (λ c. c < cores) core (numbers cores) (numbers_below cores) it.0, grind (arith, it.1), grind (arith, it.1)),
           λ other candidate. it.2 other (numbers_have cores other candidate.0) (grind (arith, candidate.1, candidate.2)),
         )
-    at None same = λ core candidate. absurd (grind (arith, best_none (is_candidate control task among) (yields_first control) (asked_rank control) (numbers cores) same core (numbers_have cores core candidate.0), candidate.1, candidate.2))
+    at None same = λ core candidate. absurd (grind (
+      arith,
+      best_none (is_candidate control task among) (yields_first control) (asked_rank control) (numbers cores) same core
+          (numbers_have cores core candidate.0),
+      candidate.1,
+      candidate.2,
+    ))

@@ -28,7 +28,8 @@ module _ (control : Control) (task : ℕ) (block : TaskControl) where
   pub in_use_kept : block.in_use ≡ (task_at control task).in_use → (i : ℕ) → (task_at (with_task task block control) i).in_use ≡ (task_at control i).in_use
   in_use_kept kept i =
       let in_use = λ (t : TaskControl). t.in_use in
-      sym (get_or-map in_use (with_task task block control).tasks i no_task) ∙ ap (λ numbers. get_or numbers i 0) (map-set_same in_use control.tasks task block no_task kept) ∙ get_or-map in_use control.tasks i no_task
+      sym (get_or-map in_use (with_task task block control).tasks i no_task) ∙ ap (λ numbers. get_or numbers i 0)
+      (map-set_same in_use control.tasks task block no_task kept) ∙ get_or-map in_use control.tasks i no_task
 
   pub outranks_kept : block.in_use ≡ (task_at control task).in_use → outranks (with_task task block control) ≡ outranks control
   outranks_kept kept = fun_ext (λ i. fun_ext (λ j. cc (in_use_kept kept i, in_use_kept kept j)))
@@ -39,7 +40,8 @@ module _ (control : Control) (task : ℕ) (block : TaskControl) where
       let other = λ (i : ℕ). not (eqb i task) in
       let changed = with_task task block control in
       filter-ranked (outranks changed) (outranks-IsRank changed) other queue
-      ∙ ranked_agrees (outranks control) (outranks changed) (λ i. other i ≡ true) (λ i j h k. cc (ap in_use (block_other i (away i h)), ap in_use (block_other j (away j k)))) (without task queue) (All-filter_passes other queue)
+      ∙ ranked_agrees (outranks control) (outranks changed) (λ i. other i ≡ true)
+      (λ i j h k. cc (ap in_use (block_other i (away i h)), ap in_use (block_other j (away j k)))) (without task queue) (All-filter_passes other queue)
       ∙ sym (filter-ranked (outranks control) (outranks-IsRank control) other queue)
     where
       in_use : TaskControl → ℕ

@@ -1,5 +1,6 @@
 -- The control blocks of a start: how many there are, their priorities and their masks.
-use Rattle.std.proofs.Common.{◌≡◌, ℕ, zero, suc, ◌+◌, ◌-◌, ◌^◌, ◌<◌, true, false, List, [], ◌∷◌, length, map, replicate, get_or, sym, ap, subst, ◌∙◌, arith, inl, inr}
+use Rattle.std.proofs.Common.{◌≡◌, ℕ, zero, suc, ◌+◌, ◌-◌, ◌^◌, ◌<◌, true, false, List, [], ◌∷◌, length, map, replicate, get_or, sym, ap, subst, ◌∙◌, arith}
+use Rattle.std.proofs.Common.{inl, inr}
 use Rattle.std.specs.List.{list_all}
 use Rattle.std.proofs.lemmas.Bool.Decides.{nat_tests}
 use Rattle.std.proofs.lemmas.Bool.{cases_lt}
@@ -20,7 +21,8 @@ use Rattle.bench_model.specs.Start.{idle_control, user_control, first_control}
 no_args : TaskArgs
 no_args = record { name = []; priority = 0; mask = 0 }
 
-valid_priority : (config : Config) (tasks : List TaskArgs) → list_all (has_valid_args config) tasks ≡ true → (i : ℕ) → i < length tasks → (get_or tasks i no_args).priority < config.priorities
+valid_priority : (config : Config) (tasks : List TaskArgs) → list_all (has_valid_args config) tasks ≡ true → (i : ℕ) → i < length tasks →
+    (get_or tasks i no_args).priority < config.priorities
 valid_priority config [] valid i low = absurd (omega arith)
 valid_priority config (task ∷ tasks) valid zero low = grind (arith, nat_tests, valid)
 valid_priority config (task ∷ tasks) valid (suc i) low = valid_priority config tasks (grind (arith, valid)) i (omega arith)
@@ -33,23 +35,34 @@ module _ (header : Header) where
   users = length header.tasks
 
   pub first_tasks : length (first_control header).tasks ≡ cores + users
-  first_tasks = omega (arith, length-append (replicate cores (idle_control cores)) (map (user_control cores) header.tasks), length-replicate cores (idle_control cores), length-map header.tasks (user_control cores))
+  first_tasks = omega (
+    arith,
+    length-append (replicate cores (idle_control cores)) (map (user_control cores) header.tasks),
+    length-replicate cores
+        (idle_control cores),
+    length-map header.tasks (user_control cores),
+  )
 
   pub first_blocks : IsWithinLimits header → (i : ℕ) → i < cores + users → IsControlBlock (settings_of header) (task_at (first_control header) i)
   first_blocks valid i low = elim (cases_lt i cores) [
     | inl idle ↦
-        let at = get_or_append_left (replicate cores (idle_control cores)) (map (user_control cores) header.tasks) (record { base = 0; in_use = 0; mask = 0; preempt = false }) i (omega (arith, length-replicate cores (idle_control cores))) ∙ get_or-replicate cores i (idle_control cores) (record { base = 0; in_use = 0; mask = 0; preempt = false }) idle in
+        let at = get_or_append_left (replicate cores (idle_control cores)) (map (user_control cores) header.tasks)
+        (record { base = 0; in_use = 0; mask = 0; preempt = false }) i (omega (arith, length-replicate cores (idle_control cores))) ∙ get_or-replicate cores
+        i (idle_control cores) (record { base = 0; in_use = 0; mask = 0; preempt = false }) idle in
         record {
           in_use = omega (arith, ap (λ (t : TaskControl). t.in_use) at, valid.some_priority);
           base = omega (arith, ap (λ (t : TaskControl). t.base) at, valid.some_priority);
           mask = subst (λ mask. mask < 2 ^ cores) (sym (ap (λ (t : TaskControl). t.mask) at)) (pow-sub-lt cores (omega arith));
         }
     | inr user ↦
-        let at = get_or-append_right (replicate cores (idle_control cores)) (map (user_control cores) header.tasks) cores i (record { base = 0; in_use = 0; mask = 0; preempt = false }) (length-replicate cores (idle_control cores)) user ∙ get_or-map (user_control cores) header.tasks (i - cores) no_args (record { base = 0; in_use = 0; mask = 0; preempt = false }) (omega arith) in
+        let at = get_or-append_right (replicate cores (idle_control cores)) (map (user_control cores) header.tasks) cores i
+        (record { base = 0; in_use = 0; mask = 0; preempt = false }) (length-replicate cores (idle_control cores)) user ∙ get_or-map (user_control cores)
+        header.tasks (i - cores) no_args (record { base = 0; in_use = 0; mask = 0; preempt = false }) (omega arith) in
         let limit = valid_priority header.config header.tasks valid.args (i - cores) (omega arith) in
         record {
           in_use = omega (arith, ap (λ (t : TaskControl). t.in_use) at, limit);
           base = omega (arith, ap (λ (t : TaskControl). t.base) at, limit);
-          mask = subst (λ mask. mask < 2 ^ cores) (sym (ap (λ (t : TaskControl). t.mask) at)) (mod-lt (get_or header.tasks (i - cores) no_args).mask (pow_pos cores));
+          mask = subst (λ mask. mask < 2 ^ cores) (sym (ap (λ (t : TaskControl). t.mask) at))
+              (mod-lt (get_or header.tasks (i - cores) no_args).mask (pow_pos cores));
         }
   ]

@@ -69,7 +69,8 @@ module _ (mutex : ℕ) (stamps : Stamps) where
       (All_each (λ i. (waits i && asks i) ≡ waits_for i) (λ i. waits_and_is_at mutex (wait_in (row_at stamps i).standing)) (tasks_of stamps)))
 
   -- waiters of one mutex stand by their waiting priorities
-  by_priority : ranked waits_first (map (waiter_of stamps) its_waiters) ≡ map (waiter_of stamps) (ranked (rank_front waiting_rank (stamp_of stamps)) its_waiters)
+  by_priority : ranked waits_first (map (waiter_of stamps) its_waiters) ≡ map (waiter_of stamps)
+      (ranked (rank_front waiting_rank (stamp_of stamps)) its_waiters)
   by_priority = sym (map-ranked (rank_front waiting_rank (stamp_of stamps)) waits_first (waiter_of stamps) (λ i. waits_for i ≡ true)
       (λ a b h k. grind (arith, nat_tests, its_mutex mutex (wait_in (row_at stamps a).standing) h, its_mutex mutex (wait_in (row_at stamps b).standing) k))
       its_waiters (All-by_stamp_passes (stamp_of stamps) waits_for (tasks_of stamps) stamps.next))
@@ -80,7 +81,8 @@ module _ (mutex : ℕ) (stamps : Stamps) where
       let n = length stamps.rows in
       let entries = map (waiter_of stamps) (standing_so queues stamps) in
       let front = rank_front waiting_rank (stamp_of stamps) in
-      let among : (i : ℕ) → i < n → has i (ranked front its_waiters) ≡ waits_for i = λ i h. list_any-ranked front (λ m. eqb m i) its_waiters ∙ grind (arith, nat_tests, has-by_stamp (stamp_of stamps) waits_for (numbers n) i stamps.next, stamped.given i h, numbers_have n i h) in
+      let among : (i : ℕ) → i < n → has i (ranked front its_waiters) ≡ waits_for i = λ i h. list_any-ranked front (λ m. eqb m i) its_waiters ∙ grind
+      (arith, nat_tests, has-by_stamp (stamp_of stamps) waits_for (numbers n) i stamps.next, stamped.given i h, numbers_have n i h) in
       find_filter is_its (ranked waits_first entries)
       ∙ ap (find (λ _. true)) (filter-ranked waits_first waits_first-IsRank is_its entries ∙ ap (ranked waits_first) kept ∙ by_priority)
       ∙ find_map_first (waiter_of stamps) (ranked front its_waiters)
@@ -90,14 +92,19 @@ module _ (mutex : ℕ) (stamps : Stamps) where
       among stamped.once)
 
   -- it is a task that waits
-  pub first_waiter_waits : (waiter : Waiter) → first_waiter mutex stamps ≡ Some waiter → (waiter.task < length stamps.rows) × (wait_in (row_at stamps waiter.task).standing ≡ Some waiter.wait)
+  pub first_waiter_waits : (waiter : Waiter) → first_waiter mutex stamps ≡ Some waiter → (waiter.task < length stamps.rows) ×
+      (wait_in (row_at stamps waiter.task).standing ≡ Some waiter.wait)
   unfolding first_waiter
   first_waiter_waits waiter first = from (best waits_for (waits_before stamps) (tasks_of stamps)) refl first
     where
-      from : (chosen : Option ℕ) → best waits_for (waits_before stamps) (tasks_of stamps) ≡ chosen → option_map (waiter_of stamps) chosen ≡ Some waiter → (waiter.task < length stamps.rows) × (wait_in (row_at stamps waiter.task).standing ≡ Some waiter.wait)
+      from : (chosen : Option ℕ) → best waits_for (waits_before stamps) (tasks_of stamps) ≡ chosen → option_map (waiter_of stamps) chosen ≡ Some waiter →
+          (waiter.task < length stamps.rows) × (wait_in (row_at stamps waiter.task).standing ≡ Some waiter.wait)
       from None is found = absurd (cc (found))
       from (Some i) is found =
           let one = best_found waits_for (waits_before stamps) (waits_before-IsRank stamps) (tasks_of stamps) i is in
           let same : waiter_of stamps i ≡ waiter = cc (found) in
-          subst (λ (w : Waiter). (w.task < length stamps.rows) × (wait_in (row_at stamps w.task).standing ≡ Some w.wait)) same
-          (All-has (λ j. j < length stamps.rows) i (tasks_of stamps) (numbers_below (length stamps.rows)) one.0, its_wait mutex (wait_in (row_at stamps i).standing) one.1)
+          subst (λ (w : Waiter). (w.task < length stamps.rows) × (wait_in (row_at stamps w.task).standing ≡ Some w.wait)) same (
+            All-has (λ j. j < length stamps.rows) i (tasks_of stamps) (numbers_below (length stamps.rows)) one.0,
+            its_wait mutex
+                (wait_in (row_at stamps i).standing) one.1,
+          )

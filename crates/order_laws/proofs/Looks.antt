@@ -21,37 +21,55 @@ use Rattle.order_laws.proofs.Entries.{entry_found}
 use Rattle.order_laws.proofs.Restamps.{IsGiven, waits}
 use Rattle.order_laws.proofs.SeenMoves.{delayed_from, waiter_from, queues, is_ready_seen}
 
-left_at : (tick task : ℕ) (standing : TaskState) → option_map (λ (entry : Delayed). entry.left) (cond (waits standing) (Some (record { task = task; left = unwrap_or (wake_in standing) 0 - tick })) None) ≡ option_map (λ wake. wake - tick) (wake_in standing)
+left_at : (tick task : ℕ) (standing : TaskState) → option_map (λ (entry : Delayed). entry.left)
+    (cond (waits standing) (Some (record { task = task; left = unwrap_or (wake_in standing) 0 - tick })) None) ≡ option_map (λ wake. wake - tick)
+    (wake_in standing)
 left_at tick task Ready = refl
 left_at tick task (Blocked None wait) = refl
 left_at tick task (Blocked (Some wake) wait) = refl
 
 -- the ticks left
-pub left_seen : (control : Control) (stamps : Stamps) (task : ℕ) → IsGiven stamps → task < length stamps.rows → left_in task (lists_of control stamps).delayed ≡ ticks_left task stamps
+pub left_seen : (control : Control) (stamps : Stamps) (task : ℕ) → IsGiven stamps → task < length stamps.rows → left_in task (lists_of control stamps).delayed ≡
+    ticks_left task stamps
 unfolding lists_of
 left_seen control stamps task given below =
-    ap (option_map (λ (entry : Delayed). entry.left)) (entry_found wakes_first waits (delayed_from stamps.tick) (λ e. e.task) (λ i s. refl) stamps task given below)
+    ap (option_map (λ (entry : Delayed). entry.left)) (entry_found wakes_first waits (delayed_from stamps.tick) (λ e. e.task) (λ i s. refl) stamps task given
+    below)
     ∙ left_at stamps.tick task (row_at stamps task).standing
 
 -- what it waits for at a mutex
 abbrev pub wait_among : ℕ → List Waiter → Option MutexWait
 wait_among task waiters = option_map (λ waiter. waiter.wait) (find (λ waiter. eqb waiter.task task) waiters)
 
-wait_at : (task : ℕ) (standing : TaskState) → option_map (λ (waiter : Waiter). waiter.wait) (cond (queues standing) (Some (waiter_from task standing)) None) ≡ wait_in standing
+wait_at : (task : ℕ) (standing : TaskState) → option_map (λ (waiter : Waiter). waiter.wait) (cond (queues standing) (Some (waiter_from task standing)) None) ≡
+    wait_in standing
 wait_at task Ready = refl
 wait_at task (Blocked wake None) = refl
 wait_at task (Blocked wake (Some wait)) = refl
 
-pub wait_seen : (control : Control) (stamps : Stamps) (task : ℕ) → IsGiven stamps → task < length stamps.rows → wait_among task (lists_of control stamps).waiters ≡ wait_in (row_at stamps task).standing
+pub wait_seen : (control : Control) (stamps : Stamps) (task : ℕ) → IsGiven stamps → task < length stamps.rows → wait_among task
+    (lists_of control stamps).waiters ≡ wait_in (row_at stamps task).standing
 unfolding lists_of
 wait_seen control stamps task given below =
     ap (option_map (λ (waiter : Waiter). waiter.wait)) (entry_found waits_first queues waiter_from (λ e. e.task) (λ i s. refl) stamps task given below)
     ∙ wait_at task (row_at stamps task).standing
 
 abbrev look_from : TaskControl → Bool → Notification → ℕ → Bool → Option ℕ → TaskLook
-look_from block in_call note held ready left = record { in_use = block.in_use; base = block.base; mask = block.mask; preempt = block.preempt; ready = ready; left = left; held = held; in_call = in_call; value = note.value; state = note.state }
+look_from block in_call note held ready left = record {
+  in_use = block.in_use;
+  base = block.base;
+  mask = block.mask;
+  preempt = block.preempt;
+  ready = ready;
+  left = left;
+  held = held;
+  in_call = in_call;
+  value = note.value;
+  state = note.state;
+}
 
-same_look : (block : TaskControl) (in_call : Bool) (note : Notification) (held : ℕ) (ready other : Bool) (left ticks : Option ℕ) → ready ≡ other → left ≡ ticks → look_from block in_call note held ready left ≡ look_from block in_call note held other ticks
+same_look : (block : TaskControl) (in_call : Bool) (note : Notification) (held : ℕ) (ready other : Bool) (left ticks : Option ℕ) → ready ≡ other → left ≡ ticks
+    → look_from block in_call note held ready left ≡ look_from block in_call note held other ticks
 same_look block in_call note held ready other left ticks a b = cc
 
 pub look_seen : (table : Table) (task : ℕ) → IsConsistent table → task < table.settings.tasks → look_in (view_of table) task ≡ task_look table task

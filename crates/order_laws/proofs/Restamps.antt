@@ -25,8 +25,16 @@ abbrev pub waits : TaskState → Bool
 waits standing = is_some (wake_in standing)
 
 -- whether a task is among them
-pub has-standing_so : (test : TaskState → Bool) (stamps : Stamps) (i : ℕ) → IsGiven stamps → i < length stamps.rows → has i (standing_so test stamps) ≡ test (row_at stamps i).standing
-has-standing_so test stamps i given below = grind (arith, nat_tests, has-by_stamp (stamp_of stamps) (λ i. test (row_at stamps i).standing) (tasks_of stamps) i stamps.next, given i below, numbers_have (length stamps.rows) i below)
+pub has-standing_so : (test : TaskState → Bool) (stamps : Stamps) (i : ℕ) → IsGiven stamps → i < length stamps.rows → has i (standing_so test stamps) ≡ test
+    (row_at stamps i).standing
+has-standing_so test stamps i given below = grind (
+  arith,
+  nat_tests,
+  has-by_stamp (stamp_of stamps) (λ i. test (row_at stamps i).standing) (tasks_of stamps) i
+      stamps.next,
+  given i below,
+  numbers_have (length stamps.rows) i below,
+)
 
 module _ (stamps : Stamps) (task : ℕ) (standing : TaskState) (below : task < length stamps.rows) where
   abbrev moved : Stamps
@@ -69,9 +77,11 @@ module _ (stamps : Stamps) (task : ℕ) (standing : TaskState) (below : task < l
   }
 
   -- it leaves its place, and stands last where its new standing passes the test
-  pub standing_so_moved : (test : TaskState → Bool) → IsGiven stamps → standing_so test moved ≡ without task (standing_so test stamps) ++ cond (test standing) (task ∷ []) []
+  pub standing_so_moved : (test : TaskState → Bool) → IsGiven stamps → standing_so test moved ≡ without task (standing_so test stamps) ++ cond (test standing)
+      (task ∷ []) []
   standing_so_moved test given =
-      let by_moved = by_stamp_moved (stamp_of stamps) (stamp_of moved) (λ i. test (row_at stamps i).standing) (λ i. test (row_at moved i).standing) (length stamps.rows) stamps.next task below given stamp_other (λ i other. ap (λ (r : TaskRow). test r.standing) (row_other i other)) stamp_same in
+      let by_moved = by_stamp_moved (stamp_of stamps) (stamp_of moved) (λ i. test (row_at stamps i).standing) (λ i. test (row_at moved i).standing)
+      (length stamps.rows) stamps.next task below given stamp_other (λ i other. ap (λ (r : TaskRow). test r.standing) (row_other i other)) stamp_same in
       let sized = ap (λ n. by_stamp (stamp_of moved) (λ i. test (row_at moved i).standing) (numbers n) moved.next) moved_length in
       let last = ap (λ (r : TaskRow). cond (test r.standing) (task ∷ []) []) row_same in
       sized ∙ by_moved ∙ ap (λ tail. without task (standing_so test stamps) ++ tail) last

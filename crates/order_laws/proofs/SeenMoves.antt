@@ -1,6 +1,7 @@
 -- Each move of a table, seen as lists, is the move of what was seen of the table before.
 use Rattle.bench_model.proofs.Ranks.{priority_of, outranks-IsRank, wakes_first-IsRank, waits_first-IsRank}
-use Rattle.std.proofs.Common.{◌≡◌, ℕ, suc, ◌+◌, ◌-◌, ◌<◌, ◌≤◌, ◌%◌, ◌^◌, true, false, not, eqb, ◌&&◌, List, [], ◌∷◌, length, map, Option, Some, None, refl, sym, ap, ap₂, ◌∙◌, arith, Bool, cond}
+use Rattle.std.proofs.Common.{◌≡◌, ℕ, suc, ◌+◌, ◌-◌, ◌<◌, ◌≤◌, ◌%◌, ◌^◌, true, false, not, eqb, ◌&&◌, List, [], ◌∷◌, length, map, Option, Some, None, refl, sym}
+use Rattle.std.proofs.Common.{ap, ap₂, ◌∙◌, arith, Bool, cond}
 use Rattle.std.proofs.Common.{add-one}
 use Rattle.std.proofs.Math.Nat.{mod-add-mod}
 use Rattle.std.proofs.Math.ListN.{get_or-map}
@@ -16,7 +17,8 @@ use Rattle.bench_model.specs.declared.row.TaskState.{TaskState}
 use Rattle.bench_model.specs.declared.row.TaskState.TheVariants.{Ready, Blocked}
 use Rattle.list_orders.specs.Search.{numbers, by_stamp, placed, ranked, without, has}
 use Rattle.bench_model.specs.Control.{Control, may_select}
-use Rattle.bench_model.specs.Table.{Stamps, row_at, stamp_of, tasks_of, is_ready, stands_ready, wake_in, wait_in, ahead, wakes_at, pick, add_to_ready_list, delay, deadline_left, forget_deadline, advance, due}
+use Rattle.bench_model.specs.Table.{Stamps, row_at, stamp_of, tasks_of, is_ready, stands_ready, wake_in, wait_in, ahead, wakes_at, pick, add_to_ready_list}
+use Rattle.bench_model.specs.Table.{delay, deadline_left, forget_deadline, advance, due}
 use Rattle.bench_model.specs.Lists as seen
 use Rattle.bench_model.specs.Lists.{Lists, lists_of, delayed_of, outranks, wakes_first, waits_first}
 use Rattle.bench_model.specs.Sound.{IsStamped}
@@ -24,24 +26,30 @@ use Rattle.list_orders.proofs.Filters.{filter-map, find_filter, All-filter_passe
 use Rattle.list_orders.proofs.Ranks.{ranked-push, filter-ranked, list_any-ranked, All-ranked, ranked_same, map-ranked}
 use Rattle.list_orders.proofs.Stamped.{numbers_below, numbers_have, has-by_stamp, All-by_stamp, All-by_stamp_passes, filter-by_stamp, by_stamp_agrees}
 use Rattle.list_orders.proofs.Choices.{by_stamp_ordered, ranked_ordered, first_is_best}
-use Rattle.order_laws.proofs.Entries.{entries, entries_begun, entries_over}
+use Rattle.order_laws.proofs.Entries.{entries, entries_initial, entries_over}
 use Rattle.order_laws.proofs.Restamps.{IsGiven, standing_so, waits, has-standing_so, standing_so_moved}
 
 -- whether a task is ready
-pub is_ready_seen : (control : Control) (stamps : Stamps) (task : ℕ) → IsGiven stamps → task < length stamps.rows → has task (lists_of control stamps).ready ≡ is_ready task stamps
+pub is_ready_seen : (control : Control) (stamps : Stamps) (task : ℕ) → IsGiven stamps → task < length stamps.rows → has task (lists_of control stamps).ready ≡
+    is_ready task stamps
 unfolding lists_of
-is_ready_seen control stamps task given below = list_any-ranked (outranks control) (λ m. eqb m task) (standing_so stands_ready stamps) ∙ has-standing_so stands_ready stamps task given below
+is_ready_seen control stamps task given below = list_any-ranked (outranks control) (λ m. eqb m task) (standing_so stands_ready stamps) ∙ has-standing_so
+    stands_ready stamps task given below
 
 -- the task that a core selects
-pub pick_seen : (control : Control) (core : ℕ) (stamps : Stamps) → IsStamped stamps → seen.pick control core (lists_of control stamps) ≡ pick control core stamps
+pub pick_seen : (control : Control) (core : ℕ) (stamps : Stamps) → IsStamped stamps → seen.pick control core (lists_of control stamps) ≡ pick control core
+    stamps
 unfolding lists_of seen.pick pick
 pick_seen control core stamps stamped =
     let n = length stamps.rows in
     let may = may_select control core in
     let test = λ (i : ℕ). is_ready i stamps && may i in
     let xs = by_stamp (stamp_of stamps) test (numbers n) stamps.next in
-    let kept : filter may (ranked (outranks control) (standing_so stands_ready stamps)) ≡ ranked (outranks control) xs = filter-ranked (outranks control) (outranks-IsRank control) may (standing_so stands_ready stamps) ∙ ap (ranked (outranks control)) (filter-by_stamp (stamp_of stamps) (λ i. is_ready i stamps) (numbers n) may stamps.next) in
-    let among : (i : ℕ) → i < n → has i (ranked (outranks control) xs) ≡ test i = λ i h. list_any-ranked (outranks control) (λ m. eqb m i) xs ∙ grind (arith, nat_tests, has-by_stamp (stamp_of stamps) test (numbers n) i stamps.next, stamped.given i h, numbers_have n i h) in
+    let kept : filter may (ranked (outranks control) (standing_so stands_ready stamps)) ≡ ranked (outranks control) xs = filter-ranked (outranks control)
+    (outranks-IsRank control) may (standing_so stands_ready stamps) ∙ ap (ranked (outranks control))
+    (filter-by_stamp (stamp_of stamps) (λ i. is_ready i stamps) (numbers n) may stamps.next) in
+    let among : (i : ℕ) → i < n → has i (ranked (outranks control) xs) ≡ test i = λ i h. list_any-ranked (outranks control) (λ m. eqb m i) xs ∙ grind
+    (arith, nat_tests, has-by_stamp (stamp_of stamps) test (numbers n) i stamps.next, stamped.given i h, numbers_have n i h) in
     find_filter may (ranked (outranks control) (standing_so stands_ready stamps)) ∙ ap (find (λ _. true)) kept
     ∙ first_is_best (priority_of control) (stamp_of stamps) test n (ranked (outranks control) xs)
     (ranked_ordered (priority_of control) (stamp_of stamps) xs (by_stamp_ordered (stamp_of stamps) test (numbers n) stamps.next))
@@ -51,7 +59,9 @@ pick_seen control core stamps stamped =
 abbrev pub lists_from : List ℕ → ℕ → List Delayed → List Waiter → List (Option ℕ) → Lists
 lists_from ready tick delayed waiters deadlines = record { ready = ready; tick = tick; delayed = delayed; waiters = waiters; deadlines = deadlines }
 
-pub same_seen : (ready other : List ℕ) (tick later : ℕ) (delayed left : List Delayed) (waiters ones : List Waiter) (deadlines ends : List (Option ℕ)) → ready ≡ other → tick ≡ later → delayed ≡ left → waiters ≡ ones → deadlines ≡ ends → lists_from ready tick delayed waiters deadlines ≡ lists_from other later left ones ends
+pub same_seen : (ready other : List ℕ) (tick later : ℕ) (delayed left : List Delayed) (waiters ones : List Waiter) (deadlines ends : List (Option ℕ)) → ready ≡
+    other → tick ≡ later → delayed ≡ left → waiters ≡ ones → deadlines ≡ ends → lists_from ready tick delayed waiters deadlines ≡ lists_from other later left
+    ones ends
 same_seen ready other tick later delayed left waiters ones deadlines ends a b c d e = cc
 
 -- the entries of tasks that wait for some ticks, and of those that wait for mutexes
@@ -72,12 +82,14 @@ ready_without : (control : Control) (task : ℕ) (ids : List ℕ) → ranked (ou
 ready_without control task ids = sym (filter-ranked (outranks control) (outranks-IsRank control) (λ m. not (eqb m task)) ids)
 
 -- a task made ready
-pub add_to_ready_seen : (control : Control) (stamps : Stamps) (task : ℕ) → IsGiven stamps → task < length stamps.rows → lists_of control (add_to_ready_list task stamps) ≡ seen.add_to_ready_list control task (lists_of control stamps)
+pub add_to_ready_seen : (control : Control) (stamps : Stamps) (task : ℕ) → IsGiven stamps → task < length stamps.rows → lists_of control
+    (add_to_ready_list task stamps) ≡ seen.add_to_ready_list control task (lists_of control stamps)
 unfolding lists_of add_to_ready_list seen.add_to_ready_list
 add_to_ready_seen control stamps task given below =
     let ready = standing_so stands_ready stamps in
     same_seen _ _ _ _ _ _ _ _ _ _
-    (ap (ranked (outranks control)) (standing_so_moved stamps task Ready below stands_ready given) ∙ ranked-push (outranks control) (without task ready) task ∙ ap (placed (outranks control) task) (ready_without control task ready))
+    (ap (ranked (outranks control)) (standing_so_moved stamps task Ready below stands_ready given) ∙ ranked-push (outranks control) (without task ready) task ∙
+    ap (placed (outranks control) task) (ready_without control task ready))
     refl
     (entries_over wakes_first waits (delayed_from stamps.tick) stamps task Ready below (λ e. e.task) (λ i s. refl) wakes_first-IsRank given refl)
     (entries_over waits_first queues waiter_from stamps task Ready below (λ e. e.task) (λ i s. refl) waits_first-IsRank given refl)
@@ -88,46 +100,57 @@ ready_waits_not Ready ready = (refl, refl)
 ready_waits_not (Blocked wake wait) ready = absurd (cc)
 
 -- where a task stands that waits from now on
-abbrev begun : Stamps → Option ℕ → Option MutexWait → TaskState
-begun stamps ticks wait = Blocked (ahead stamps ticks) wait
+abbrev initial : Stamps → Option ℕ → Option MutexWait → TaskState
+initial stamps ticks wait = Blocked (ahead stamps ticks) wait
 
 -- one more entry, where there is what it is of
-delayed_begun : (stamps : Stamps) (task : ℕ) (ticks : Option ℕ) (wait : Option MutexWait) (delayed : List Delayed) → cond (waits (begun stamps ticks wait)) (placed wakes_first (delayed_from stamps.tick task (begun stamps ticks wait)) delayed) delayed ≡ option_map_or (λ left. placed wakes_first (record { task = task; left = left }) delayed) ticks delayed
-delayed_begun stamps task None wait delayed = refl
-delayed_begun stamps task (Some ticks) wait delayed =
+delayed_initial : (stamps : Stamps) (task : ℕ) (ticks : Option ℕ) (wait : Option MutexWait) (delayed : List Delayed) → cond (waits (initial stamps ticks wait))
+    (placed wakes_first (delayed_from stamps.tick task (initial stamps ticks wait)) delayed) delayed ≡ option_map_or
+    (λ left. placed wakes_first (record { task = task; left = left }) delayed) ticks delayed
+delayed_initial stamps task None wait delayed = refl
+delayed_initial stamps task (Some ticks) wait delayed =
     let now : (stamps.tick + ticks) - stamps.tick ≡ ticks = omega arith in
     ap (λ left. placed wakes_first (record { task = task; left = left }) delayed) now
 
-waiter_begun : (stamps : Stamps) (task : ℕ) (ticks : Option ℕ) (wait : Option MutexWait) (waiters : List Waiter) → cond (queues (begun stamps ticks wait)) (placed waits_first (waiter_from task (begun stamps ticks wait)) waiters) waiters ≡ option_map_or (λ wait. placed waits_first (record { task = task; wait = wait }) waiters) wait waiters
-waiter_begun stamps task ticks None waiters = refl
-waiter_begun stamps task ticks (Some wait) waiters = refl
+waiter_initial : (stamps : Stamps) (task : ℕ) (ticks : Option ℕ) (wait : Option MutexWait) (waiters : List Waiter) → cond (queues (initial stamps ticks wait))
+    (placed waits_first (waiter_from task (initial stamps ticks wait)) waiters) waiters ≡ option_map_or
+    (λ wait. placed waits_first (record { task = task; wait = wait }) waiters) wait waiters
+waiter_initial stamps task ticks None waiters = refl
+waiter_initial stamps task ticks (Some wait) waiters = refl
 
-deadline_begun : (stamps : Stamps) (ticks : Option ℕ) (wait : Option MutexWait) → deadline_from stamps.tick (cond (is_some wait) (ahead stamps ticks) None) ≡ cond (is_some wait) ticks None
-deadline_begun stamps ticks None = refl
-deadline_begun stamps None (Some wait) = refl
-deadline_begun stamps (Some ticks) (Some wait) =
+deadline_initial : (stamps : Stamps) (ticks : Option ℕ) (wait : Option MutexWait) → deadline_from stamps.tick (cond (is_some wait) (ahead stamps ticks) None) ≡
+    cond (is_some wait) ticks None
+deadline_initial stamps ticks None = refl
+deadline_initial stamps None (Some wait) = refl
+deadline_initial stamps (Some ticks) (Some wait) =
     let now : (stamps.tick + ticks) - stamps.tick ≡ ticks = omega arith in
     ap Some now
 
 -- a ready task that waits from now on
-pub delay_seen : (control : Control) (stamps : Stamps) (task : ℕ) (ticks : Option ℕ) (wait : Option MutexWait) → IsGiven stamps → task < length stamps.rows → is_ready task stamps ≡ true → lists_of control (delay task ticks wait stamps) ≡ seen.delay task ticks wait (lists_of control stamps)
+pub delay_seen : (control : Control) (stamps : Stamps) (task : ℕ) (ticks : Option ℕ) (wait : Option MutexWait) → IsGiven stamps → task < length stamps.rows →
+    is_ready task stamps ≡ true → lists_of control (delay task ticks wait stamps) ≡ seen.delay task ticks wait (lists_of control stamps)
 unfolding lists_of delay seen.delay
 delay_seen control stamps task ticks wait given below ready_now =
     let ready = standing_so stands_ready stamps in
-    let standing = begun stamps ticks wait in
+    let standing = initial stamps ticks wait in
     let none = ready_waits_not (row_at stamps task).standing ready_now in
     same_seen _ _ _ _ _ _ _ _ _ _
-    (ap (ranked (outranks control)) (standing_so_moved stamps task standing below stands_ready given ∙ append-nil (without task ready)) ∙ ready_without control task ready)
+    (ap (ranked (outranks control)) (standing_so_moved stamps task standing below stands_ready given ∙ append-nil (without task ready)) ∙ ready_without control
+    task ready)
     refl
-    (entries_begun wakes_first waits (delayed_from stamps.tick) stamps task standing below given none.0 ∙ delayed_begun stamps task ticks wait (entries wakes_first waits (delayed_from stamps.tick) stamps))
-    (entries_begun waits_first queues waiter_from stamps task standing below given none.1 ∙ waiter_begun stamps task ticks wait (entries waits_first queues waiter_from stamps))
-    (map-set (deadline_from stamps.tick) stamps.deadlines task _ ∙ ap (slice_set (map (deadline_from stamps.tick) stamps.deadlines) task) (deadline_begun stamps ticks wait))
+    (entries_initial wakes_first waits (delayed_from stamps.tick) stamps task standing below given none.0 ∙ delayed_initial stamps task ticks wait
+    (entries wakes_first waits (delayed_from stamps.tick) stamps))
+    (entries_initial waits_first queues waiter_from stamps task standing below given none.1 ∙ waiter_initial stamps task ticks wait
+    (entries waits_first queues waiter_from stamps))
+    (map-set (deadline_from stamps.tick) stamps.deadlines task _ ∙ ap (slice_set (map (deadline_from stamps.tick) stamps.deadlines) task)
+    (deadline_initial stamps ticks wait))
 
 pub deadline_left_seen : (control : Control) (stamps : Stamps) (task : ℕ) → seen.deadline_left task (lists_of control stamps) ≡ deadline_left task stamps
 unfolding lists_of deadline_left
 deadline_left_seen control stamps task = get_or-map (deadline_from stamps.tick) stamps.deadlines task None
 
-pub forget_deadline_seen : (control : Control) (stamps : Stamps) (task : ℕ) → lists_of control (forget_deadline task stamps) ≡ seen.forget_deadline task (lists_of control stamps)
+pub forget_deadline_seen : (control : Control) (stamps : Stamps) (task : ℕ) → lists_of control (forget_deadline task stamps) ≡ seen.forget_deadline task
+    (lists_of control stamps)
 unfolding lists_of forget_deadline seen.forget_deadline
 forget_deadline_seen control stamps task = same_seen _ _ _ _ _ _ _ _ _ _ refl refl refl refl (map-set (deadline_from stamps.tick) stamps.deadlines task None)
 
@@ -154,14 +177,17 @@ all_left stamps ahead =
     let test = λ (i : ℕ). waits (row_at stamps i).standing in
     let ids = numbers (length stamps.rows) in
     All-map (λ (e : Delayed). 0 < e.left) (delayed_of stamps) (standing_so waits stamps)
-    (All-weaker (λ i. (test i ≡ true) × (i < length stamps.rows)) (λ i. 0 < (delayed_of stamps i).left) (λ i h. some_left stamps.tick (wake_in (row_at stamps i).standing) h.0 (λ wake. ahead i wake h.1)) (standing_so waits stamps)
-    (All-both (λ i. test i ≡ true) (λ i. i < length stamps.rows) (standing_so waits stamps) (All-by_stamp_passes (stamp_of stamps) test ids stamps.next) (All-by_stamp (stamp_of stamps) test ids (λ i. i < length stamps.rows) stamps.next (numbers_below (length stamps.rows)))))
+    (All-weaker (λ i. (test i ≡ true) × (i < length stamps.rows)) (λ i. 0 < (delayed_of stamps i).left)
+    (λ i h. some_left stamps.tick (wake_in (row_at stamps i).standing) h.0 (λ wake. ahead i wake h.1)) (standing_so waits stamps)
+    (All-both (λ i. test i ≡ true) (λ i. i < length stamps.rows) (standing_so waits stamps) (All-by_stamp_passes (stamp_of stamps) test ids stamps.next)
+    (All-by_stamp (stamp_of stamps) test ids (λ i. i < length stamps.rows) stamps.next (numbers_below (length stamps.rows)))))
 
 map_aged : (stamps : Stamps) (ids : List ℕ) → map aged (map (delayed_of stamps) ids) ≡ map (delayed_of (advance stamps)) ids
 unfolding advance
 map_aged stamps [] = refl
 map_aged stamps (i ∷ ids) =
-    let less : (unwrap_or (wake_in (row_at stamps i).standing) 0 - stamps.tick) - 1 ≡ unwrap_or (wake_in (row_at stamps i).standing) 0 - suc stamps.tick = omega arith in
+    let less : (unwrap_or (wake_in (row_at stamps i).standing) 0 - stamps.tick) - 1 ≡ unwrap_or (wake_in (row_at stamps i).standing) 0 - suc stamps.tick = omega
+    arith in
     ap (λ left. entry i left ∷ map aged (map (delayed_of stamps) ids)) less ∙ ap (λ es. delayed_of (advance stamps) i ∷ es) (map_aged stamps ids)
 
 one_more : (tick : ℕ) → suc tick % 2 ^ 32 ≡ (tick % 2 ^ 32 + 1) % 2 ^ 32
@@ -173,7 +199,8 @@ aged_deadline tick (Some deadline) =
     let less : deadline - suc tick ≡ (deadline - tick) - 1 = omega arith in
     ap Some less
 
-aged_deadlines : (tick : ℕ) (deadlines : List (Option ℕ)) → map (deadline_from (suc tick)) deadlines ≡ map (option_map (λ left. left - 1)) (map (deadline_from tick) deadlines)
+aged_deadlines : (tick : ℕ) (deadlines : List (Option ℕ)) → map (deadline_from (suc tick)) deadlines ≡ map (option_map (λ left. left - 1))
+    (map (deadline_from tick) deadlines)
 aged_deadlines tick [] = refl
 aged_deadlines tick (d ∷ ds) = ap₂ (λ first rest. first ∷ rest) (aged_deadline tick d) (aged_deadlines tick ds)
 
@@ -184,7 +211,8 @@ advance_seen control stamps ahead =
     let waiting = standing_so waits stamps in
     same_seen _ _ _ _ _ _ _ _ _ _ refl (one_more stamps.tick)
     (ap (ranked wakes_first) (sym (map_aged stamps waiting))
-    ∙ sym (map-ranked wakes_first wakes_first aged (λ (e : Delayed). 0 < e.left) (λ a b h k. grind (arith, nat_tests, h, k)) (map (delayed_of stamps) waiting) (all_left stamps ahead)))
+    ∙ sym (map-ranked wakes_first wakes_first aged (λ (e : Delayed). 0 < e.left) (λ a b h k. grind (arith, nat_tests, h, k)) (map (delayed_of stamps) waiting)
+    (all_left stamps ahead)))
     refl
     (aged_deadlines stamps.tick stamps.deadlines)
 
@@ -192,7 +220,8 @@ map_tasks : (stamps : Stamps) (ids : List ℕ) → map (λ (e : Delayed). e.task
 map_tasks stamps [] = refl
 map_tasks stamps (i ∷ ids) = ap (λ rest. i ∷ rest) (map_tasks stamps ids)
 
-due_at : (tick : ℕ) (wake : Option ℕ) → ((at : ℕ) → wake ≡ Some at → tick ≤ at) → (is_some wake && eqb (unwrap_or wake 0 - tick) 0) ≡ option_map_or (λ at. eqb at tick) wake false
+due_at : (tick : ℕ) (wake : Option ℕ) → ((at : ℕ) → wake ≡ Some at → tick ≤ at) → (is_some wake && eqb (unwrap_or wake 0 - tick) 0) ≡ option_map_or
+    (λ at. eqb at tick) wake false
 due_at tick None near = refl
 due_at tick (Some at) near = grind (arith, nat_tests, near at refl)
 
@@ -204,8 +233,14 @@ due_seen control stamps near =
     let none_left = λ (e : Delayed). eqb e.left 0 in
     let entries = map (delayed_of stamps) waiting in
     let kept : filter none_left (ranked wakes_first entries) ≡ filter none_left entries = filter-ranked wakes_first wakes_first-IsRank none_left entries
-    ∙ ranked_same wakes_first (λ e. none_left e ≡ true) (λ a b h k. grind (arith, nat_tests, h, k)) (filter none_left entries) (All-filter_passes none_left entries) in
-    let these : filter (λ i. none_left (delayed_of stamps i)) waiting ≡ due stamps = filter-by_stamp (stamp_of stamps) (λ i. waits (row_at stamps i).standing) (tasks_of stamps) (λ i. none_left (delayed_of stamps i)) stamps.next
-    ∙ by_stamp_agrees (stamp_of stamps) (λ i. waits (row_at stamps i).standing && none_left (delayed_of stamps i)) (λ i. wakes_at stamps.tick (row_at stamps i).standing) (tasks_of stamps) stamps.next
-    (All-weaker (λ i. i < length stamps.rows) (λ i. (waits (row_at stamps i).standing && none_left (delayed_of stamps i)) ≡ wakes_at stamps.tick (row_at stamps i).standing) (λ i h. due_at stamps.tick (wake_in (row_at stamps i).standing) (λ wake. near i wake h)) (tasks_of stamps) (numbers_below (length stamps.rows))) in
-    ap (map (λ (e : Delayed). e.task)) (kept ∙ filter-map none_left (delayed_of stamps) waiting) ∙ map_tasks stamps (filter (λ i. none_left (delayed_of stamps i)) waiting) ∙ these
+    ∙ ranked_same wakes_first (λ e. none_left e ≡ true) (λ a b h k. grind (arith, nat_tests, h, k)) (filter none_left entries)
+    (All-filter_passes none_left entries) in
+    let these : filter (λ i. none_left (delayed_of stamps i)) waiting ≡ due stamps = filter-by_stamp (stamp_of stamps) (λ i. waits (row_at stamps i).standing)
+    (tasks_of stamps) (λ i. none_left (delayed_of stamps i)) stamps.next
+    ∙ by_stamp_agrees (stamp_of stamps) (λ i. waits (row_at stamps i).standing && none_left (delayed_of stamps i))
+    (λ i. wakes_at stamps.tick (row_at stamps i).standing) (tasks_of stamps) stamps.next
+    (All-weaker (λ i. i < length stamps.rows) (λ i. (waits (row_at stamps i).standing && none_left (delayed_of stamps i)) ≡ wakes_at stamps.tick
+    (row_at stamps i).standing) (λ i h. due_at stamps.tick (wake_in (row_at stamps i).standing) (λ wake. near i wake h)) (tasks_of stamps)
+    (numbers_below (length stamps.rows))) in
+    ap (map (λ (e : Delayed). e.task)) (kept ∙ filter-map none_left (delayed_of stamps) waiting) ∙ map_tasks stamps
+    (filter (λ i. none_left (delayed_of stamps i)) waiting) ∙ these

@@ -51,7 +51,8 @@ all_or_some : (p : ℕ → Bool) (ns : List ℕ) → AllByRecursion (λ n. p n �
 all_or_some p [] = inl tt
 all_or_some p (n ∷ ns) = at (p n) refl (all_or_some p ns)
   where
-    at : (b : Bool) → p n ≡ b → AllByRecursion (λ n. p n ≡ true) ns ⊎ ((m : ℕ) × (has m ns ≡ true) × (p m ≡ false)) → AllByRecursion (λ n. p n ≡ true) (n ∷ ns) ⊎ ((m : ℕ) × (has m (n ∷ ns) ≡ true) × (p m ≡ false))
+    at : (b : Bool) → p n ≡ b → AllByRecursion (λ n. p n ≡ true) ns ⊎ ((m : ℕ) × (has m ns ≡ true) × (p m ≡ false)) → AllByRecursion (λ n. p n ≡ true) (n ∷ ns)
+        ⊎ ((m : ℕ) × (has m (n ∷ ns) ≡ true) × (p m ≡ false))
     at true passes (inl all) = inl (passes, all)
     at true passes (inr some) = inr (some.0, grind (arith, some.1), some.2)
     at false fails rest = inr (n, grind (arith, nat_tests), fails)
@@ -67,36 +68,56 @@ free_number control core below = elim (all_or_some (is_elsewhere control core) (
     others = map (current control) (without core (numbers (length control.cores)))
 
     on_other : (i : ℕ) → is_elsewhere control core i ≡ list_any (eqb i) others
-    on_other i = list_any_agrees (λ other. not (eqb other core) && eqb (current control other) i) (λ other. not (eqb other core) && eqb i (current control other)) (numbers (length control.cores)) (λ other. grind (arith, nat_tests))
+    on_other i = list_any_agrees (λ other. not (eqb other core) && eqb (current control other) i)
+        (λ other. not (eqb other core) && eqb i (current control other)) (numbers (length control.cores)) (λ other. grind (arith, nat_tests))
         ∙ sym (list_any-filter (λ other. eqb i (current control other)) (λ other. not (eqb other core)) (numbers (length control.cores)))
         ∙ sym (list_any-map (eqb i) (current control) (without core (numbers (length control.cores))))
 
     crowded : AllByRecursion (λ i. is_elsewhere control core i ≡ true) (numbers (length control.cores)) → ⊥
-    crowded all = omega (arith, le-length_from_below others (length control.cores) (λ q low. sym (on_other q) ∙ All-has (λ i. is_elsewhere control core i ≡ true) q (numbers (length control.cores)) all (numbers_have (length control.cores) q low)), length-map (without core (numbers (length control.cores))) (current control), length_without (length control.cores) core below)
+    crowded all = omega (
+      arith,
+      le-length_from_below others (length control.cores)
+          (λ q low. sym (on_other q) ∙ All-has (λ i. is_elsewhere control core i ≡ true) q (numbers (length control.cores)) all
+          (numbers_have (length control.cores) q low)),
+      length-map (without core (numbers (length control.cores))) (current control),
+      length_without
+          (length control.cores) core below,
+    )
 
 find_from_any : (p : ℕ → Bool) (ns : List ℕ) → list_any p ns ≡ true → (n : ℕ) × (find p ns ≡ Some n) × (p n ≡ true) × (has n ns ≡ true)
 find_from_any p [] some = absurd (cc)
 find_from_any p (m ∷ ms) some = at (p m) refl (find_from_any p ms)
   where
-    at : (b : Bool) → p m ≡ b → (list_any p ms ≡ true → (n : ℕ) × (find p ms ≡ Some n) × (p n ≡ true) × (has n ms ≡ true)) → (n : ℕ) × (find p (m ∷ ms) ≡ Some n) × (p n ≡ true) × (has n (m ∷ ms) ≡ true)
+    at : (b : Bool) → p m ≡ b → (list_any p ms ≡ true → (n : ℕ) × (find p ms ≡ Some n) × (p n ≡ true) × (has n ms ≡ true)) → (n : ℕ) ×
+        (find p (m ∷ ms) ≡ Some n) × (p n ≡ true) × (has n (m ∷ ms) ≡ true)
     at true passes rest = (m, grind (arith, passes), passes, grind (arith, nat_tests))
     at false fails rest = let r = rest (grind (arith, some, fails)) in (r.0, grind (arith, fails, r.1), r.2, grind (arith, r.3))
 
 ready_below : (control : Control) (stamps : Stamps) → AllByRecursion (λ i. i < length stamps.rows) (lists_of control stamps).ready
 unfolding lists_of
-ready_below control stamps = All-ranked (outranks control) (λ i. i < length stamps.rows) (standing_so stands_ready stamps) (All-by_stamp (stamp_of stamps) (λ i. stands_ready (row_at stamps i).standing) (tasks_of stamps) (λ i. i < length stamps.rows) stamps.next (numbers_below (length stamps.rows)))
+ready_below control stamps = All-ranked (outranks control) (λ i. i < length stamps.rows) (standing_so stands_ready stamps)
+    (All-by_stamp (stamp_of stamps) (λ i. stands_ready (row_at stamps i).standing) (tasks_of stamps) (λ i. i < length stamps.rows) stamps.next
+    (numbers_below (length stamps.rows)))
 
 seen_pick : (control : Control) (core : ℕ) (lists : Lists) → seen.pick control core lists ≡ find (may_select control core) lists.ready
 unfolding seen.pick
 seen_pick control core lists = refl
 
 -- what a core of a sound table selects: a ready task that it may select
-pub selects : (control : Control) (core : ℕ) (stamps : Stamps) → IsStamped stamps → core < length control.cores → length control.cores ≤ length stamps.rows → ((i : ℕ) → i < length control.cores → is_ready i stamps ≡ true) → (i : ℕ) × (pick control core stamps ≡ Some i) × (i < length stamps.rows) × (is_ready i stamps ≡ true) × (may_select control core i ≡ true)
+pub selects : (control : Control) (core : ℕ) (stamps : Stamps) → IsStamped stamps → core < length control.cores → length control.cores ≤ length stamps.rows →
+    ((i : ℕ) → i < length control.cores → is_ready i stamps ≡ true) → (i : ℕ) × (pick control core stamps ≡ Some i) × (i < length stamps.rows) ×
+    (is_ready i stamps ≡ true) × (may_select control core i ≡ true)
 selects control core stamps stamped below enough idle_ready =
     let free = free_number control core below in
     let ready = (lists_of control stamps).ready in
     let listed : has free.0 ready ≡ true = is_ready_seen control stamps free.0 stamped.given (omega (arith, free.1)) ∙ idle_ready free.0 free.1 in
     let chosen : may_select control core free.0 ≡ true = grind (arith, nat_tests, free.1, free.2) in
     let found = find_from_any (may_select control core) ready (list_any_at (may_select control core) free.0 ready listed chosen) in
-    let low : found.0 < length stamps.rows = All-has (λ i. i < length stamps.rows) found.0 ready (ready_below control stamps) found.3 in
-    (found.0, sym (pick_seen control core stamps stamped) ∙ seen_pick control core (lists_of control stamps) ∙ found.1, low, sym (is_ready_seen control stamps found.0 stamped.given low) ∙ found.3, found.2)
+    let low : found.0 < length stamps.rows = All-has (λ i. i < length stamps.rows) found.0 ready (ready_below control stamps) found.3 in (
+      found.0,
+      sym (pick_seen control core stamps stamped) ∙ seen_pick control core (lists_of control stamps) ∙ found.1,
+      low,
+      sym
+          (is_ready_seen control stamps found.0 stamped.given low) ∙ found.3,
+      found.2,
+    )

@@ -8,7 +8,7 @@ use Rattle.port_locks.specs.declared.view.Handover.{Handover}
 use Rattle.port_locks.specs.declared.view.View.{View}
 use Rattle.bench_model.specs.History.{made_by, StartsWith}
 use Rattle.port_locks.specs.Holds.{hold_after, own_hold}
-use Rattle.port_locks.specs.Locks.{PairState, IsTold, Fits}
+use Rattle.port_locks.specs.Locks.{PairState, IsHeard, Fits}
 use Rattle.history_laws.proofs.Parts.{begins_through}
 
 pub record Alike (p q : PairState) (N : ℕ → Type 0) : Type 0 where
@@ -27,8 +27,8 @@ pub record Alike (p q : PairState) (N : ℕ → Type 0) : Type 0 where
       ≡ own_hold n (hold_after p.terms.header p.history)
 
 module _ (p q : PairState) (N : ℕ → Type 0) (a : Alike p q N) where
-  pub told_alike : (seat : ℕ) (t : Handover) → N t.number → IsTold p seat t → IsTold q seat t
-  told_alike seat t n f = record {
+  pub heard_alike : (seat : ℕ) (t : Handover) → N t.number → IsHeard p seat t → IsHeard q seat t
+  heard_alike seat t n f = record {
     place = a.place t.number n ∙ f.place;
     below = let less = f.below in let more = a.given in omega arith;
     interrupt = a.interrupt t.number n ∙ f.interrupt;
@@ -38,10 +38,10 @@ module _ (p q : PairState) (N : ℕ → Type 0) (a : Alike p q N) where
   }
 
   pub all_alike : (seat : ℕ) (ts : List Handover)
-      → ((t : Handover) → IsTold p seat t → N t.number)
-      → All (IsTold p seat) ts → All (IsTold q seat) ts
+      → ((t : Handover) → IsHeard p seat t → N t.number)
+      → All (IsHeard p seat) ts → All (IsHeard q seat) ts
   all_alike seat ts numbers all k d l =
-      let t = all k d l in told_alike seat _ (numbers _ t) t
+      let t = all k d l in heard_alike seat _ (numbers _ t) t
 
   pub fits_alike : (seat : ℕ) (v : View)
       → ((n : ℕ) (b : Bool) → n < p.given → p.place n ≡ (seat, b) → N n)
@@ -62,8 +62,8 @@ module _ (p q : PairState) (N : ℕ → Type 0) (a : Alike p q N) where
         made = a.made v.number n ∙ f.made;
         hold = held seat v n f;
         first = λ z. f.first z ∙ sym (a.first (subst N z n));
-        told = all_alike seat v.told (λ t is. numbers t.number false is.below is.place) f.told;
-        told_once = f.told_once;
+        heard = all_alike seat v.heard (λ t is. numbers t.number false is.below is.place) f.heard;
+        heard_once = f.heard_once;
       }
     where
       held : (seat : ℕ) (v : View) → N v.number → Fits p seat v

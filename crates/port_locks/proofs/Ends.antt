@@ -1,5 +1,6 @@
 -- What the seats of a pair know at its end, once all are joined into one.
-use Rattle.std.proofs.Common.{◌≡◌, ℕ, ◌+◌, ◌<◌, ◌≤◌, ◌==◌, ◌-◌, List, [], ◌∷◌, length, get_or, Bool, true, false, true≢false, Option, Some, None, option_map, refl, sym, ap, ◌∙◌, subst, ⊎_elim, arith, eq-eqb}
+use Rattle.std.proofs.Common.{◌≡◌, ℕ, ◌+◌, ◌<◌, ◌≤◌, ◌==◌, ◌-◌, List, [], ◌∷◌, length, get_or, Bool, true, false, true≢false, Option, Some, None, option_map}
+use Rattle.std.proofs.Common.{refl, sym, ap, ◌∙◌, subst, ⊎_elim, arith, eq-eqb}
 use Rattle.std.specs.List.{All}
 use mathlib.Core.Logic.{dite}
 use mathlib.Core.Option as maybe
@@ -17,7 +18,7 @@ use Rattle.port_locks.specs.Closing.{Knows, IsEnd, HasAllNumbers, IsEndOf, HasNo
 use Rattle.port_locks.specs.Holds.{hold_after}
 use Rattle.port_locks.specs.Seats.{SeatView}
 use Rattle.port_locks.proofs.KnownSeats.{IsKnown}
-use Rattle.port_locks.specs.Locks.{PairState, IsTold, Fits, Locked}
+use Rattle.port_locks.specs.Locks.{PairState, IsHeard, Fits, Locked}
 
 -- what is so of a seat that was joined, or is the one into which all are
 knows_end : (p : PairState) (id : ℕ) (v : View) → Fits p id v → (number : ℕ)
@@ -30,34 +31,34 @@ knows_end p id v f number seen made =
       subst (λ (x : ℕ × List Entry). made_by x.0 p.history ≡ x.1) (λ i. (own.0 i, own.2 i))
           f.made,
     ))
-    (λ (told : (k : ℕ) × (t : Handover) × (k < length v.told)
-    × ((d : Handover) → get_or v.told k d ≡ t) × (t.number ≡ number) × (t.seen ≡ seen)
+    (λ (heard : (k : ℕ) × (t : Handover) × (k < length v.heard)
+    × ((d : Handover) → get_or v.heard k d ≡ t) × (t.number ≡ number) × (t.seen ≡ seen)
     × (t.made ≡ made)).
-    let t : Handover = told.1 in
-    let is : IsTold p id t =
-    subst (IsTold p id) (told.3 t) (f.told told.0 t told.2) in (
-      subst (StartsWith p.history) told.5 is.seen,
+    let t : Handover = heard.1 in
+    let is : IsHeard p id t =
+    subst (IsHeard p id) (heard.3 t) (f.heard heard.0 t heard.2) in (
+      subst (StartsWith p.history) heard.5 is.seen,
       subst (λ (x : ℕ × List Entry). made_by x.0 p.history ≡ x.1)
-          (λ i. (told.4 i, told.6 i)) is.made,
+          (λ i. (heard.4 i, heard.6 i)) is.made,
     ))
 
 -- a word that names neither a seat nor any that it was told of names no number which is known
 not_named : (p : PairState) (id : ℕ) (v : View) → Fits p id v → (word : ℕ)
     → (word == v.number + 1) ≡ false
-    → ((t : Handover) → IsTold p id t → (word == t.number + 1) ≡ false)
+    → ((t : Handover) → IsHeard p id t → (word == t.number + 1) ≡ false)
     → (number : ℕ) (seen made : List Entry) → Knows v number seen made
     → (word == number + 1) ≡ false
 not_named p id v f word free frees number seen made =
     ⊎_elim
     (λ (own : (v.number ≡ number) × (v.seen ≡ seen) × (v.made ≡ made)).
     subst (λ (n : ℕ). (word == n + 1) ≡ false) own.0 free)
-    (λ (told : (k : ℕ) × (t : Handover) × (k < length v.told)
-    × ((d : Handover) → get_or v.told k d ≡ t) × (t.number ≡ number) × (t.seen ≡ seen)
+    (λ (heard : (k : ℕ) × (t : Handover) × (k < length v.heard)
+    × ((d : Handover) → get_or v.heard k d ≡ t) × (t.number ≡ number) × (t.seen ≡ seen)
     × (t.made ≡ made)).
-    let t : Handover = told.1 in
-    let is : IsTold p id t =
-    subst (IsTold p id) (told.3 t) (f.told told.0 t told.2) in
-    subst (λ (n : ℕ). (word == n + 1) ≡ false) told.4 (frees t is))
+    let t : Handover = heard.1 in
+    let is : IsHeard p id t =
+    subst (IsHeard p id) (heard.3 t) (f.heard heard.0 t heard.2) in
+    subst (λ (n : ℕ). (word == n + 1) ≡ false) heard.4 (frees t is))
 
 -- and so it names nobody, where all numbers are known
 names_nobody : (p : PairState) (id : ℕ) (v : View) → Fits p id v → (cores word : ℕ)
@@ -65,7 +66,7 @@ names_nobody : (p : PairState) (id : ℕ) (v : View) → Fits p id v → (cores 
     → ((number : ℕ) → number < cores
     → (seen : List Entry) × (made : List Entry) × Knows v number seen made)
     → (word == v.number + 1) ≡ false
-    → ((t : Handover) → IsTold p id t → (word == t.number + 1) ≡ false) → word ≡ 0
+    → ((t : Handover) → IsHeard p id t → (word == t.number + 1) ≡ false) → word ≡ 0
 names_nobody p id v f cores word most few all free frees =
     dite (ℕ_discrete word 0) (λ none. none)
     (λ owned.

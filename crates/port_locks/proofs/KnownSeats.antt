@@ -1,5 +1,6 @@
 -- What a seat knows of the seats that were joined into it.
-use Rattle.std.proofs.Common.{◌≡◌, false, Option, ℕ, ◌<◌, List, [], ◌∷◌, ◌++◌, length, get_or, refl, sym, ap, ◌∙◌, subst, ⊎_elim, inl, inr, arith, length-append, append_assoc}
+use Rattle.std.proofs.Common.{◌≡◌, false, Option, ℕ, ◌<◌, List, [], ◌∷◌, ◌++◌, length, get_or, refl, sym, ap, ◌∙◌, subst, ⊎_elim, inl, inr, arith}
+use Rattle.std.proofs.Common.{length-append, append_assoc}
 use Rattle.std.specs.List.{All}
 use Rattle.std.proofs.Math.Seq.{get_or-append_seam}
 use Rattle.std.proofs.lemmas.List.{get_or_append_left}
@@ -17,29 +18,29 @@ knows_more : (v w : View) (number : ℕ) (seen made : List Entry) → Knows v nu
     → Knows (gathered v w) number seen made
 knows_more v w number seen made =
     ⊎_elim inl
-    (λ (told : (k : ℕ) × (t : Handover) × (k < length v.told)
-    × ((d : Handover) → get_or v.told k d ≡ t) × (t.number ≡ number) × (t.seen ≡ seen)
+    (λ (heard : (k : ℕ) × (t : Handover) × (k < length v.heard)
+    × ((d : Handover) → get_or v.heard k d ≡ t) × (t.number ≡ number) × (t.seen ≡ seen)
     × (t.made ≡ made)).
-    let long = length-append v.told (handover w ∷ w.told) in
-    let less = told.2 in
+    let long = length-append v.heard (handover w ∷ w.heard) in
+    let less = heard.2 in
     inr (
-      told.0,
-      told.1,
+      heard.0,
+      heard.1,
       omega arith,
-      (λ d. get_or_append_left v.told (handover w ∷ w.told) d told.0 less ∙ told.3 d),
-      told.4,
-      told.5,
-      told.6,
+      (λ d. get_or_append_left v.heard (handover w ∷ w.heard) d heard.0 less ∙ heard.3 d),
+      heard.4,
+      heard.5,
+      heard.6,
     ))
 
 knows_new : (v w : View) → Knows (gathered v w) w.number w.seen w.made
 knows_new v w =
-    let long = length-append v.told (handover w ∷ w.told) in
+    let long = length-append v.heard (handover w ∷ w.heard) in
     inr (
-      length v.told,
+      length v.heard,
       handover w,
       omega arith,
-      (λ d. get_or-append_seam v.told (handover w) w.told d),
+      (λ d. get_or-append_seam v.heard (handover w) w.heard d),
       refl,
       refl,
       refl,

@@ -1,5 +1,6 @@
 -- Where each number of a pair is, and whom a word names.
-use Rattle.std.proofs.Common.{◌≡◌, ℕ, zero, suc, ◌+◌, ◌<◌, ◌≤◌, ◌==◌, List, [], ◌∷◌, ◌++◌, length, set, Bool, true, false, true≢false, refl, sym, ap, ◌∙◌, subst, arith, eq-eqb, length-append}
+use Rattle.std.proofs.Common.{◌≡◌, ℕ, zero, suc, ◌+◌, ◌<◌, ◌≤◌, ◌==◌, List, [], ◌∷◌, ◌++◌, length, set, Bool, true, false, true≢false, refl, sym, ap, ◌∙◌}
+use Rattle.std.proofs.Common.{subst, arith, eq-eqb, length-append}
 use Rattle.std.specs.List.{All, AllPairs, Any}
 use Rattle.std.proofs.Math.Seq.{get_or-append_seam}
 use Rattle.std.proofs.lemmas.List.{get_or_append_left, get_or-append-add}
@@ -12,7 +13,7 @@ use lib.ListN.{get_elem?}
 use Rattle.atomic_table.proofs.Lists.{set_else}
 use Rattle.port_locks.specs.declared.view.Handover.{Handover}
 use Rattle.port_locks.specs.declared.view.View.{View}
-use Rattle.port_locks.specs.Locks.{PairState, IsTold, Fits, HasNumber, IsPlaced, IsOwner, NamesOwner, AllFit, AllPlaced}
+use Rattle.port_locks.specs.Locks.{PairState, IsHeard, Fits, HasNumber, IsPlaced, IsOwner, NamesOwner, AllFit, AllPlaced}
 use Rattle.port_locks.specs.Steps.{handover, gathered}
 
 module _ {X : Type 0} where
@@ -95,37 +96,37 @@ still_placed place views id v w number at kept more here =
     })
 
 -- the number is had by a view with the same number that was told the same
-same_has : (number : ℕ) (own : Bool) (v w : View) → w.number ≡ v.number → w.told ≡ v.told
+same_has : (number : ℕ) (own : Bool) (v w : View) → w.number ≡ v.number → w.heard ≡ v.heard
     → HasNumber number own v → HasNumber number own w
-same_has number true v w numbers told has = numbers ∙ has
-same_has number false v w numbers told has =
-    subst (Any (λ (t : Handover). t.number ≡ number)) (sym told) has
+same_has number true v w numbers heard has = numbers ∙ has
+same_has number false v w numbers heard has =
+    subst (Any (λ (t : Handover). t.number ≡ number)) (sym heard) has
 
 -- a step of a seat leaves each number where it is
 pub stay_placed : (p : PairState) (views : List View) (id : ℕ) (v w : View)
     → get_elem? views id ≡ maybe.some v → w.spent ≡ false → w.number ≡ v.number
-    → w.told ≡ v.told → AllPlaced p views → AllPlaced p (set views id w)
-stay_placed p views id v w at kept numbers told all number less =
+    → w.heard ≡ v.heard → AllPlaced p views → AllPlaced p (set views id w)
+stay_placed p views id v w at kept numbers heard all number less =
     still_placed (p.place number) views id v w number at kept
-    (same_has number (p.place number).1 v w numbers told) (all number less)
+    (same_has number (p.place number).1 v w numbers heard) (all number less)
 
 -- a view that takes in another has what both had
 pub gathered_left : (number : ℕ) (own : Bool) (v w : View) → HasNumber number own v
     → HasNumber number own (gathered v w)
 gathered_left number true v w has = has
 gathered_left number false v w has =
-    Any_left (λ (t : Handover). t.number ≡ number) v.told (handover w ∷ w.told) has
+    Any_left (λ (t : Handover). t.number ≡ number) v.heard (handover w ∷ w.heard) has
 
 pub gathered_right : (number : ℕ) (own : Bool) (v w : View) → HasNumber number own w
     → HasNumber number false (gathered v w)
 gathered_right number true v w has =
-    Any_here (λ (t : Handover). t.number ≡ number) v.told w.told (handover w) has
+    Any_here (λ (t : Handover). t.number ≡ number) v.heard w.heard (handover w) has
 gathered_right number false v w has =
-    Any_right (λ (t : Handover). t.number ≡ number) v.told w.told (handover w) has
+    Any_right (λ (t : Handover). t.number ≡ number) v.heard w.heard (handover w) has
 
 module _ (p : PairState) (owns : View → Bool) (word : ℕ)
     (of_view : (seat : ℕ) (v : View) → Fits p seat v → (word == v.number + 1) ≡ owns v)
-    (of_told : (seat : ℕ) (t : Handover) → IsTold p seat t → (word == t.number + 1) ≡ false) where
+    (of_heard : (seat : ℕ) (t : Handover) → IsHeard p seat t → (word == t.number + 1) ≡ false) where
   named : (views : List View) (seat : ℕ) (view : View) (number : ℕ) (own : Bool)
       → get_elem? views seat ≡ maybe.some view → view.spent ≡ false → Fits p seat view
       → HasNumber number own view → word ≡ number + 1 → IsOwner owns views number
@@ -139,11 +140,11 @@ module _ (p : PairState) (owns : View → Bool) (word : ℕ)
   }
   named views seat view number false there kept fits has is =
       let same : has.1.number ≡ number = has.4 in
-      let told : IsTold p seat has.1 =
-      subst (IsTold p seat) has.3 (fits.told has.0 has.1 has.2) in
+      let heard : IsHeard p seat has.1 =
+      subst (IsHeard p seat) has.3 (fits.heard has.0 has.1 has.2) in
       absurd
       (true≢false
-      (sym (eq-eqb word (has.1.number + 1) (omega (arith, same, is))) ∙ of_told seat has.1 told))
+      (sym (eq-eqb word (has.1.number + 1) (omega (arith, same, is))) ∙ of_heard seat has.1 heard))
 
   names_owner : (views : List View) → AllFit p views → AllPlaced p views → word ≤ p.given
       → NamesOwner owns views word

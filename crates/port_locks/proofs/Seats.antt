@@ -1,5 +1,6 @@
 -- Seats that are made and joined, and the pair at its start and its end, keep the rule.
-use Rattle.std.proofs.Common.{◌≡◌, ◌≢◌, ◌⊎◌, ℕ, zero, suc, ◌+◌, ◌<◌, ◌≤◌, ◌==◌, cond, List, [], ◌∷◌, ◌++◌, length, get_or, set, Bool, true, false, true≢false, Option, Some, None, option_map, refl, sym, ap, ◌∙◌, subst, ⊎_elim, inl, inr, arith, eq-eqb, ne_eqb}
+use Rattle.std.proofs.Common.{◌≡◌, ◌≢◌, ◌⊎◌, ℕ, zero, suc, ◌+◌, ◌<◌, ◌≤◌, ◌==◌, cond, List, [], ◌∷◌, ◌++◌, length, get_or, set, Bool, true, false, true≢false}
+use Rattle.std.proofs.Common.{Option, Some, None, option_map, refl, sym, ap, ◌∙◌, subst, ⊎_elim, inl, inr, arith, eq-eqb, ne_eqb}
 use Rattle.std.specs.List.{All, AllPairs}
 use Rattle.std.proofs.lemmas.List.Elements.{All-nil, All-cons, All-append}
 use Rattle.std.proofs.lemmas.List.Kept.{AllPairs-cons}
@@ -17,14 +18,14 @@ use Rattle.port_locks.specs.declared.view.Handover.{Handover}
 use Rattle.port_locks.specs.declared.view.Terms.{Terms}
 use Rattle.port_locks.specs.declared.view.View.{View}
 use Rattle.port_locks.specs.Holds.{hold_after, own_hold}
-use Rattle.port_locks.specs.Locks.{PairState, IsTold, Fits, FitsIfKept, HasNumber, IsPlaced, AllFit, AllPlaced, Locked}
+use Rattle.port_locks.specs.Locks.{PairState, IsHeard, Fits, FitsIfKept, HasNumber, IsPlaced, AllFit, AllPlaced, Locked}
 use Rattle.port_locks.specs.Steps.{seated, nobody, one_more, newcomer, handover, gathered}
 use Rattle.port_locks.proofs.Alike.{Alike, all_alike, fits_alike, views_stay}
 use Rattle.history_laws.proofs.KeptOut.{start_free}
 use Rattle.history_laws.proofs.Legal.{end_empty, legal_empty}
 use Rattle.history_laws.proofs.Parts.{begins_with_all}
 use Rattle.port_locks.proofs.Placed.{set_there, same_there, pairs_append, still_placed, stay_placed, gathered_left, gathered_right, names_interrupt, names_task}
-use Rattle.port_locks.proofs.Steps.{elsewhere, not_told, same_home}
+use Rattle.port_locks.proofs.Steps.{elsewhere, not_heard, same_home}
 
 at_end : (views : List View) (w u : View) (seat : ℕ)
     → get_elem? (views ++ w ∷ []) seat ≡ maybe.some u
@@ -77,14 +78,14 @@ no_hold header = ap (λ table. table.hold) (end_empty header) ∙ start_free hea
 -- with one more number given out, to a new seat, each number is where it is said to be
 placed_more : (p : PairState) (views : List View) (id : ℕ) (v w new : View)
     → get_elem? views id ≡ maybe.some v → w.spent ≡ false → w.number ≡ v.number
-    → w.told ≡ v.told → new.spent ≡ false → new.number ≡ p.given → AllPlaced p views
+    → w.heard ≡ v.heard → new.spent ≡ false → new.number ≡ p.given → AllPlaced p views
     → AllPlaced
     (record p {
       given = p.given + 1;
       place = placed p.given (length (set views id w)) p.place;
     })
     (set views id w ++ new ∷ [])
-placed_more p views id v w new at kept numbers told fresh given all number less =
+placed_more p views id v w new at kept numbers heard fresh given all number less =
     let seats : ℕ = length (set views id w) in
     let after : List View = set views id w ++ new ∷ [] in
     dite (ℕ_discrete number p.given)
@@ -98,7 +99,7 @@ placed_more p views id v w new at kept numbers told fresh given all number less 
     subst (λ (place : ℕ × Bool). IsPlaced place after number)
     (sym (ap (λ b. cond b (seats, true) (p.place number)) (eq-eqb number p.given same))) last)
     (λ other.
-    let here = stay_placed p views id v w at kept numbers told all number (omega arith) in
+    let here = stay_placed p views id v w at kept numbers heard all number (omega arith) in
     let still : IsPlaced (p.place number) after number = record {
       view = here.view;
       there = at_longer (set views id w) (new ∷ []) (p.place number).0 here.view here.there;
@@ -119,7 +120,7 @@ placed_joined p views id other v w at at' kept off all number less =
     let here = all number less in
     dite (ℕ_discrete (p.place number).0 other)
     (λ same.
-    let told : IsPlaced (id, false) after number = record {
+    let heard : IsPlaced (id, false) after number = record {
       view = gathered v w;
       there =
           set_else (set views id (gathered v w)) other id nobody off
@@ -132,7 +133,7 @@ placed_joined p views id other v w at at' kept off all number less =
     } in
     subst (λ (place : ℕ × Bool). IsPlaced place after number)
     (sym (ap (λ b. cond b (id, false) (p.place number)) (eq-eqb (p.place number).0 other same)))
-    told)
+    heard)
     (λ away.
     let still = still_placed (p.place number) views id v (gathered v w) number at kept
     (gathered_left number (p.place number).1 v w) here in
@@ -153,20 +154,20 @@ IsOther t u = t.number ≢ u.number
 
 -- no two that a seat was told of have one number, also once it takes in another seat
 once_gathered : (p : PairState) (id other : ℕ) (v w : View) → Fits p id v → Fits p other w
-    → id ≢ other → AllPairs (λ t u. t.number ≢ u.number) (v.told ++ handover w ∷ w.told)
+    → id ≢ other → AllPairs (λ t u. t.number ≢ u.number) (v.heard ++ handover w ∷ w.heard)
 once_gathered p id other v w f f' off =
-    pairs_append IsOther v.told (handover w ∷ w.told) f.told_once
-    (AllPairs-cons IsOther (handover w) w.told
-    (λ k d l same. not_told p other w.number (get_or w.told k d).number f'.place
-    (f'.told k d l).place (sym same))
-    f'.told_once)
+    pairs_append IsOther v.heard (handover w ∷ w.heard) f.heard_once
+    (AllPairs-cons IsOther (handover w) w.heard
+    (λ k d l same. not_heard p other w.number (get_or w.heard k d).number f'.place
+    (f'.heard k d l).place (sym same))
+    f'.heard_once)
     (λ k d l.
-    All-cons (IsOther (get_or v.told k d)) (handover w) w.told
-    (elsewhere p other id w.number (get_or v.told k d).number true false f'.place
-    (f.told k d l).place off)
+    All-cons (IsOther (get_or v.heard k d)) (handover w) w.heard
+    (elsewhere p other id w.number (get_or v.heard k d).number true false f'.place
+    (f.heard k d l).place off)
     (λ k' d' l'.
-    elsewhere p other id (get_or w.told k' d').number (get_or v.told k d).number false false
-    (f'.told k' d' l').place (f.told k d l).place off))
+    elsewhere p other id (get_or w.heard k' d').number (get_or v.heard k d).number false false
+    (f'.heard k' d' l').place (f.heard k d l).place off))
 
 module _ {V : Type 0} (terms_of : V → Terms) (list_of : V → List Entry) (key : About V) where
   abbrev Rule : State (Option V) View → Type 0
@@ -211,16 +212,16 @@ module _ {V : Type 0} (terms_of : V → Terms) (list_of : V → List Entry) (key
         made = fits.made;
         hold = fits.hold;
         first = λ _. ap (λ n. n + 1) given;
-        told =
-            all_alike r.p q N a id v.told
+        heard =
+            all_alike r.p q N a id v.heard
             (λ t is.
             let apart : t.number ≢ v.number =
-            not_told r.p id v.number t.number fits.place is.place in (
+            not_heard r.p id v.number t.number fits.place is.place in (
               (λ zero. apart (zero ∙ sym first)),
               λ same. (let less = is.below in omega arith),
             ))
-            fits.told;
-        told_once = fits.told_once;
+            fits.heard;
+        heard_once = fits.heard_once;
       } in
       let header = r.p.terms.header in
       let no_hold : own_hold v.given (hold_after header r.p.history) ≡ None =
@@ -239,8 +240,8 @@ module _ {V : Type 0} (terms_of : V → Terms) (list_of : V → List Entry) (key
         made = r.not_given v.given (omega arith);
         hold = ap (own_hold v.given) r.start ∙ sym no_hold;
         first = λ zero. omega arith;
-        told = All-nil (IsTold q seats);
-        told_once = λ i j d before less. absurd (omega (arith, less));
+        heard = All-nil (IsHeard q seats);
+        heard_once = λ i j d before less. absurd (omega (arith, less));
       } in
       let all : AllFit q (set s.views id (one_more v) ++ newcomer v ∷ []) =
       λ seat u e.
@@ -318,7 +319,7 @@ module _ {V : Type 0} (terms_of : V → Terms) (list_of : V → List Entry) (key
       let far : (seat n : ℕ) (b : Bool) → r.p.place n ≡ (seat, b) → seat ≢ other → N n =
       λ seat n b is off e. off (sym (ap (λ (x : ℕ × Bool). x.0) is) ∙ e) in
       let off : id ≢ other = λ e. apart (sym e) in
-      let hands : IsTold q id (handover w) = record {
+      let hands : IsHeard q id (handover w) = record {
         place = moved w.number true fits'.place;
         below = fits'.below;
         interrupt = fits'.interrupt ∙ free;
@@ -326,8 +327,8 @@ module _ {V : Type 0} (terms_of : V → Terms) (list_of : V → List Entry) (key
         seen = fits'.seen;
         made = fits'.made;
       } in
-      let theirs : All (IsTold q id) w.told =
-      λ k d l. let t = fits'.told k d l in record {
+      let theirs : All (IsHeard q id) w.heard =
+      λ k d l. let t = fits'.heard k d l in record {
         place = moved _ false t.place;
         below = t.below;
         interrupt = t.interrupt;
@@ -347,12 +348,12 @@ module _ {V : Type 0} (terms_of : V → Terms) (list_of : V → List Entry) (key
         made = fits.made;
         hold = fits.hold;
         first = fits.first;
-        told =
-            All-append (IsTold q id) v.told (handover w ∷ w.told)
-            (all_alike r.p q N a id v.told
-            (λ t is. far id t.number false is.place off) fits.told)
-            (All-cons (IsTold q id) (handover w) w.told hands theirs);
-        told_once = once_gathered r.p id other v w fits fits' off;
+        heard =
+            All-append (IsHeard q id) v.heard (handover w ∷ w.heard)
+            (all_alike r.p q N a id v.heard
+            (λ t is. far id t.number false is.place off) fits.heard)
+            (All-cons (IsHeard q id) (handover w) w.heard hands theirs);
+        heard_once = once_gathered r.p id other v w fits fits' off;
       } in
       let after : List View = set (set s.views id (gathered v w)) other nobody in
       let all : AllFit q after =
@@ -414,8 +415,8 @@ module _ {V : Type 0} (terms_of : V → Terms) (list_of : V → List Entry) (key
         made = refl;
         hold = refl;
         first = λ _. refl;
-        told = All-nil (IsTold q 0);
-        told_once = λ i j d before less. absurd (omega (arith, less));
+        heard = All-nil (IsHeard q 0);
+        heard_once = λ i j d before less. absurd (omega (arith, less));
       } in
       let all : AllFit q (seated (terms_of key.first.value) 0 1 ∷ []) =
       λ seat u e. one (FitsIfKept q) (seated (terms_of key.first.value) 0 1) (λ _. mine) seat u e in

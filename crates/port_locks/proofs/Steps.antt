@@ -1,5 +1,6 @@
 -- Each step of a lock pair keeps its rule.
-use Rattle.std.proofs.Common.{◌≡◌, ◌≢◌, ℕ, ◌+◌, ◌==◌, eqb, List, [], ◌∷◌, length, get_or, set, Bool, true, false, true≢false, Option, Some, None, option_map, unwrap_or, refl, sym, ap, ◌∙◌, subst, ⊎_elim, arith, eq-eqb, ne_eqb}
+use Rattle.std.proofs.Common.{◌≡◌, ◌≢◌, ℕ, ◌+◌, ◌==◌, eqb, List, [], ◌∷◌, length, get_or, set, Bool, true, false, true≢false, Option, Some, None, option_map}
+use Rattle.std.proofs.Common.{unwrap_or, refl, sym, ap, ◌∙◌, subst, ⊎_elim, arith, eq-eqb, ne_eqb}
 use Rattle.std.proofs.lemmas.Bool.Decides.{nat_tests}
 use Rattle.atomic_table.proofs.Lists.{set_again}
 use Rattle.std.specs.List.{All}
@@ -18,7 +19,7 @@ use Rattle.port_locks.specs.declared.view.Terms.{Terms}
 use Rattle.port_locks.specs.declared.view.View.{View}
 use Rattle.bench_model.specs.History.{StartsWith, IsLegal, IsGrowthBy}
 use Rattle.port_locks.specs.Holds.{hold_after, holder_after, own_hold}
-use Rattle.port_locks.specs.Locks.{PairState, IsTold, Fits, FitsIfKept, AllFit, AllPlaced, IsHome, Locked}
+use Rattle.port_locks.specs.Locks.{PairState, IsHeard, Fits, FitsIfKept, AllFit, AllPlaced, IsHome, Locked}
 use Rattle.port_locks.specs.Steps.{entered, noted, Finds, MayHold, MayFollow, took_interrupt, published, freed_interrupt, took_task, freed_task}
 use Rattle.port_locks.proofs.Alike.{Alike, all_alike, fits_alike, views_stay}
 use Rattle.port_locks.proofs.Placed.{stay_placed, names_interrupt, names_task}
@@ -31,9 +32,9 @@ elsewhere p id seat n m b c here there apart same =
     apart (ap (λ (x : ℕ × Bool). x.0) (sym there ∙ (ap p.place same ∙ here)))
 
 -- the number of a seat is none that it was told of
-pub not_told : (p : PairState) (id n m : ℕ) → p.place n ≡ (id, true) → p.place m ≡ (id, false)
+pub not_heard : (p : PairState) (id n m : ℕ) → p.place n ≡ (id, true) → p.place m ≡ (id, false)
     → m ≢ n
-not_told p id n m here there same =
+not_heard p id n m here there same =
     true≢false (ap (λ (x : ℕ × Bool). x.1) (sym here ∙ (sym (ap p.place same) ∙ there)))
 
 apart_succ : (m n : ℕ) → m ≢ n → (n + 1 == m + 1) ≡ false
@@ -192,11 +193,11 @@ module _ {V : Type 0} (terms_of : V → Terms) (list_of : V → List Entry) (key
       (λ n b less there. elsewhere r.p id seat v.number n true b f.place there apart)
       (r.views seat u at kept)
 
-  own_told : (p q : PairState) (id : ℕ) (v : View) → Fits p id v
-      → Alike p q (λ n. n ≢ v.number) → All (IsTold q id) v.told
-  own_told p q id v f a =
-      all_alike p q (λ n. n ≢ v.number) a id v.told
-      (λ t is. not_told p id v.number t.number f.place is.place) f.told
+  own_heard : (p q : PairState) (id : ℕ) (v : View) → Fits p id v
+      → Alike p q (λ n. n ≢ v.number) → All (IsHeard q id) v.heard
+  own_heard p q id v f a =
+      all_alike p q (λ n. n ≢ v.number) a id v.heard
+      (λ t is. not_heard p id v.number t.number f.place is.place) f.heard
 
   -- a step at which nothing changes
   unmoved : (s : State (Option V) View) → Rule s → (word id : ℕ) (v : View)
@@ -244,8 +245,8 @@ module _ {V : Type 0} (terms_of : V → Terms) (list_of : V → List Entry) (key
         hold =
             ap (λ (es : List Entry). own_hold v.number (hold_after r.p.terms.header es)) home.list;
         first = fits.first;
-        told = own_told r.p q id v fits a;
-        told_once = fits.told_once;
+        heard = own_heard r.p q id v fits a;
+        heard_once = fits.heard_once;
       } in
       let views : AllFit q (set s.views id w) =
       views_stay (FitsIfKept q) s.views id w (λ _. mine) (others s r id v fits q a) in
@@ -338,8 +339,8 @@ module _ {V : Type 0} (terms_of : V → Terms) (list_of : V → List Entry) (key
         made = refl;
         hold = refl;
         first = fits.first;
-        told = own_told r.p q id v fits a;
-        told_once = fits.told_once;
+        heard = own_heard r.p q id v fits a;
+        heard_once = fits.heard_once;
       } in
       let views : AllFit q (set s.views id w) =
       views_stay (FitsIfKept q) s.views id w (λ _. mine) (others s r id v fits q a) in
@@ -410,8 +411,8 @@ module _ {V : Type 0} (terms_of : V → Terms) (list_of : V → List Entry) (key
         made = fits.made;
         hold = fits.hold;
         first = fits.first;
-        told = own_told r.p q id v fits a;
-        told_once = fits.told_once;
+        heard = own_heard r.p q id v fits a;
+        heard_once = fits.heard_once;
       } in
       let views : AllFit q (set s.views id w) =
       views_stay (FitsIfKept q) s.views id w (λ _. mine) (others s r id v fits q a) in
@@ -466,8 +467,8 @@ module _ {V : Type 0} (terms_of : V → Terms) (list_of : V → List Entry) (key
         made = fits.made;
         hold = fits.hold;
         first = fits.first;
-        told = own_told r.p q id v fits a;
-        told_once = fits.told_once;
+        heard = own_heard r.p q id v fits a;
+        heard_once = fits.heard_once;
       } in
       let views : AllFit q (set s.views id w) =
       views_stay (FitsIfKept q) s.views id w (λ _. mine) (others s r id v fits q a) in
@@ -540,8 +541,8 @@ module _ {V : Type 0} (terms_of : V → Terms) (list_of : V → List Entry) (key
         made = fits.made;
         hold = fits.hold;
         first = fits.first;
-        told = own_told r.p q id v fits a;
-        told_once = fits.told_once;
+        heard = own_heard r.p q id v fits a;
+        heard_once = fits.heard_once;
       } in
       let views : AllFit q (set s.views id w) =
       views_stay (FitsIfKept q) s.views id w (λ _. mine) (others s r id v fits q a) in

@@ -14,8 +14,8 @@ use Rattle.port_locks.specs.Seats.{SeatView}
 abbrev pub Knows : View → ℕ → List Entry → List Entry → Type 0
 Knows v number seen made =
     ((v.number ≡ number) × (v.seen ≡ seen) × (v.made ≡ made))
-    ⊎ ((k : ℕ) × (t : Handover) × (k < length v.told)
-    × ((d : Handover) → slice_index_or v.told k d ≡ t) × (t.number ≡ number) × (t.seen ≡ seen)
+    ⊎ ((k : ℕ) × (t : Handover) × (k < length v.heard)
+    × ((d : Handover) → slice_index_or v.heard k d ≡ t) × (t.number ≡ number) × (t.seen ≡ seen)
     × (t.made ≡ made))
 
 -- the history begins with all that such seats had seen, and has of each just its own entries

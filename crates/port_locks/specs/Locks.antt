@@ -30,7 +30,7 @@ pub record PairState : Type 0 where
   pub out : Bool
 
 -- what a joined seat handed over to the seat there
-pub record IsTold (p : PairState) (seat : ℕ) (t : Handover) : Type 0 where
+pub record IsHeard (p : PairState) (seat : ℕ) (t : Handover) : Type 0 where
   pub place : p.place t.number ≡ (seat, false)
   pub below : t.number < p.given
   pub interrupt : (p.interrupt == t.number + 1) ≡ false
@@ -56,9 +56,9 @@ pub record Fits (p : PairState) (seat : ℕ) (v : View) : Type 0 where
       own_hold v.number (hold_after p.terms.header v.seen)
       ≡ own_hold v.number (hold_after p.terms.header p.history)
   pub first : v.number ≡ 0 → v.given ≡ p.given
-  pub told : All (IsTold p seat) v.told
+  pub heard : All (IsHeard p seat) v.heard
   -- no two that it was told of have one number
-  pub told_once : AllPairs (λ t u. t.number ≢ u.number) v.told
+  pub heard_once : AllPairs (λ t u. t.number ≢ u.number) v.heard
 
 -- a view that is not spent fits
 abbrev pub FitsIfKept : PairState → ℕ → View → Type 0
@@ -67,7 +67,7 @@ FitsIfKept p seat v = v.spent ≡ false → Fits p seat v
 -- the number is the view's own, or that of one that it was told of
 abbrev pub HasNumber : ℕ → Bool → View → Type 0
 HasNumber number true v = v.number ≡ number
-HasNumber number false v = Any (λ t. t.number ≡ number) v.told
+HasNumber number false v = Any (λ t. t.number ≡ number) v.heard
 
 -- a view that is not spent has the number, at the place of the number
 pub record IsPlaced (place : ℕ × Bool) (views : List View) (number : ℕ) : Type 0 where

@@ -36,7 +36,7 @@ seated terms number given = record {
   owns_task = false;
   seen = [];
   made = [];
-  told = [];
+  heard = [];
 }
 
 abbrev pub nobody : View
@@ -54,7 +54,7 @@ abbrev pub handover : View → Handover
 handover v = record { number = v.number; seen = v.seen; made = v.made }
 
 abbrev pub gathered : View → View → View
-gathered v w = record v { told = v.told ++ handover w ∷ w.told }
+gathered v w = record v { heard = v.heard ++ handover w ∷ w.heard }
 
 -- the view of the interrupt word's new owner
 abbrev pub entered : View → List Entry → View

@@ -74,7 +74,7 @@ impl<V: Kept> LockPair<V> {
             → HasTaken V.terms V.list seat.old seat.new) }
     {
         if seat.interrupt_depth > 0 {
-            return seat.enter_again();
+            return seat.enter_nested();
         }
         for _ in rt.forever() {
             if self.enter(seat) {
@@ -98,7 +98,7 @@ impl<V: Kept> LockPair<V> {
             → HasTaken V.terms V.list seat.old seat.new) }
     {
         if seat.interrupt_depth > 0 {
-            return seat.enter_again().map_err(|_| TryFault::Deep);
+            return seat.enter_nested().map_err(|_| TryFault::Deep);
         }
         if self.enter(seat) {
             Ok(())
@@ -174,7 +174,7 @@ impl<V: Kept> LockPair<V> {
             (seat.new ≡ record seat.old { task_depth = seat.old.task_depth + 1 }) }
     {
         if seat.task_depth > 0 {
-            return seat.enter_task_again();
+            return seat.enter_task_nested();
         }
         for _ in rt.forever() {
             if self.enter_task(seat) {

@@ -82,7 +82,7 @@ impl<V: Kept> Seat<V> {
     }
 
     // The interrupt word once more, of the seat that owns it.
-    pub(crate) fn enter_again(&mut self) -> Result<(), Deep>
+    pub(crate) fn enter_nested(&mut self) -> Result<(), Deep>
         requires inside { 0 < self.old.interrupt_depth }
         ensures deep { IsErr result ↔ (self.old.interrupt_depth ≡ 255) }
         ensures unchanged { OnErr result (self.new ≡ self.old) }
@@ -97,7 +97,7 @@ impl<V: Kept> Seat<V> {
     }
 
     // The task word once more, of the seat that owns it.
-    pub(crate) fn enter_task_again(&mut self) -> Result<(), Deep>
+    pub(crate) fn enter_task_nested(&mut self) -> Result<(), Deep>
         requires inside { 0 < self.old.task_depth }
         ensures deep { IsErr result ↔ (self.old.task_depth ≡ 255) }
         ensures unchanged { OnErr result (self.new ≡ self.old) }

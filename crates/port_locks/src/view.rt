@@ -33,7 +33,7 @@ pub struct View {
     pub seen: LinkedList<Entry>,
     /// The seat's own entries.
     pub made: LinkedList<Entry>,
-    pub told: LinkedList<Handover>,
+    pub heard: LinkedList<Handover>,
 }
 
 /// What a table is told when it is made: the first value, and the number of cores.

@@ -1,5 +1,6 @@
 -- What was read and written when a program ends.
-use Rattle.std.proofs.Common.{◌≡◌, ◌≢◌, ℕ, ◌+◌, List, [], Bool, true, Bor, Option, Some, None, Result, Ok, Err, IfOk, Vec, map, option_map, string_bytes, refl, sym, ap, subst, ◌∙◌, arith}
+use Rattle.std.proofs.Common.{◌≡◌, ◌≢◌, ℕ, ◌+◌, List, [], Bool, true, Bor, Option, Some, None, Result, Ok, Err, IfOk, Vec, map, option_map, string_bytes, refl}
+use Rattle.std.proofs.Common.{sym, ap, subst, ◌∙◌, arith}
 use Rattle.std.specs.Prelude.{String}
 use Rattle.std.specs.declared.alloc.Global.{Global}
 use Rattle.std.specs.IoError.{error_kind}
@@ -12,37 +13,47 @@ use Rattle.program_io.specs.declared.input.InputFault.{InputFault}
 use Rattle.program_io.specs.declared.input.InputFault.TheVariants as input
 use Rattle.program_io.specs.declared.output.OutputStatus.TheVariants.{Fine, Failed as Refused, Unknown}
 use Rattle.program_io.specs.Device.{DeviceState, failures_after, ReadsInput, ReadsSome, reads_on}
-use Rattle.program_io.specs.Endings.{Account, all_reads_well, all_writes_well, AreGiven, Bytes, Ends, EndsBad, EndsHelp, EndsOver, EndsTelling, EndsWith, EndsWriting, Shows, gone_as_fault, unread, Words}
-use Rattle.program_io.specs.Outputs.{Told}
+use Rattle.program_io.specs.Endings.{Account, all_reads_well, all_writes_well, AreGiven, Bytes, Ends, EndsBad, EndsHelp, EndsOver, EndsTelling, EndsWith}
+use Rattle.program_io.specs.Endings.{EndsWriting, Shows, gone_as_fault, unread, Words}
+use Rattle.program_io.specs.Outputs.{Printed}
 
 -- ---- what a command tells
 
-module _ (Promises : List ℕ → Told → Type 0) (read_old read_new write_old write_new : Bytes) where
+module _ (Promises : List ℕ → Printed → Type 0) (read_old read_new write_old write_new : Bytes) where
   -- what it promises was told, or memory was refused for it
-  pub told_ended : {E : Type 0} (input : List ℕ) (result : Result Told E) (ending : Ending) → ReadsInput read_old read_new input → IfOk result (Promises input) → EndsWriting result ending write_old write_new
+  pub printed_ended : {E : Type 0} (input : List ℕ) (result : Result Printed E) (ending : Ending) → ReadsInput read_old read_new input → IfOk result
+      (Promises input) → EndsWriting result ending write_old write_new
       → EndsTelling Promises ending read_old read_new write_old write_new
-  told_ended input (Ok told) (Written status note) reads promised wrote = record { input = input; reads = reads; told = told; promised = promised; is_status = wrote.0; is_note = wrote.1; writes = wrote.2 }
-  told_ended input (Ok told) Gone reads promised wrote = record { input = input; reads = reads; told = told; promised = promised; writes = wrote }
-  told_ended input (Ok told) (Failed Write) reads promised wrote = record { input = input; reads = reads; told = told; promised = promised; writes = wrote }
-  told_ended input (Ok told) (Failed Memory) reads promised wrote = absurd wrote
-  told_ended input (Ok told) (Failed Read) reads promised wrote = absurd wrote
-  told_ended input (Ok told) (BadCommandLine text) reads promised wrote = absurd wrote
-  told_ended input (Ok told) (NotOpened line) reads promised wrote = absurd wrote
-  told_ended input (Err e) (Failed Memory) reads promised wrote = record { reads = record { bytes = input; consumes = reads.consumes; within = reads.within }; writes = wrote }
-  told_ended input (Err e) (Failed Read) reads promised wrote = absurd wrote
-  told_ended input (Err e) (Failed Write) reads promised wrote = absurd wrote
-  told_ended input (Err e) (Written status note) reads promised wrote = absurd wrote
-  told_ended input (Err e) Gone reads promised wrote = absurd wrote
-  told_ended input (Err e) (BadCommandLine text) reads promised wrote = absurd wrote
-  told_ended input (Err e) (NotOpened line) reads promised wrote = absurd wrote
+  printed_ended input (Ok printed) (Written status note) reads promised wrote =
+      record { input = input; reads = reads; printed = printed; promised = promised; is_status = wrote.0; is_note = wrote.1; writes = wrote.2 }
+  printed_ended input (Ok printed) Gone reads promised wrote = record { input = input; reads = reads; printed = printed; promised = promised; writes = wrote }
+  printed_ended input (Ok printed) (Failed Write) reads promised wrote =
+      record { input = input; reads = reads; printed = printed; promised = promised; writes = wrote }
+  printed_ended input (Ok printed) (Failed Memory) reads promised wrote = absurd wrote
+  printed_ended input (Ok printed) (Failed Read) reads promised wrote = absurd wrote
+  printed_ended input (Ok printed) (BadCommandLine text) reads promised wrote = absurd wrote
+  printed_ended input (Ok printed) (NotOpened line) reads promised wrote = absurd wrote
+  printed_ended input (Err e) (Failed Memory) reads promised wrote = record {
+    reads =
+        record { bytes = input; consumes = reads.consumes; within = reads.within };
+    writes = wrote;
+  }
+  printed_ended input (Err e) (Failed Read) reads promised wrote = absurd wrote
+  printed_ended input (Err e) (Failed Write) reads promised wrote = absurd wrote
+  printed_ended input (Err e) (Written status note) reads promised wrote = absurd wrote
+  printed_ended input (Err e) Gone reads promised wrote = absurd wrote
+  printed_ended input (Err e) (BadCommandLine text) reads promised wrote = absurd wrote
+  printed_ended input (Err e) (NotOpened line) reads promised wrote = absurd wrote
 
   -- the input was not read
-  pub unread_ended : (fault : InputFault) → ReadsSome read_old read_new (max_input + 1) → write_new ≡ write_old → EndsTelling Promises (unread fault) read_old read_new write_old write_new
+  pub unread_ended : (fault : InputFault) → ReadsSome read_old read_new (max_input + 1) → write_new ≡ write_old → EndsTelling Promises (unread fault) read_old
+      read_new write_old write_new
   unread_ended input.Memory reads same = record { reads = reads; writes = same }
   unread_ended input.Read reads same = record { reads = reads; writes = same }
 
   -- where the reader of the output has gone, some first bytes of it were written
-  pub gone_telling : (ending : Ending) → EndsTelling Promises ending read_old read_new write_old write_new → EndsTelling Promises (gone_as_fault ending) read_old read_new write_old write_new
+  pub gone_telling : (ending : Ending) → EndsTelling Promises ending read_old read_new write_old write_new → EndsTelling Promises (gone_as_fault ending)
+      read_old read_new write_old write_new
   gone_telling (Written status note) ended = ended
   gone_telling (BadCommandLine text) ended = ended
   gone_telling (NotOpened line) ended = ended
@@ -50,26 +61,53 @@ module _ (Promises : List ℕ → Told → Type 0) (read_old read_new write_old 
   gone_telling (Failed fault) ended = ended
 
 -- where it promises more, it promises this
-pub promises_less : (P Q : List ℕ → Told → Type 0) (ending : Ending) (read_old read_new write_old write_new : Bytes) → ((input : List ℕ) (told : Told) → P input told → Q input told) → EndsTelling P ending read_old read_new write_old write_new → EndsTelling Q ending read_old read_new write_old write_new
-promises_less P Q (Written status note) read_old read_new write_old write_new less all = record { input = all.input; reads = all.reads; told = all.told; promised = less all.input all.told all.promised; is_status = all.is_status; is_note = all.is_note; writes = all.writes }
+pub promises_less : (P Q : List ℕ → Printed → Type 0) (ending : Ending) (read_old read_new write_old write_new : Bytes) →
+    ((input : List ℕ) (printed : Printed) → P input printed → Q input printed) → EndsTelling P ending read_old read_new write_old write_new → EndsTelling Q
+    ending read_old read_new write_old write_new
+promises_less P Q (Written status note) read_old read_new write_old write_new less all =
+    record {
+      input = all.input;
+      reads = all.reads;
+      printed = all.printed;
+      promised = less all.input all.printed all.promised;
+      is_status = all.is_status;
+      is_note
+          = all.is_note;
+      writes = all.writes;
+    }
 promises_less P Q (BadCommandLine text) read_old read_new write_old write_new less ended = absurd ended
 promises_less P Q (NotOpened line) read_old read_new write_old write_new less ended = absurd ended
-promises_less P Q Gone read_old read_new write_old write_new less first = record { input = first.input; reads = first.reads; told = first.told; promised = less first.input first.told first.promised; writes = first.writes }
+promises_less P Q Gone read_old read_new write_old write_new less first =
+    record {
+      input = first.input;
+      reads = first.reads;
+      printed = first.printed;
+      promised = less first.input first.printed first.promised;
+      writes = first.writes;
+    }
 promises_less P Q (Failed Memory) read_old read_new write_old write_new less nothing = nothing
 promises_less P Q (Failed Read) read_old read_new write_old write_new less nothing = nothing
-promises_less P Q (Failed Write) read_old read_new write_old write_new less first = record { input = first.input; reads = first.reads; told = first.told; promised = less first.input first.told first.promised; writes = first.writes }
+promises_less P Q (Failed Write) read_old read_new write_old write_new less first =
+    record {
+      input = first.input;
+      reads = first.reads;
+      printed = first.printed;
+      promised = less first.input first.printed first.promised;
+      writes = first.writes;
+    }
 
 none_read : (bytes : Bytes) → ReadsSome bytes bytes (max_input + 1)
 none_read None = record { bytes = []; consumes = tt; within = omega arith }
 none_read (Some bytes) = record { bytes = []; consumes = refl; within = omega arith }
 
 -- memory was refused before anything was read
-pub nothing_told : (Promises : List ℕ → Told → Type 0) (read write : Bytes) → EndsTelling Promises (Failed Memory) read read write write
-nothing_told Promises read write = record { reads = none_read read; writes = refl }
+pub nothing_printed : (Promises : List ℕ → Printed → Type 0) (read write : Bytes) → EndsTelling Promises (Failed Memory) read read write write
+nothing_printed Promises read write = record { reads = none_read read; writes = refl }
 
 -- ---- help
 
-pub help_ended : (text : List ℕ) (ending : Ending) (read write_old write_new : Bytes) → Shows text ending write_old write_new → EndsHelp ending read read write_old write_new
+pub help_ended : (text : List ℕ) (ending : Ending) (read write_old write_new : Bytes) → Shows text ending write_old write_new → EndsHelp ending read read
+    write_old write_new
 help_ended text (Written Fine note) read write_old write_new shows = (refl, (text, shows))
 help_ended text (Written Refused note) read write_old write_new shows = absurd shows
 help_ended text (Written Unknown note) read write_old write_new shows = absurd shows
@@ -82,14 +120,16 @@ help_ended text (Failed Write) read write_old write_new shows = (refl, (text, sh
 
 -- ---- a write that failed, in place of a reader that has gone
 
-pub gone_help : (ending : Ending) (read_old read_new write_old write_new : Bytes) → EndsHelp ending read_old read_new write_old write_new → EndsHelp (gone_as_fault ending) read_old read_new write_old write_new
+pub gone_help : (ending : Ending) (read_old read_new write_old write_new : Bytes) → EndsHelp ending read_old read_new write_old write_new → EndsHelp
+    (gone_as_fault ending) read_old read_new write_old write_new
 gone_help (Written status note) read_old read_new write_old write_new ended = ended
 gone_help (BadCommandLine text) read_old read_new write_old write_new ended = ended
 gone_help (NotOpened line) read_old read_new write_old write_new ended = ended
 gone_help Gone read_old read_new write_old write_new ended = ended
 gone_help (Failed fault) read_old read_new write_old write_new ended = ended
 
-pub gone_bad : (ending : Ending) (read_old read_new write_old write_new : Bytes) → EndsBad ending read_old read_new write_old write_new → EndsBad (gone_as_fault ending) read_old read_new write_old write_new
+pub gone_bad : (ending : Ending) (read_old read_new write_old write_new : Bytes) → EndsBad ending read_old read_new write_old write_new → EndsBad
+    (gone_as_fault ending) read_old read_new write_old write_new
 gone_bad (Written status note) read_old read_new write_old write_new ended = ended
 gone_bad (BadCommandLine text) read_old read_new write_old write_new ended = ended
 gone_bad (NotOpened line) read_old read_new write_old write_new ended = ended
@@ -135,19 +175,26 @@ unread_writes input.Read = refl
 
 module _ (ends : Ends) (words : Words) (read_old read_new write_old write_new : Bytes) where
   -- by the words that it was given
-  pub words_ended : (given : Option (List (List ℕ))) (ending : Ending) → AreGiven words given → ends given ending read_old read_new write_old write_new → EndsWith ends words ending read_old read_new write_old write_new
+  pub words_ended : (given : Option (List (List ℕ))) (ending : Ending) → AreGiven words given → ends given ending read_old read_new write_old write_new →
+      EndsWith ends words ending read_old read_new write_old write_new
   words_ended given ending are ended = go words are
     where
       go : (words : Words) → AreGiven words given → EndsWith ends words ending read_old read_new write_old write_new
       go (Ok handed) is = subst (λ (given : Option (List (List ℕ))). ends given ending read_old read_new write_old write_new) is ended
-      go (Err error) is = (λ same. subst (λ (given : Option (List (List ℕ))). ends given ending read_old read_new write_old write_new) is.1 ended, λ other. absurd (other is.0))
+      go (Err error) is = (
+        λ same. subst (λ (given : Option (List (List ℕ))). ends given ending read_old read_new write_old write_new) is.1 ended,
+        λ other.
+            absurd (other is.0),
+      )
 
 -- the words that it was given are those that are lent of them
-are_lent : (words : Words) (lent : Option (Bor (List (String Global)))) (given : Option (Vec (String Global) Global)) → option_map (λ all. all.now) lent ≡ option_map (λ all. all.items) given
+are_lent : (words : Words) (lent : Option (Bor (List (String Global)))) (given : Option (Vec (String Global) Global)) → option_map (λ all. all.now) lent ≡
+    option_map (λ all. all.items) given
     → AreGiven words (option_map (λ all. map string_bytes all.items) given) → AreGiven words (option_map (λ all. map string_bytes all.now) lent)
 are_lent words lent given is are = subst (AreGiven words) (go lent given (sym is)) are
   where
-    go : (lent : Option (Bor (List (String Global)))) (given : Option (Vec (String Global) Global)) → option_map (λ all. all.items) given ≡ option_map (λ all. all.now) lent
+    go : (lent : Option (Bor (List (String Global)))) (given : Option (Vec (String Global) Global)) → option_map (λ all. all.items) given ≡ option_map
+        (λ all. all.now) lent
         → option_map (λ all. map string_bytes all.items) given ≡ option_map (λ all. map string_bytes all.now) lent
     go None None is = refl
     go None (Some all) is = ap (option_map (map string_bytes)) is
@@ -155,7 +202,8 @@ are_lent words lent given is are = subst (AreGiven words) (go lent given (sym is
     go (Some lent) (Some all) is = ap (option_map (map string_bytes)) is
 
 -- memory was refused before they were known
-pub words_refused : (ends : Ends) (words : Words) (read write : Bytes) → ((given : Option (List (List ℕ))) → ends given (Failed Memory) read read write write) → EndsWith ends words (Failed Memory) read read write write
+pub words_refused : (ends : Ends) (words : Words) (read write : Bytes) → ((given : Option (List (List ℕ))) → ends given (Failed Memory) read read write write) →
+    EndsWith ends words (Failed Memory) read read write write
 words_refused ends (Ok handed) read write law = law (Some (map string_bytes _))
 words_refused ends (Err error) read write law = (λ same. law None, λ other. (refl, (refl, refl)))
 
@@ -163,12 +211,14 @@ words_refused ends (Err error) read write law = (λ same. law None, λ other. (r
 
 module _ (read_old read_new write_old write_new : DeviceState) where
   -- another account of the same end
-  pub over_also : (account also : Account) (ending : Ending) → (account ending read_old.bytes read_new.bytes write_old.bytes write_new.bytes → also ending read_old.bytes read_new.bytes write_old.bytes write_new.bytes)
+  pub over_also : (account also : Account) (ending : Ending) → (account ending read_old.bytes read_new.bytes write_old.bytes write_new.bytes → also ending
+      read_old.bytes read_new.bytes write_old.bytes write_new.bytes)
       → EndsOver account ending read_old read_new write_old write_new → EndsOver also ending read_old read_new write_old write_new
   over_also account also ending so over = record { bytes = so over.bytes; reads = over.reads; writes = over.writes }
 
   -- where the reader of the output has gone, it is a write that failed
-  pub gone_over : (account also : Account) (ending : Ending) → (account ending read_old.bytes read_new.bytes write_old.bytes write_new.bytes → also (gone_as_fault ending) read_old.bytes read_new.bytes write_old.bytes write_new.bytes)
+  pub gone_over : (account also : Account) (ending : Ending) → (account ending read_old.bytes read_new.bytes write_old.bytes write_new.bytes → also
+      (gone_as_fault ending) read_old.bytes read_new.bytes write_old.bytes write_new.bytes)
       → EndsOver account ending read_old read_new write_old write_new → EndsOver also (gone_as_fault ending) read_old read_new write_old write_new
   gone_over account also ending so over = record {
     bytes = so over.bytes;
@@ -177,19 +227,24 @@ module _ (read_old read_new write_old write_new : DeviceState) where
   }
 
   -- it is told by the words of the process, which are those that are lent of them
-  pub words_over : (ends : Ends) (words : Words) (lent : Option (Bor (List (String Global)))) (given : Option (Vec (String Global) Global)) (ending : Ending) → option_map (λ all. all.now) lent ≡ option_map (λ all. all.items) given
-      → AreGiven words (option_map (λ all. map string_bytes all.items) given) → EndsOver (ends (option_map (λ all. map string_bytes all.now) lent)) ending read_old read_new write_old write_new
+  pub words_over : (ends : Ends) (words : Words) (lent : Option (Bor (List (String Global)))) (given : Option (Vec (String Global) Global)) (ending : Ending) →
+      option_map (λ all. all.now) lent ≡ option_map (λ all. all.items) given
+      → AreGiven words (option_map (λ all. map string_bytes all.items) given) → EndsOver (ends (option_map (λ all. map string_bytes all.now) lent)) ending
+      read_old read_new write_old write_new
       → EndsOver (EndsWith ends words) ending read_old read_new write_old write_new
   words_over ends words lent given ending same are over =
-      let told = option_map (λ all. map string_bytes all.now) lent in
-      over_also (ends told) (EndsWith ends words) ending (words_ended ends words read_old.bytes read_new.bytes write_old.bytes write_new.bytes told ending (are_lent words lent given same are)) over
+      let printed = option_map (λ all. map string_bytes all.now) lent in
+      over_also (ends printed) (EndsWith ends words) ending (words_ended ends words read_old.bytes read_new.bytes write_old.bytes write_new.bytes printed ending
+      (are_lent words lent given same are)) over
 
 -- memory was refused before anything was read or written
-pub refused_over : (account : Account) (read write : DeviceState) → account (Failed Memory) read.bytes read.bytes write.bytes write.bytes → EndsOver account (Failed Memory) read read write write
+pub refused_over : (account : Account) (read write : DeviceState) → account (Failed Memory) read.bytes read.bytes write.bytes write.bytes → EndsOver account
+    (Failed Memory) read read write write
 refused_over account read write so = record { bytes = so; reads = refl; writes = refl }
 
 -- a text was shown
-pub shown_over : (text : List ℕ) (ending : Ending) (read write_old write_new : DeviceState) → Shows text ending write_old.bytes write_new.bytes → all_reads_well ending ≡ true → write_new.failures ≡ failures_after (all_writes_well ending) write_old.failures
+pub shown_over : (text : List ℕ) (ending : Ending) (read write_old write_new : DeviceState) → Shows text ending write_old.bytes write_new.bytes → all_reads_well
+    ending ≡ true → write_new.failures ≡ failures_after (all_writes_well ending) write_old.failures
     → EndsOver EndsHelp ending read read write_old write_new
 shown_over text ending read write_old write_new shows reads writes = record {
   bytes = help_ended text ending read.bytes write_old.bytes write_new.bytes shows;

@@ -11,7 +11,8 @@ consumes_append (Some xa) (Some xb) None xs ys first then = absurd then
 consumes_append (Some xa) (Some xb) (Some xc) xs ys first then = first ∙ ap (λ rest. xs ++ rest) then ∙ sym (append_assoc xs ys xc)
 
 -- what was read, and then some more
-pub reads_more : (a b c : Option (List ℕ)) (xs : List ℕ) (most limit : ℕ) → Consumes a b xs → ReadsSome b c most → length xs + most ≤ limit → ReadsSome a c limit
+pub reads_more : (a b c : Option (List ℕ)) (xs : List ℕ) (most limit : ℕ) → Consumes a b xs → ReadsSome b c most → length xs + most ≤ limit → ReadsSome a c
+    limit
 reads_more a b c xs most limit first more room = record {
   bytes = xs ++ more.bytes;
   consumes = consumes_append a b c xs more.bytes first more.consumes;

@@ -1,5 +1,6 @@
 -- What was written so far, to bytes that are known or not.
-use Rattle.std.proofs.Common.{◌≡◌, ◌≢◌, ◌≤◌, ℕ, zero, suc, ◌+◌, ◌-◌, List, ◌++◌, take, drop, length, Option, Some, None, Result, Ok, Err, refl, sym, ap, ◌∙◌, append_assoc, subst, arith}
+use Rattle.std.proofs.Common.{◌≡◌, ◌≢◌, ◌≤◌, ℕ, zero, suc, ◌+◌, ◌-◌, List, ◌++◌, take, drop, length, Option, Some, None, Result, Ok, Err, refl, sym, ap, ◌∙◌}
+use Rattle.std.proofs.Common.{append_assoc, subst, arith}
 use Rattle.std.proofs.Math.Seq.{take-add}
 use Rattle.std.proofs.lemmas.List.{take_all, length-drop}
 use Rattle.std.specs.Io.KnownBytes.{Appends}
@@ -17,8 +18,11 @@ pub take_rest : (n : ℕ) (text : List ℕ) → take (length text - n) (drop n t
 take_rest n text = take_all (length text - n) (drop n text) (omega (arith, length-drop n text))
 
 -- a text is written piece by piece
-pub appends_piece : (a b c : Option (List ℕ)) (n m : ℕ) (text : List ℕ) → Appends a b (take n text) → Appends b c (take m (take (length text - n) (drop n text))) → Appends a c (take (n + m) text)
-appends_piece a b c n m text first then = subst (λ bytes. Appends a c bytes) (ap (λ rest. take n text ++ take m rest) (take_rest n text) ∙ sym (take-add n m text)) (appends_append a b c (take n text) (take m (take (length text - n) (drop n text))) first then)
+pub appends_piece : (a b c : Option (List ℕ)) (n m : ℕ) (text : List ℕ) → Appends a b (take n text) → Appends b c
+    (take m (take (length text - n) (drop n text))) → Appends a c (take (n + m) text)
+appends_piece a b c n m text first then = subst (λ bytes. Appends a c bytes)
+    (ap (λ rest. take n text ++ take m rest) (take_rest n text) ∙ sym (take-add n m text))
+    (appends_append a b c (take n text) (take m (take (length text - n) (drop n text))) first then)
 
 -- the count of a good result
 abbrev is_count : {E : Type 0} → ℕ → Result ℕ E → ℕ
@@ -26,7 +30,8 @@ is_count other (Ok n) = n
 is_count other (Err fault) = other
 
 -- a write that took a byte did not fail
-pub none_counted : {E : Type 0} (result : Result ℕ E) (count failures : ℕ) → result ≡ Ok count → count ≢ 0 → failures_after (took_some result) failures ≡ failures
+pub none_counted : {E : Type 0} (result : Result ℕ E) (count failures : ℕ) → result ≡ Ok count → count ≢ 0 → failures_after (took_some result) failures ≡
+    failures
 none_counted (Ok zero) count failures took some = absurd (some (ap (λ r. is_count 0 r) (sym took)))
 none_counted (Ok (suc n)) count failures took some = refl
 none_counted (Err fault) count failures took some = absurd (some (ap (λ r. is_count 0 r) (sym took)))

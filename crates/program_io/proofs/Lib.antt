@@ -1,6 +1,6 @@
 pub mod Ended
 mod KnownInput
 mod KnownOutput
-mod PlacesFound
+mod LocationsFound
 mod Prompted
-pub mod Told
+pub mod Printed

@@ -1,5 +1,6 @@
 -- What is known of reads and writes that are counted.
-use Rattle.std.specs.Prelude.{◌≡◌, ◌⊎◌, ℕ, zero, suc, ◌+◌, ◌-◌, ◌≤◌, ◌^◌, min, List, ◌++◌, length, take, Option, Bool, true, false, Result, Ok, Err, if◌then◌else◌}
+use Rattle.std.specs.Prelude.{◌≡◌, ◌⊎◌, ℕ, zero, suc, ◌+◌, ◌-◌, ◌≤◌, ◌^◌, min, List, ◌++◌, length, take, Option, Bool, true, false, Result, Ok, Err}
+use Rattle.std.specs.Prelude.{if◌then◌else◌}
 use Rattle.std.specs.Io.KnownBytes.{Appends, Consumes, IsAtEnd}
 use Rattle.std.specs.declared.io.ErrorKind.{ErrorKind}
 use Rattle.std.specs.declared.io.ErrorKind.TheVariants as kind
@@ -75,6 +76,6 @@ Tells false old new text = AppendsPrefix old new text
 
 -- the same of a device, whose failures are counted
 pub record WritesText (text : List ℕ) (old new : DeviceState) : Type 0 where
-  pub told : Bool
-  pub tells : Tells told old.bytes new.bytes text
-  pub failures : new.failures ≡ failures_after told old.failures
+  pub printed : Bool
+  pub tells : Tells printed old.bytes new.bytes text
+  pub failures : new.failures ≡ failures_after printed old.failures

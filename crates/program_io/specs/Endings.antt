@@ -20,7 +20,7 @@ use Rattle.program_io.specs.declared.output.OutputStatus.TheVariants.{Fine}
 use Rattle.program_io.specs.declared.writing.WriteFault.{WriteFault}
 use Rattle.program_io.specs.declared.writing.WriteFault.TheVariants as write
 use Rattle.program_io.specs.Device.{AppendsPrefix, DeviceState, ReadsInput, ReadsSome, WritesText, failures_after}
-use Rattle.program_io.specs.Outputs.{Told, status_code}
+use Rattle.program_io.specs.Outputs.{Printed, status_code}
 
 -- ---- the end of a program
 
@@ -104,11 +104,11 @@ abbrev pub Untouched : Bytes → Bytes → Bytes → Bytes → Type 0
 Untouched read_old read_new write_old write_new = (read_new ≡ read_old) × (write_new ≡ write_old)
 
 -- by how a program ends that has something to tell, or was refused memory for it, what it wrote
-abbrev pub EndsWriting : {E : Type 0} → Result Told E → Ending → Bytes → Bytes → Type 0
-EndsWriting (Ok told) (Written status note) old new =
-    (told.status ≡ status) × (told.note ≡ note.items) × Appends old new told.text
-EndsWriting (Ok told) Gone old new = AppendsPrefix old new told.text
-EndsWriting (Ok told) (Failed Write) old new = AppendsPrefix old new told.text
+abbrev pub EndsWriting : {E : Type 0} → Result Printed E → Ending → Bytes → Bytes → Type 0
+EndsWriting (Ok printed) (Written status note) old new =
+    (printed.status ≡ status) × (printed.note ≡ note.items) × Appends old new printed.text
+EndsWriting (Ok printed) Gone old new = AppendsPrefix old new printed.text
+EndsWriting (Ok printed) (Failed Write) old new = AppendsPrefix old new printed.text
 EndsWriting (Err e) (Failed Memory) old new = new ≡ old
 EndsWriting _ _ old new = ⊥
 
@@ -118,28 +118,28 @@ pub record WroteNothing (read_old read_new write_old write_new : Bytes) : Type 0
   pub writes : write_new ≡ write_old
 
 -- the input was read, all that a command promises of it written, and the note is left
-pub record WroteAll (Promises : List ℕ → Told → Type 0)
+pub record WroteAll (Promises : List ℕ → Printed → Type 0)
     (read_old read_new write_old write_new : Bytes) (status : OutputStatus) (note : List ℕ)
     : Type 0 where
   pub input : List ℕ
   pub reads : ReadsInput read_old read_new input
-  pub told : Told
-  pub promised : Promises input told
-  pub is_status : told.status ≡ status
-  pub is_note : told.note ≡ note
-  pub writes : Appends write_old write_new told.text
+  pub printed : Printed
+  pub promised : Promises input printed
+  pub is_status : printed.status ≡ status
+  pub is_note : printed.note ≡ note
+  pub writes : Appends write_old write_new printed.text
 
 -- the input was read, and some first bytes of what a command promises of it written
-pub record WroteFirst (Promises : List ℕ → Told → Type 0)
+pub record WroteFirst (Promises : List ℕ → Printed → Type 0)
     (read_old read_new write_old write_new : Bytes) : Type 0 where
   pub input : List ℕ
   pub reads : ReadsInput read_old read_new input
-  pub told : Told
-  pub promised : Promises input told
-  pub writes : AppendsPrefix write_old write_new told.text
+  pub printed : Printed
+  pub promised : Promises input printed
+  pub writes : AppendsPrefix write_old write_new printed.text
 
 -- by how a command ends, what was read and written, where it promises this of an input
-abbrev pub EndsTelling : (List ℕ → Told → Type 0) → Account
+abbrev pub EndsTelling : (List ℕ → Printed → Type 0) → Account
 EndsTelling Promises (Written status note) read_old read_new write_old write_new =
     WroteAll Promises read_old read_new write_old write_new status note.items
 EndsTelling Promises Gone read_old read_new write_old write_new =

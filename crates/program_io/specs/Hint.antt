@@ -1,5 +1,6 @@
 -- What people are told of a refused input: a line on standard error, beside the refusal line.
-use Rattle.std.specs.Prelude.{◌≡◌, ◌==◌, ◌-◌, if◌then◌else◌, ℕ, List, [], ◌∷◌, ◌++◌, length, nat_eq, nat_lt, codes, decimal, Bool, true, false, Option, Some, None, Result, Ok, Err}
+use Rattle.std.specs.Prelude.{◌≡◌, ◌==◌, ◌-◌, if◌then◌else◌, ℕ, List, [], ◌∷◌, ◌++◌, length, nat_eq, nat_lt, codes, decimal, Bool, true, false, Option, Some}
+use Rattle.std.specs.Prelude.{None, Result, Ok, Err}
 use Rattle.std.specs.List.{starts_with}
 use Rattle.std.specs.Str.{is_utf8}
 use Rattle.serde_json.specs.Read.{read}
@@ -25,24 +26,24 @@ use Rattle.session_text.specs.declared.nearest.Stray.{Stray}
 use Rattle.session_text.specs.declared.rig.RigScript.{RigScript}
 use Rattle.session_text.specs.Bench.{bench_text}
 use Rattle.session_text.specs.Rig.{rig_text}
-use Rattle.program_io.specs.Placed.{fault_place, flaw_path, place_suffix}
+use Rattle.program_io.specs.Placed.{fault_location, flaw_path, location_suffix}
 
 -- ---- H1
 
--- some place is told, from which on the text is no JSON
-pub record TellsPlace (hint : List ℕ) : Type 0 where
+-- some location is told, from which on the text is no JSON
+pub record TellsLocation (hint : List ℕ) : Type 0 where
   pub line : ℕ
   pub column : ℕ
   pub text :
       hint
       ≡ codes "not JSON: line " ++ decimal line ++ codes ", column " ++ decimal column ++ codes "\n"
 
--- of a text, that place; of bytes that are none, that they are no UTF-8
+-- of a text, that location; of bytes that are none, that they are no UTF-8
 pub record IsShortTextHint (input hint : List ℕ) : Type 0 where
-  pub place : is_utf8 input ≡ true → read input ≡ None → TellsPlace hint
+  pub location : is_utf8 input ≡ true → read input ≡ None → TellsLocation hint
   pub bytes : is_utf8 input ≡ false → hint ≡ codes "not JSON: not UTF-8\n"
 
--- the most bytes that serde_json reads for that place; its tree takes up to 130 times as many
+-- the most bytes that serde_json reads for that location; its tree takes up to 130 times as many
 abbrev pub max_placed : ℕ
 max_placed = 8388608
 
@@ -101,17 +102,17 @@ flaw_text (Mask task cores) =
     task_limit_text task (codes ".mask has to have a bit below bit ") cores
 flaw_text (SharedName task) = task_text task (codes ".name is that of another task too")
 
--- with the place of the member at fault, where the session stands at a path
+-- with the location of the member at fault, where the session stands at a path
 abbrev pub header_line : List ℕ → List ℕ → HeaderFlaw → List ℕ
 header_line input session flaw =
-    flaw_text flaw ++ place_suffix (fault_place input (flaw_path session flaw)) ++ codes "\n"
+    flaw_text flaw ++ location_suffix (fault_location input (flaw_path session flaw)) ++ codes "\n"
 
 -- ---- faults that have a path
 
 -- a path, what is wrong there, and its place in the input
 abbrev pub line_at : List ℕ → List ℕ → List ℕ → List ℕ
 line_at input path meaning =
-    path ++ codes ": " ++ meaning ++ place_suffix (fault_place input path) ++ codes "\n"
+    path ++ codes ": " ++ meaning ++ location_suffix (fault_location input path) ++ codes "\n"
 
 -- ---- H2
 
@@ -221,7 +222,7 @@ abbrev pub nearest_name_text : Option (List ℕ) → List ℕ
 nearest_name_text None = []
 nearest_name_text (Some name) = codes "; the nearest name is " ++ quoted name
 
--- ---- what is wrong at a place
+-- ---- what is wrong at a location
 
 abbrev pub shape_text : Detail → List ℕ
 shape_text detail.None = codes "a member is missing, ill-typed or unknown"

@@ -3,18 +3,18 @@ use Rattle.std.specs.Prelude.{ℕ, List, [], ◌++◌, bytes_eq, codes, decimal,
 use Rattle.std.specs.Str.{is_utf8}
 use Rattle.bench_types.specs.declared.flaw.HeaderFlaw.{HeaderFlaw}
 use Rattle.bench_types.specs.declared.flaw.HeaderFlaw.TheVariants.{Cores, Priorities, Mutexes, Notes, TaskCount, NoName, Priority, Mask, SharedName}
-use Rattle.text_places.specs.declared.place.TextPlace.{TextPlace}
-use Rattle.text_places.specs.Leads.{place_of}
+use Rattle.text_locations.specs.declared.location.TextLocation.{TextLocation}
+use Rattle.text_locations.specs.Leads.{location_of}
 
--- where in the input a path leads; bytes that are no text have no place
-unfoldable pub fault_place : List ℕ → List ℕ → Option TextPlace
-fault_place input path = if is_utf8 input then place_of input path else None
+-- where in the input a path leads; bytes that are no text have no location
+unfoldable pub fault_location : List ℕ → List ℕ → Option TextLocation
+fault_location input path = if is_utf8 input then location_of input path else None
 
--- the place, if there is one, at the end of what is told
-abbrev pub place_suffix : Option TextPlace → List ℕ
-place_suffix None = []
-place_suffix (Some place) =
-    codes " (line " ++ decimal place.line ++ codes ", column " ++ decimal place.column ++ codes ")"
+-- the location, if there is one, at the end of what is told
+abbrev pub location_suffix : Option TextLocation → List ℕ
+location_suffix None = []
+location_suffix (Some location) =
+    codes " (line " ++ decimal location.line ++ codes ", column " ++ decimal location.column ++ codes ")"
 
 -- ---- F1 of the header
 

@@ -6,7 +6,7 @@ use Rattle.session_text.specs.declared.fault.Why.{Why}
 use Rattle.session_text.specs.declared.fault.Why.TheVariants.{NotJson, BadShape, NoMemory}
 use Rattle.session_text.specs.declared.fault.Why.TheVariants as why
 use Rattle.program_io.specs.Hint.{IsFaultHint}
-use Rattle.program_io.specs.Outputs.{Told}
+use Rattle.program_io.specs.Outputs.{Printed}
 
 -- a text after a space
 abbrev pub spaced : List ℕ → List ℕ
@@ -28,8 +28,8 @@ abbrev pub refusal_line : List ℕ → List ℕ → List ℕ
 refusal_line code path = codes "refused" ++ spaced code ++ path_text path ++ codes "\n"
 
 -- of a text that was not read its refusal line and what people are told, put together like this
-pub record IsToldFault (Puts : List ℕ → List ℕ → Told) (input : List ℕ) (fault : TextFault)
-    (told : Told) : Type 0 where
+pub record IsPrintedFault (Puts : List ℕ → List ℕ → Printed) (input : List ℕ) (fault : TextFault)
+    (printed : Printed) : Type 0 where
   pub hint : List ℕ
   pub is_hint : IsFaultHint input fault.why fault.path fault.detail hint
-  pub is_told : told ≡ Puts (refusal_line (why_text fault.why) fault.path) hint
+  pub is_printed : printed ≡ Puts (refusal_line (why_text fault.why) fault.path) hint

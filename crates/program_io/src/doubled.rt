@@ -7,7 +7,7 @@ ghost use Rattle.program_io.specs.Twice.{twice_note, warned};
 use crate::output::{Output, OutputStatus};
 use session_text::DoubledMember;
 use std::alloc::{AllocError, Global};
-use text_places::{doubled_line, place_of_token};
+use text_locations::{doubled_line, location_of_token};
 
 /// The line that a member of the document stands twice, or nothing where none does. It is given the
 /// document's first one.
@@ -22,27 +22,27 @@ pub fn twice_note(
 {
     match doubled {
         Some(member) => {
-            let place = place_of_token(document, member.token);
-            doubled_line(alloc, member.name.as_str(), place)
+            let location = location_of_token(document, member.token);
+            doubled_line(alloc, member.name.as_str(), location)
         }
         None => Ok(String::new(alloc)),
     }
 }
 
 /// The same is told, and these lines before its note, unless it is a refusal.
-pub fn warned(told: Output, lines: String) -> Result<Output, AllocError>
-    ensures { IfOk result (λ output. output ≡ warned (string_bytes lines) told) }
+pub fn warned(printed: Output, lines: String) -> Result<Output, AllocError>
+    ensures { IfOk result (λ output. output ≡ warned (string_bytes lines) printed) }
 {
-    match told.status {
+    match printed.status {
         OutputStatus::Fine => {
             let mut note = lines.into_bytes();
-            note.extend_from_slice(told.note.as_slice())?;
+            note.extend_from_slice(printed.note.as_slice())?;
             Ok(Output {
                 status: OutputStatus::Fine,
-                text: told.text,
+                text: printed.text,
                 note,
             })
         }
-        OutputStatus::Failed | OutputStatus::Unknown => Ok(told),
+        OutputStatus::Failed | OutputStatus::Unknown => Ok(printed),
     }
 }

@@ -4,9 +4,9 @@ ghost use Rattle.serde_json.specs.Read.{read};
 ghost use Rattle.bench_types.specs.declared.step_flaw.StepFlaw.TheVariants.{NewPriority};
 ghost use Rattle.session_text.specs.declared.detail.Detail.TheVariants.{Limit, NoTask, OnePerCore};
 ghost use Rattle.session_text.specs.declared.fault.Why.TheVariants.{NoMemory};
-ghost use Rattle.program_io.specs.Hint.{header_line, IsFaultHint, IsNotJsonHint, IsShortTextHint, TellsPlace, expected_text, fault_line, flaw_text, found_text, limits_text, line_at, mask_text, member_text, mutex_text, nearest_name_text, nearest_text, no_name_text, no_word_text, none_of_text, number_text, quoted, shape_text, step_flaw_text, task_limit_text, task_text, too_long_line, too_many_steps_line, unknown_text, whole_text, word_text, words_text, wrong_text};
+ghost use Rattle.program_io.specs.Hint.{header_line, IsFaultHint, IsNotJsonHint, IsShortTextHint, TellsLocation, expected_text, fault_line, flaw_text, found_text, limits_text, line_at, mask_text, member_text, mutex_text, nearest_name_text, nearest_text, no_name_text, no_word_text, none_of_text, number_text, quoted, shape_text, step_flaw_text, task_limit_text, task_text, too_long_line, too_many_steps_line, unknown_text, whole_text, word_text, words_text, wrong_text};
 
-use crate::placed::{fault_place, flaw_path, push_place};
+use crate::placed::{fault_location, flaw_path, push_location};
 use bench_types::{
     HeaderFlaw, MAX_CORES, MAX_INPUT, MAX_MUTEXES, MAX_NOTES, MAX_PRIORITIES, MAX_STEPS, MAX_TASKS,
     MIN_CORES, StepFlaw,
@@ -15,12 +15,12 @@ use serde_json::{Error, Value};
 use session_text::{Detail, Expected, Found, Shown, Stray, TextFault, Why, Words};
 use std::alloc::{AllocError, Global};
 
-/// The most bytes that serde_json reads for the place of what is no JSON: its tree of them takes up
-/// to 130 times as many.
+/// The most bytes that serde_json reads for the location of what is no JSON: its tree of them takes
+/// up to 130 times as many.
 const MAX_PLACED: usize = 8_388_608;
 
-fn place_hint(alloc: Global, error: &Error) -> Result<String, AllocError>
-    ensures { IfOk result (λ hint. TellsPlace (string_bytes hint)) }
+fn location_hint(alloc: Global, error: &Error) -> Result<String, AllocError>
+    ensures { IfOk result (λ hint. TellsLocation (string_bytes hint)) }
 {
     let line = error.line();
     let column = error.column();
@@ -29,9 +29,9 @@ fn place_hint(alloc: Global, error: &Error) -> Result<String, AllocError>
     Ok(hint)
 }
 
-// The line of a text that serde_json doesn't read: it is read again for the place.
+// The line of a text that serde_json doesn't read: it is read again for the location.
 fn no_value_hint(alloc: Global, text: &str) -> Result<String, AllocError>
-    ensures { IfOk result (λ hint. read text.now ≡ None → TellsPlace (string_bytes hint)) }
+    ensures { IfOk result (λ hint. read text.now ≡ None → TellsLocation (string_bytes hint)) }
 {
     match Value::from_str(alloc, text) {
         Ok(_) => Ok(String::new(alloc)),
@@ -39,7 +39,7 @@ fn no_value_hint(alloc: Global, text: &str) -> Result<String, AllocError>
             if error.is_memory() {
                 return Err(AllocError);
             }
-            place_hint(alloc, &error)
+            location_hint(alloc, &error)
         }
     }
 }
@@ -141,10 +141,10 @@ fn header_hint(
         (λ hint. string_bytes hint ≡ header_line input.now session.now flaw) }
 {
     let path = flaw_path(alloc, session, flaw)?;
-    let place = fault_place(alloc, input, path.as_str())?;
+    let location = fault_location(alloc, input, path.as_str())?;
     let mut hint = String::new(alloc);
     push_flaw(&mut hint, flaw)?;
-    push_place(&mut hint, place)?;
+    push_location(&mut hint, location)?;
     hint.push_str("\n")?;
     Ok(hint)
 }
@@ -419,11 +419,11 @@ fn shape_hint(
     ensures { IfOk result
         (λ hint. string_bytes hint ≡ line_at input.now path.now (shape_text detail.now)) }
 {
-    let place = fault_place(alloc, input, path)?;
+    let location = fault_location(alloc, input, path)?;
     let mut hint = String::from_str(alloc, path)?;
     hint.push_str(": ")?;
     push_shape(&mut hint, detail)?;
-    push_place(&mut hint, place)?;
+    push_location(&mut hint, location)?;
     hint.push_str("\n")?;
     Ok(hint)
 }
@@ -455,7 +455,7 @@ fn bench_fault_hint(
 }
 
 /// What people are told of a text that was not read, a line. Want of memory has none. The text is
-/// read again for the place of its fault.
+/// read again for the location of its fault.
 pub fn fault_hint(alloc: Global, input: &[u8], fault: &TextFault) -> Result<String, AllocError>
     ensures line { IfOk result
         (λ hint. IsFaultHint input.now fault.now.why fault.now.path fault.now.detail

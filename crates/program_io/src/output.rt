@@ -38,9 +38,9 @@ pub struct Output {
 }
 
 impl Model for Output {
-    ghost use Rattle.program_io.specs.Outputs.{Told};
+    ghost use Rattle.program_io.specs.Outputs.{Printed};
 
-    ghost Value = { Told };
+    ghost Value = { Printed };
 
     ghost view = { λ it.
         record { status = it.status; text = it.text.items; note = it.note.items } };

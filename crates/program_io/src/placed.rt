@@ -1,33 +1,37 @@
 //! Where in the text of an input a fault is, and of a refused header the member at fault.
 ghost use Rattle.std.specs.Prelude.{◌≡◌, ◌++◌, IfOk, OnOk, string_bytes};
-ghost use Rattle.program_io.specs.Placed.{fault_place, flaw_member, flaw_path, member_prefix, place_suffix, task_member};
+ghost use Rattle.program_io.specs.Placed.{fault_location, flaw_member, flaw_path, member_prefix, location_suffix, task_member};
 
 use bench_types::HeaderFlaw;
 use std::alloc::{AllocError, Global};
-use text_places::{TextPlace, place_of_path};
+use text_locations::{TextLocation, location_of_path};
 
-/// Where in the input the path leads. Bytes that are no text have no place.
-pub(crate) fn fault_place(
+/// Where in the input the path leads. Bytes that are no text have no location.
+pub(crate) fn fault_location(
     alloc: Global,
     input: &[u8],
     path: &str,
-) -> Result<Option<TextPlace>, AllocError>
-    ensures { IfOk result (λ place. place ≡ fault_place input.now path.now) }
+) -> Result<Option<TextLocation>, AllocError>
+    ensures { IfOk result (λ location. location ≡ fault_location input.now path.now) }
 {
     match std::str::from_utf8(input) {
-        Ok(text) => place_of_path(alloc, text, path),
+        Ok(text) => location_of_path(alloc, text, path),
         Err(_) => Ok(None),
     }
 }
 
-/// The place, if there is one, at the end of what is told.
-pub(crate) fn push_place(text: &mut String, place: Option<TextPlace>) -> Result<(), AllocError>
-    ensures { OnOk result (string_bytes text.new ≡ string_bytes text.old ++ place_suffix place) }
+/// The location, if there is one, at the end of what is told.
+pub(crate) fn push_location(
+    text: &mut String,
+    location: Option<TextLocation>,
+) -> Result<(), AllocError>
+    ensures { OnOk result
+        (string_bytes text.new ≡ string_bytes text.old ++ location_suffix location) }
 {
-    match place {
-        Some(place) => {
-            let line = place.line;
-            let column = place.column;
+    match location {
+        Some(location) => {
+            let line = location.line;
+            let column = location.column;
             write!(text, " (line {line}, column {column})")
         }
         None => Ok(()),

@@ -40,7 +40,7 @@ impl<R, W: Write> Prompting<R, W> {
     // Tells of the read that begins, where that is due.
     fn tell(&mut self)
         ensures device { self.new.device ≡ self.old.device }
-        ensures told { Prompts self.old.is_due
+        ensures printed { Prompts self.old.is_due
             (device (W.contents self.old.errors.device) self.old.errors.failures)
             (device (W.contents self.new.errors.device) self.new.errors.failures) }
         ensures once { self.new.is_due ≡ false }
@@ -60,7 +60,7 @@ impl<R: Read, W: Write> Read for Prompting<R, W> {
         ensures bound { ReadsAtMost result buf.new }
         ensures bytes { ReadConsumes (R.remaining self.old.device)
             (R.remaining self.new.device) result buf.new }
-        ensures told { Prompts self.old.is_due
+        ensures printed { Prompts self.old.is_due
             (device (W.contents self.old.errors.device) self.old.errors.failures)
             (device (W.contents self.new.errors.device) self.new.errors.failures) }
         ensures once { self.new.is_due ≡ false }

@@ -45,7 +45,7 @@ impl Refusal {
     /// Both on standard error.
     pub fn on_error(self, alloc: Global) -> Result<Output, AllocError>
         ensures { IfOk result
-            (λ told. told ≡ refusal (string_bytes self.line ++ string_bytes self.hint)) }
+            (λ printed. printed ≡ refusal (string_bytes self.line ++ string_bytes self.hint)) }
     {
         let mut lines = self.line;
         lines.push_str(self.hint.as_str())?;

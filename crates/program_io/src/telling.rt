@@ -18,7 +18,7 @@ where
     F: FnOnce(&[u8]) -> Result<Output, AllocError>,
     requires { F.IsAlwaysCallable tell }
     ensures { EndsOver
-        (EndsTelling (λ input told. FnOnceReturnsAt F.FnOnce tell input (Ok told))) result
+        (EndsTelling (λ input printed. FnOnceReturnsAt F.FnOnce tell input (Ok printed))) result
         (R.seen reader.old) (R.seen reader.new) (W.seen writer.old) (W.seen writer.new) }
 {
     match read_input(alloc, reader) {

@@ -25,7 +25,7 @@ fn ended<R: Threads + Wait + Sync>(
 }
 
 /// Asks that the input is refused, and that the line begins so.
-fn check_told<R: Threads + Wait + Abort + Sync>(
+fn check_printed<R: Threads + Wait + Abort + Sync>(
     rt: &R,
     host: &HostRuntime,
     word: &str,
@@ -42,9 +42,9 @@ fn check_told<R: Threads + Wait + Abort + Sync>(
 #[test]
 fn inputs_that_are_no_documents(rt: HostRuntime) {
     for word in ["replay", "whatif", "record"] {
-        check_told(&rt, &rt, word, b"", "not JSON: line 1, column 0\n");
-        check_told(&rt, &rt, word, b"\"\xff\"", "not JSON: not UTF-8\n");
-        check_told(
+        check_printed(&rt, &rt, word, b"", "not JSON: line 1, column 0\n");
+        check_printed(&rt, &rt, word, b"\"\xff\"", "not JSON: not UTF-8\n");
+        check_printed(
             &rt,
             &rt,
             word,
@@ -76,7 +76,7 @@ const NO_TASK: &[(&str, &str, &str)] = &[
 #[test]
 fn names_of_no_task(rt: HostRuntime) {
     for (word, input, line) in NO_TASK {
-        check_told(&rt, &rt, word, input.as_bytes(), line);
+        check_printed(&rt, &rt, word, input.as_bytes(), line);
     }
 }
 
@@ -234,7 +234,7 @@ const PROMPT: &str = "Reading a JSON document from the terminal, to the end of i
 /// A terminal is told of the first read of it, and only of that.
 #[test]
 fn terminals(rt: HostRuntime) {
-    for (word, is_terminal, told) in [
+    for (word, is_terminal, printed) in [
         ("replay", true, PROMPT),
         ("replay", false, ""),
         ("record", true, PROMPT),
@@ -243,7 +243,7 @@ fn terminals(rt: HostRuntime) {
     ] {
         let mut errors = Sink::wide();
         prompted(&rt, &rt, word, is_terminal, &mut errors);
-        errors.expect(&rt, told);
+        errors.expect(&rt, printed);
     }
 }
 
@@ -289,7 +289,7 @@ impl Read for Keyboard<'_> {
 
 /// The prompt stands there before the first read, and nothing is written between that and the last.
 #[test]
-fn a_terminal_is_told_before_it_is_read(rt: HostRuntime) {
+fn a_terminal_is_printed_before_it_is_read(rt: HostRuntime) {
     for (is_terminal, shown) in [(true, PROMPT.len()), (false, 0)] {
         check_order(&rt, &rt, is_terminal, shown);
     }

@@ -286,14 +286,14 @@ fn check_places(rt: &impl Abort, host: &HostRuntime, store: &Store, sums: &Sums)
     requires { AreSumsOf store.now sums.now }
 {
     for at in [0, 63, 64, 68, 123, 129, 199] {
-        check_told(rt, host, store, sums, Edit::Insert { at, step: TICK })?;
-        check_told(rt, host, store, sums, Edit::Replace { at, step: TICK })?;
+        check_printed(rt, host, store, sums, Edit::Insert { at, step: TICK })?;
+        check_printed(rt, host, store, sums, Edit::Replace { at, step: TICK })?;
     }
     Ok(())
 }
 
 /// A trial of the edit tells the same with the sums and without.
-fn check_told(
+fn check_printed(
     rt: &impl Abort,
     host: &HostRuntime,
     store: &Store,
@@ -302,38 +302,42 @@ fn check_told(
 ) -> Result<(), Fail>
     requires { AreSumsOf store.now sums.now }
 {
-    let told = told(host, store, edit)?;
-    assert_told(rt, edit, &told_with(host, store, sums, edit)?, &told);
+    let printed = printed(host, store, edit)?;
+    assert_printed(rt, edit, &printed_with(host, store, sums, edit)?, &printed);
     Ok(())
 }
 
 /// What a trial tells: its outcome, and the lines of the tasks.
-type Told = (Outcome, String);
+type Printed = (Outcome, String);
 
-fn told(host: &HostRuntime, store: &Store, edit: Edit) -> Result<Told, Fail> {
-    told_by(
+fn printed(host: &HostRuntime, store: &Store, edit: Edit) -> Result<Printed, Fail> {
+    printed_by(
         host,
         store,
         store.trial(host.alloc(), edit, &mut Meter::new(host))?,
     )
 }
 
-fn told_with(host: &HostRuntime, store: &Store, sums: &Sums, edit: Edit) -> Result<Told, Fail>
+fn printed_with(host: &HostRuntime, store: &Store, sums: &Sums, edit: Edit) -> Result<Printed, Fail>
     requires { AreSumsOf store.now sums.now }
 {
-    told_by(
+    printed_by(
         host,
         store,
-        store.trial_with(host.alloc(), sums, edit, &mut Meter::new(host))?,
+        store.trial_with(host.alloc(), Some(sums), edit, &mut Meter::new(host))?,
     )
 }
 
-fn told_by(host: &HostRuntime, store: &Store, trial: (Outcome, Tallies)) -> Result<Told, Fail> {
+fn printed_by(
+    host: &HostRuntime,
+    store: &Store,
+    trial: (Outcome, Tallies),
+) -> Result<Printed, Fail> {
     let (outcome, tallies) = trial;
     Ok((outcome, lines_of(host, store, &tallies)?))
 }
 
-fn assert_told(rt: &impl Abort, edit: Edit, given: &Told, wanted: &Told) {
+fn assert_printed(rt: &impl Abort, edit: Edit, given: &Printed, wanted: &Printed) {
     assert_eq!(rt; given, wanted, "{edit:?}");
 }
 

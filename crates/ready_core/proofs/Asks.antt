@@ -16,13 +16,15 @@ module _ (control : Control) (task : ℕ) (among : ℕ → Bool) where
   -- of the cores below n: one that may be asked and is asked before every other, or none may be asked
   abbrev pub IsBestBelow : ℕ → Option ℕ → Type 0
   IsBestBelow n None = (d : ℕ) → d < n → may_be_asked control task among d ≡ false
-  IsBestBelow n (Some c) = (c < n) × (may_be_asked control task among c ≡ true) × ((d : ℕ) → d < n → may_be_asked control task among d ≡ true → yields_first control c d ≡ true)
+  IsBestBelow n (Some c) = (c < n) × (may_be_asked control task among c ≡ true) ×
+      ((d : ℕ) → d < n → may_be_asked control task among d ≡ true → yields_first control c d ≡ true)
 
   pub none_below : IsBestBelow 0 None
   none_below = λ d low. absurd (omega (arith, low))
 
   -- one more core
-  pub best_more : (n : ℕ) (best : Option ℕ) → IsBestBelow n best → IsBestBelow (n + 1) (better_of (stays_asked control) (may_be_asked control task among) best n)
+  pub best_more : (n : ℕ) (best : Option ℕ) → IsBestBelow n best → IsBestBelow (n + 1)
+      (better_of (stays_asked control) (may_be_asked control task among) best n)
   best_more n None none = either (may_be_asked control task among n) refl
     where
       either : (b : Bool) → may_be_asked control task among n ≡ b → IsBestBelow (n + 1) (cond (b && true) (Some n) None)
@@ -40,7 +42,8 @@ module _ (control : Control) (task : ℕ) (among : ℕ → Bool) where
       ]
   best_more n (Some c) some = either (may_be_asked control task among n) refl (stays_asked control c n) refl
     where
-      either : (b : Bool) → may_be_asked control task among n ≡ b → (s : Bool) → stays_asked control c n ≡ s → IsBestBelow (n + 1) (cond (b && not s) (Some n) (Some c))
+      either : (b : Bool) → may_be_asked control task among n ≡ b → (s : Bool) → stays_asked control c n ≡ s → IsBestBelow (n + 1)
+          (cond (b && not s) (Some n) (Some c))
       either true may false takes = (
         omega arith,
         may,
@@ -72,7 +75,11 @@ module _ (control : Control) (task : ℕ) (among : ℕ → Bool) where
   -- that of all cores is what the search answers
   pub best_is_answer : (best : Option ℕ) → IsBestBelow (length control.cores) best → IsAnswer control task among best
   best_is_answer None none = λ core candidate. cc (none core candidate.0, below_candidate core candidate)
-  best_is_answer (Some c) some = ((some.0, grind (arith, some.1), grind (arith, some.1)), λ other candidate. some.2 other candidate.0 (below_candidate other candidate))
+  best_is_answer (Some c) some = (
+    (some.0, grind (arith, some.1), grind (arith, some.1)),
+    λ other candidate. some.2 other candidate.0
+        (below_candidate other candidate),
+  )
 
   -- there is one answer
   pub one_answer : (one other : Option ℕ) → IsAnswer control task among one → IsAnswer control task among other → one ≡ other
@@ -85,8 +92,10 @@ module _ (control : Control) (task : ℕ) (among : ℕ → Bool) where
   best_is_asked best is = one_answer best (core_to_yield control task among) (best_is_answer best is) (best_core control task among)
 
 -- tests that agree on the cores ask the same one
-pub asked_agrees : (control : Control) (task : ℕ) (among others : ℕ → Bool) → ((core : ℕ) → core < length control.cores → among core ≡ others core) → core_to_yield control task among ≡ core_to_yield control task others
-asked_agrees control task among others same = one_answer control task others (core_to_yield control task among) (core_to_yield control task others) (over (core_to_yield control task among) (best_core control task among)) (best_core control task others)
+pub asked_agrees : (control : Control) (task : ℕ) (among others : ℕ → Bool) → ((core : ℕ) → core < length control.cores → among core ≡ others core) →
+    core_to_yield control task among ≡ core_to_yield control task others
+asked_agrees control task among others same = one_answer control task others (core_to_yield control task among) (core_to_yield control task others)
+    (over (core_to_yield control task among) (best_core control task among)) (best_core control task others)
   where
     there : (core : ℕ) → IsCandidate control task among core → IsCandidate control task others core
     there core candidate = (candidate.0, sym (same core candidate.0) ∙ candidate.1, candidate.2)
@@ -98,9 +107,11 @@ asked_agrees control task among others same = one_answer control task others (co
     over None none = λ core candidate. none core (back core candidate)
     over (Some c) some = (there c some.0, λ other candidate. some.1 other (back other candidate))
 
-pub seek_agrees : (acting : ℕ) (control : Control) (task : ℕ) (among others : ℕ → Bool) → ((core : ℕ) → core < length control.cores → among core ≡ others core) → seek acting task among control ≡ seek acting task others control
+pub seek_agrees : (acting : ℕ) (control : Control) (task : ℕ) (among others : ℕ → Bool) → ((core : ℕ) → core < length control.cores → among core ≡ others core)
+    → seek acting task among control ≡ seek acting task others control
 unfolding seek
-seek_agrees acting control task among others same = ap (λ o. cond (is_running control task) control (option_map_or (λ core. ask acting core control) o control)) (asked_agrees control task among others same)
+seek_agrees acting control task among others same = ap (λ o. cond (is_running control task) control (option_map_or (λ core. ask acting core control) o control))
+    (asked_agrees control task among others same)
 
 -- among no cores none is asked
 pub asks_none : (acting task none : ℕ) (control : Control) → none ≡ 0 → control ≡ seek acting task (has_core none) control

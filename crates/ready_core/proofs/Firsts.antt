@@ -1,5 +1,6 @@
 -- The cores, control blocks and ready lists of a start, item by item.
-use Rattle.std.proofs.Common.{◌≡◌, ◌≢◌, ℕ, zero, suc, ◌+◌, ◌-◌, ◌^◌, ◌<◌, ◌≤◌, Bool, true, false, cond, eqb, ltb, List, [], ◌∷◌, ◌++◌, length, map, replicate, refl, sym, ap, ◌∙◌, arith, inl, inr}
+use Rattle.std.proofs.Common.{◌≡◌, ◌≢◌, ℕ, zero, suc, ◌+◌, ◌-◌, ◌^◌, ◌<◌, ◌≤◌, Bool, true, false, cond, eqb, ltb, List, [], ◌∷◌, ◌++◌, length, map, replicate}
+use Rattle.std.proofs.Common.{refl, sym, ap, ◌∙◌, arith, inl, inr}
 use Rattle.std.specs.List.{range_with_len, IsDistinct}
 use Rattle.std.proofs.lemmas.List.{length-map, length-replicate, get_or-replicate, get_or_past, map-append}
 use Rattle.std.proofs.lemmas.List.Elements.{All-map, All-from_recursion, All-from_get_or, All-weaker, All-nil}
@@ -50,10 +51,12 @@ none_ready lists zero = refl
 none_ready lists (suc n) = ap (λ xs. xs ++ ready_below (replicate lists []) n) (no_tasks lists n) ∙ none_ready lists n
 
 -- at the start idle task c is on core c, and no other task on any
-seated_at : (cores : ℕ) (tasks : List TaskControl) (t core : ℕ) → is_set (first_seat cores t) core ≡ has_seat (control_from (map first_look (numbers cores)) tasks) t core
+seated_at : (cores : ℕ) (tasks : List TaskControl) (t core : ℕ) → is_set (first_seat cores t) core ≡ has_seat
+    (control_from (map first_look (numbers cores)) tasks) t core
 seated_at cores tasks t core = elim (cases_lt core cores) [
   | inl low ↦
-      let own : current (control_from (map first_look (numbers cores)) tasks) core ≡ core = ap (λ (at : CoreLook). at.current) (get_or-map-range_with_len first_look 0 cores core core (record { current = 0; pend = false; asked = false }) low (omega arith)) in
+      let own : current (control_from (map first_look (numbers cores)) tasks) core ≡ core = ap (λ (at : CoreLook). at.current)
+      (get_or-map-range_with_len first_look 0 cores core core (record { current = 0; pend = false; asked = false }) low (omega arith)) in
       elim (cases_eq core t) [
         | inl same ↦
             let idle : first_seat cores t ≡ 2 ^ core = grind (arith, nat_tests, low, same) in
@@ -84,7 +87,9 @@ seated_at cores tasks t core = elim (cases_lt core cores) [
 pub seats_more : (cores n : ℕ) → map (first_seat cores) (numbers (n + 1)) ≡ map (first_seat cores) (numbers n) ++ first_seat cores n ∷ []
 seats_more cores n = ap (map (first_seat cores)) (numbers_more n) ∙ map-append (first_seat cores) (numbers n) (n ∷ [])
 
-pub first_shape : (header : Header) → IsWithinLimits header → IsShape header.config.priorities (first_control header).cores (first_control header).tasks (empty_lists (header.config.cores + length header.tasks) header.config.priorities) 0 (map (first_seat header.config.cores) (numbers (header.config.cores + length header.tasks)))
+pub first_shape : (header : Header) → IsWithinLimits header → IsShape header.config.priorities (first_control header).cores (first_control header).tasks
+    (empty_lists (header.config.cores + length header.tasks) header.config.priorities) 0
+    (map (first_seat header.config.cores) (numbers (header.config.cores + length header.tasks)))
 unfolding IsDistinct
 first_shape header limits =
     let cores = header.config.cores in
@@ -94,21 +99,28 @@ first_shape header limits =
       few_cores = omega (arith, limits.few_cores, length-map (numbers cores) first_look, length-range_with_len 0 cores);
       few_tasks = omega (arith, limits.few_cores, limits.few_tasks, controls);
       few_priorities = limits.few_priorities;
-      running = All-map (λ (core : CoreLook). core.current < length (first_control header).tasks) first_look (numbers cores) (All-weaker (λ i. i < cores) (λ i. i < length (first_control header).tasks) (λ i h. omega (arith, h, controls)) (numbers cores) (All-from_recursion (λ i. i < cores) (numbers cores) (numbers_below cores)));
-      in_use = All-from_get_or (λ (task : TaskControl). task.in_use < header.config.priorities) (first_control header).tasks (record { base = 0; in_use = 0; mask = 0; preempt = false }) (λ i low. (first_blocks header limits i (omega (arith, controls, low))).in_use);
-      base = All-from_get_or (λ (task : TaskControl). task.base < header.config.priorities) (first_control header).tasks (record { base = 0; in_use = 0; mask = 0; preempt = false }) (λ i low. (first_blocks header limits i (omega (arith, controls, low))).base);
+      running = All-map (λ (core : CoreLook). core.current < length (first_control header).tasks) first_look (numbers cores)
+          (All-weaker (λ i. i < cores) (λ i. i < length (first_control header).tasks) (λ i h. omega (arith, h, controls)) (numbers cores)
+          (All-from_recursion (λ i. i < cores) (numbers cores) (numbers_below cores)));
+      in_use = All-from_get_or (λ (task : TaskControl). task.in_use < header.config.priorities) (first_control header).tasks
+          (record { base = 0; in_use = 0; mask = 0; preempt = false }) (λ i low. (first_blocks header limits i (omega (arith, controls, low))).in_use);
+      base = All-from_get_or (λ (task : TaskControl). task.base < header.config.priorities) (first_control header).tasks
+          (record { base = 0; in_use = 0; mask = 0; preempt = false }) (λ i low. (first_blocks header limits i (omega (arith, controls, low))).base);
       items = sym controls;
       each = length-replicate n [];
       at_home = λ p low. rw (no_tasks n p) tt;
       listings = λ p low. rw (no_tasks n p) (record { below = All-nil (λ i. i < length (first_control header).tasks); once = tt });
       bits = λ p low. rw (no_tasks n p) (ap (λ b. eqb b 1) (bit_at-zero p) ∙ grind (arith, nat_tests));
       seated = length-map-range_with_len (first_seat cores) 0 (cores + length header.tasks) ∙ sym controls;
-      at_core = λ t low core. ap (λ m. is_set m core) (get_or-map-range_with_len (first_seat cores) 0 (cores + length header.tasks) t t 0 (omega (arith, low, controls)) (omega arith)) ∙ seated_at cores (first_control header).tasks t core;
+      at_core = λ t low core. ap (λ m. is_set m core) (get_or-map-range_with_len (first_seat cores) 0 (cores + length header.tasks) t t 0
+          (omega (arith, low, controls)) (omega arith)) ∙ seated_at cores (first_control header).tasks t core;
     }
 
-pub seen_first : (header : Header) → seen_of header.config.priorities header.config.slicing (first_control header) (empty_lists (header.config.cores + length header.tasks) header.config.priorities) ≡ unlisted header
+pub seen_first : (header : Header) → seen_of header.config.priorities header.config.slicing (first_control header)
+    (empty_lists (header.config.cores + length header.tasks) header.config.priorities) ≡ unlisted header
 unfolding unstarted
-seen_first header = ap (with_ready header.config.priorities header.config.slicing (first_control header)) (none_ready header.config.priorities header.config.priorities)
+seen_first header = ap (with_ready header.config.priorities header.config.slicing (first_control header))
+    (none_ready header.config.priorities header.config.priorities)
 
 pub unlisted_tasks : (header : Header) → length (unlisted header).control.tasks ≡ header.config.cores + length header.tasks
 unfolding unstarted
@@ -125,7 +137,10 @@ idle_later control t a n low = list_any-ranked (outranks control) (λ m. eqb m t
 
 -- user tasks and after them idle tasks come to their lists
 pub all_listed : (header : Header) (users : ℕ) → users ≡ length header.tasks → let cores = header.config.cores in let view = unlisted header in
-    record view { ready = all_placed view.control (range_with_len 0 (cores - 0)) (all_placed view.control (range_with_len cores (cores + users - cores)) view.ready) } ≡ cores_of (unstarted (first_lists header) header)
+    record view {
+      ready = all_placed view.control (range_with_len 0 (cores - 0))
+          (all_placed view.control (range_with_len cores (cores + users - cores)) view.ready);
+    } ≡ cores_of (unstarted (first_lists header) header)
 unfolding unstarted first_lists ranked
 all_listed header users is =
     let cores = header.config.cores in

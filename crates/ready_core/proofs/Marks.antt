@@ -1,5 +1,6 @@
 -- Which cores are due, as bits.
-use Rattle.std.proofs.Common.{◌≡◌, ◌≢◌, ℕ, ◌*◌, ◌-◌, ◌<◌, ◌≤◌, ◌%◌, ◌^◌, Bool, true, false, cond, min, eqb, ◌||◌, List, [], length, map, bit_and, bit_or, w32, refl, sym, ap, subst, ◌∙◌, arith, inl, inr}
+use Rattle.std.proofs.Common.{◌≡◌, ◌≢◌, ℕ, ◌*◌, ◌-◌, ◌<◌, ◌≤◌, ◌%◌, ◌^◌, Bool, true, false, cond, min, eqb, ◌||◌, List, [], length, map, bit_and, bit_or, w32}
+use Rattle.std.proofs.Common.{refl, sym, ap, subst, ◌∙◌, arith, inl, inr}
 use Rattle.std.specs.Prelude.{slice_set}
 use mir.Val.{bool_byte}
 use Rattle.std.specs.Int.{bit_at, bit_not, trailing_zeros}
@@ -51,18 +52,22 @@ module _ (cores : List CoreLook) (undue : ℕ) (marks : IsMarked cores undue) (f
     marks_free free = record {
       at_bit = λ c. elim (cases_eq c core) [
         | inl same ↦ rw same (ap (λ b. eqb b 1) (bit_at_set_same w32 undue core (omega (arith, low, few))) ∙ grind (arith, nat_tests, here, free, low, size))
-        | inr apart ↦ ap (λ b. eqb b 1) (bit_at_set_other w32 undue core (omega (arith, low, few)) c apart) ∙ grind (arith, nat_tests, marks.at_bit c, away c apart, size)
+        | inr apart ↦ ap (λ b. eqb b 1) (bit_at_set_other w32 undue core (omega (arith, low, few)) c apart) ∙ grind
+            (arith, nat_tests, marks.at_bit c, away c apart, size)
       ];
     }
 
   -- the core is asked where that is so
-  pub marks_asked : (b : Bool) (core : ℕ) → core < length cores → (look : CoreLook) → look ≡ core_at (control_from cores []) core → IsMarked (slice_set cores core (cond b (asked_by 0 core look) look)) (bit_and undue (bit_not w32 (bool_byte b * 2 ^ core % 4294967296)))
+  pub marks_asked : (b : Bool) (core : ℕ) → core < length cores → (look : CoreLook) → look ≡ core_at (control_from cores []) core → IsMarked
+      (slice_set cores core (cond b (asked_by 0 core look) look)) (bit_and undue (bit_not w32 (bool_byte b * 2 ^ core % 4294967296)))
   marks_asked true core low look is = marks_due core low (asked_by 0 core look) (at (eqb core 0))
     where
-      at : (d : Bool) → ((cond d (record look { pend = true }) (record look { asked = true })).pend || (cond d (record look { pend = true }) (record look { asked = true })).asked) ≡ true
+      at : (d : Bool) → ((cond d (record look { pend = true }) (record look { asked = true })).pend ||
+          (cond d (record look { pend = true }) (record look { asked = true })).asked) ≡ true
       at true = refl
       at false = grind arith
-  marks_asked false core low look is = subst (λ (looks : List CoreLook). IsMarked looks (bit_and undue (bit_not w32 (0 * 2 ^ core % 4294967296)))) unchanged (record { at_bit = λ c. all_kept c ∙ marks.at_bit c })
+  marks_asked false core low look is = subst (λ (looks : List CoreLook). IsMarked looks (bit_and undue (bit_not w32 (0 * 2 ^ core % 4294967296)))) unchanged
+      (record { at_bit = λ c. all_kept c ∙ marks.at_bit c })
     where
       unchanged : cores ≡ slice_set cores core look
       unchanged = sym (set-get_or cores core no_look) ∙ ap (slice_set cores core) (sym is)
@@ -97,7 +102,8 @@ first_marks n few = record {
 pub less_bits : (rest core : ℕ) → core < 32 → is_set rest core ≡ true → bit_and rest (bit_not w32 (1 * 2 ^ core % 4294967296)) < rest
 less_bits rest core low on = elim (cases_eq (bit_and rest (bit_not w32 (1 * 2 ^ core % 4294967296))) rest) [
   | inl same ↦
-      let off : is_set (bit_and rest (bit_not w32 (1 * 2 ^ core % 4294967296))) core ≡ false = bit_cleared rest core core low (λ over. absurd (omega (arith, low, over))) ∙ grind (arith, nat_tests) in
+      let off : is_set (bit_and rest (bit_not w32 (1 * 2 ^ core % 4294967296))) core ≡ false = bit_cleared rest core core low
+      (λ over. absurd (omega (arith, low, over))) ∙ grind (arith, nat_tests) in
       absurd (cc (off, ap (λ n. is_set n core) same ∙ on))
   | inr apart ↦ omega (arith, apart, and_le_l rest (bit_not w32 (1 * 2 ^ core % 4294967296)))
 ]

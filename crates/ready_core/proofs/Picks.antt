@@ -1,5 +1,6 @@
 -- The first ready task that passes a test, list by list.
-use Rattle.std.proofs.Common.{◌≡◌, ℕ, zero, suc, ◌+◌, ◌-◌, ◌*◌, ◌<◌, ◌≤◌, ◌%◌, ◌^◌, Bool, true, false, cond, eqb, ltb, ◌&&◌, List, [], ◌∷◌, ◌++◌, length, bit_and, w32, Option, Some, None, refl, sym, ap, ◌∙◌, arith, pow-suc, inl, inr}
+use Rattle.std.proofs.Common.{◌≡◌, ℕ, zero, suc, ◌+◌, ◌-◌, ◌*◌, ◌<◌, ◌≤◌, ◌%◌, ◌^◌, Bool, true, false, cond, eqb, ltb, ◌&&◌, List, [], ◌∷◌, ◌++◌, length}
+use Rattle.std.proofs.Common.{bit_and, w32, Option, Some, None, refl, sym, ap, ◌∙◌, arith, pow-suc, inl, inr}
 use Rattle.std.specs.Prelude.{is_some}
 use Rattle.std.specs.Int.{bit_at, bit_not}
 use Rattle.std.specs.List.{find}
@@ -66,7 +67,8 @@ pub record IsLeft (view : CoresView) (passes : ℕ → Bool) (seen rest : ℕ) :
   pub first : find passes (ready_below lists top) ≡ find passes view.ready
   pub bits : (p : ℕ) → p < 32 → is_set rest p ≡ (ltb p top && ltb 0 (length (tasks_of lists p)))
 
-pub left_first : (n : ℕ) (slicing : Bool) (cores : List CoreLook) (tasks : List TaskControl) (of : ListsView) (listed : ℕ) (seats : List ℕ) → IsShape n cores tasks of listed seats → (passes : ℕ → Bool) → IsLeft (seen_of n slicing (control_from cores tasks) of) passes 0 listed
+pub left_first : (n : ℕ) (slicing : Bool) (cores : List CoreLook) (tasks : List TaskControl) (of : ListsView) (listed : ℕ) (seats : List ℕ) → IsShape n cores
+    tasks of listed seats → (passes : ℕ → Bool) → IsLeft (seen_of n slicing (control_from cores tasks) of) passes 0 listed
 left_first n slicing cores tasks of listed seats shape passes = record {
   lists = of.lists;
   shows = refl;
@@ -90,7 +92,8 @@ module _ (view : CoresView) (passes : ℕ → Bool) (seen rest : ℕ) (left : Is
   -- no bit is left
   pub none_left : rest ≡ 0 → None ≡ find passes view.ready
   none_left is =
-      ap (find passes) (sym (gap left.lists 0 left.top (omega arith) (λ p low high. unset p high (ap (λ n. is_set n p) is ∙ ap (λ b. eqb b 1) (bit_at-zero p) ∙ grind (arith, nat_tests)))))
+      ap (find passes) (sym (gap left.lists 0 left.top (omega arith) (λ p low high. unset p high
+      (ap (λ n. is_set n p) is ∙ ap (λ b. eqb b 1) (bit_at-zero p) ∙ grind (arith, nat_tests)))))
       ∙ left.first
 
   -- no list is left
@@ -105,7 +108,8 @@ module _ (view : CoresView) (passes : ℕ → Bool) (seen rest : ℕ) (left : Is
     on =
         let parts : rest ≡ 1 * 2 ^ j + (rest - 2 ^ j) = omega (arith, power) in
         let none : j - j ≡ 0 = omega arith in
-        ap (λ b. eqb b 1) (ap (λ n. bit_at n j) parts ∙ bit_at_cat_high 1 j (rest - 2 ^ j) j (omega (arith, power, next)) (omega arith) ∙ ap (bit_at 1) none ∙ bit_at_lowest 1)
+        ap (λ b. eqb b 1) (ap (λ n. bit_at n j) parts ∙ bit_at_cat_high 1 j (rest - 2 ^ j) j (omega (arith, power, next)) (omega arith) ∙ ap (bit_at 1) none ∙
+        bit_at_lowest 1)
 
     off : (p : ℕ) → j < p → is_set rest p ≡ false
     off p over = ap (λ b. eqb b 1) (bit_at_above rest (suc j) p (omega (arith, next, pow-suc 2 j)) (omega (arith, over)))
@@ -117,10 +121,12 @@ module _ (view : CoresView) (passes : ℕ → Bool) (seen rest : ℕ) (left : Is
     in_range = omega (arith, below_top, left.low)
 
     upto : find passes (tasks_of left.lists j ++ ready_below left.lists j) ≡ find passes view.ready
-    upto = ap (find passes) (sym (gap left.lists (suc j) left.top (omega (arith, below_top)) (λ p low high. unset p high (off p (omega (arith, low)))))) ∙ left.first
+    upto = ap (find passes) (sym (gap left.lists (suc j) left.top (omega (arith, below_top)) (λ p low high. unset p high (off p (omega (arith, low)))))) ∙
+        left.first
 
     shown : ready_list j view ≡ tasks_of left.lists j
-    shown = ap (λ (ready : List ℕ). ready_list j (record view { ready = ready })) (sym left.shows) ∙ ready_of view.control left.lists j view.priorities left.home in_range
+    shown = ap (λ (ready : List ℕ). ready_list j (record view { ready = ready })) (sym left.shows) ∙ ready_of view.control left.lists j view.priorities
+        left.home in_range
 
     -- its list has a task that passes
     pub found_here : (o : Option ℕ) → o ≡ find passes (ready_list j view) → is_some o ≡ true → o ≡ find passes view.ready
@@ -128,7 +134,8 @@ module _ (view : CoresView) (passes : ℕ → Bool) (seen rest : ℕ) (left : Is
     found_here (Some x) is some = sym (find_front passes x (tasks_of left.lists j) (ready_below left.lists j) (ap (find passes) (sym shown) ∙ sym is)) ∙ upto
 
     -- its list has none
-    pub less_left : (o : Option ℕ) → o ≡ find passes (ready_list j view) → is_some o ≡ false → IsLeft view passes (seen + 1) (bit_and rest (bit_not w32 (1 * 2 ^ j % 4294967296)))
+    pub less_left : (o : Option ℕ) → o ≡ find passes (ready_list j view) → is_some o ≡ false → IsLeft view passes (seen + 1)
+        (bit_and rest (bit_not w32 (1 * 2 ^ j % 4294967296)))
     less_left (Some x) is none = absurd (cc (none))
     less_left None is none = record {
       lists = left.lists;

@@ -1,5 +1,6 @@
 -- What ready lists show as tasks come and go.
-use Rattle.std.proofs.Common.{◌≡◌, ◌≢◌, ℕ, zero, suc, ◌+◌, ◌<◌, ◌≤◌, Bool, true, false, not, eqb, ◌||◌, List, [], ◌∷◌, ◌++◌, length, map, take, get_or, Option, Some, None, refl, sym, ap, ◌∙◌, arith, append_assoc, inl, inr}
+use Rattle.std.proofs.Common.{◌≡◌, ◌≢◌, ℕ, zero, suc, ◌+◌, ◌<◌, ◌≤◌, Bool, true, false, not, eqb, ◌||◌, List, [], ◌∷◌, ◌++◌, length, map, take, get_or, Option}
+use Rattle.std.proofs.Common.{Some, None, refl, sym, ap, ◌∙◌, arith, append_assoc, inl, inr}
 use Rattle.std.specs.Prelude.{slice_set, is_some}
 use Rattle.std.specs.List.{filter, list_any, AllByRecursion}
 use Rattle.std.proofs.Math.ListN.{get_or-map}
@@ -46,10 +47,12 @@ ready_without lists t (suc n) =
     ∙ sym (filter-append (λ m. not (eqb m t)) (tasks_of lists n) (ready_below lists n))
 
 -- lists that are alike below n show the same
-pub ready_kept : (lists others : List (List Listed)) (n : ℕ) → ((p : ℕ) → p < n → tasks_of lists p ≡ tasks_of others p) → ready_below lists n ≡ ready_below others n
+pub ready_kept : (lists others : List (List Listed)) (n : ℕ) → ((p : ℕ) → p < n → tasks_of lists p ≡ tasks_of others p) → ready_below lists n ≡ ready_below
+    others n
 ready_kept lists others zero same = refl
 ready_kept lists others (suc n) same =
-    ap (λ xs. xs ++ ready_below lists n) (same n (omega arith)) ∙ ap (λ xs. tasks_of others n ++ xs) (ready_kept lists others n (λ p low. same p (omega (arith, low))))
+    ap (λ xs. xs ++ ready_below lists n) (same n (omega arith)) ∙ ap (λ xs. tasks_of others n ++ xs)
+    (ready_kept lists others n (λ p low. same p (omega (arith, low))))
 
 turned : (a b : Bool) → (a || b) ≡ (b || (a || false))
 turned true true = refl
@@ -67,7 +70,8 @@ ready_has lists t (suc n) low =
     let both = list_any-append (λ m. eqb m t) (tasks_of lists n) (ready_below lists n) in
     let here = list_any-map (λ m. eqb m t) (λ (e : Listed). e.item) row in
     let parts = ap (list_any (has_item t)) more ∙ list_any-append (has_item t) (take n lists) (row ∷ []) in
-    both ∙ ap (λ b. b || has t (ready_below lists n)) here ∙ ap (λ b. has_item t row || b) (ready_has lists t n (omega (arith, low))) ∙ turned (has_item t row) (list_any (has_item t) (take n lists)) ∙ sym parts
+    both ∙ ap (λ b. b || has t (ready_below lists n)) here ∙ ap (λ b. has_item t row || b) (ready_has lists t n (omega (arith, low))) ∙ turned (has_item t row)
+    (list_any (has_item t) (take n lists)) ∙ sym parts
 
 pub ready_listed : (view : ListsView) (t n : ℕ) → length view.lists ≡ n → has t (ready_below view.lists n) ≡ is_some (list_of t view)
 ready_listed view t n sized =
@@ -92,10 +96,13 @@ row_listed view t p n sized low here = at (has t (ready_below view.lists n)) ref
     at false absent = absurd (cc (row_apart view.lists t p n low absent, here))
 
 -- the tasks of listings are below the bound
-pub tasks_low : (bound : ℕ) (lists : List (List Listed)) (n : ℕ) → ((p : ℕ) → p < n → IsListing bound (tasks_of lists p)) → AllByRecursion (λ t. t < bound) (ready_below lists n)
+pub tasks_low : (bound : ℕ) (lists : List (List Listed)) (n : ℕ) → ((p : ℕ) → p < n → IsListing bound (tasks_of lists p)) → AllByRecursion (λ t. t < bound)
+    (ready_below lists n)
 tasks_low bound lists zero listings = tt
 tasks_low bound lists (suc n) listings =
-    All-append (λ t. t < bound) (tasks_of lists n) (ready_below lists n) (recursion_from_All (λ t. t < bound) (tasks_of lists n) (listings n (omega arith)).below) (tasks_low bound lists n (λ p low. listings p (omega (arith, low))))
+    All-append (λ t. t < bound) (tasks_of lists n) (ready_below lists n)
+    (recursion_from_All (λ t. t < bound) (tasks_of lists n) (listings n (omega arith)).below)
+    (tasks_low bound lists n (λ p low. listings p (omega (arith, low))))
 
 abbrev pub with_ready : ℕ → Bool → Control → List ℕ → CoresView
 with_ready priorities slicing control ready = record { priorities = priorities; slicing = slicing; control = control; ready = ready }
@@ -112,8 +119,10 @@ module _ (control : Control) where
   ready_low lists zero home = tt
   ready_low lists (suc n) home =
       All-append (λ task. rank task < suc n) (tasks_of lists n) (ready_below lists n)
-      (All-weaker (λ task. has_priority control n task ≡ true) (λ task. rank task < suc n) (λ task is. grind (arith, nat_tests, is)) (tasks_of lists n) (home n (omega arith)))
-      (All-weaker (λ task. rank task < n) (λ task. rank task < suc n) (λ task low. omega (arith, low)) (ready_below lists n) (ready_low lists n (λ p low. home p (omega (arith, low)))))
+      (All-weaker (λ task. has_priority control n task ≡ true) (λ task. rank task < suc n) (λ task is. grind (arith, nat_tests, is)) (tasks_of lists n)
+      (home n (omega arith)))
+      (All-weaker (λ task. rank task < n) (λ task. rank task < suc n) (λ task low. omega (arith, low)) (ready_below lists n)
+      (ready_low lists n (λ p low. home p (omega (arith, low)))))
 
   -- the ready tasks of a priority are those of its list
   pub ready_of : (lists : List (List Listed)) (r n : ℕ) → AreAtHome lists n → r < n → filter (has_priority control r) (ready_below lists n) ≡ tasks_of lists r
@@ -126,11 +135,17 @@ module _ (control : Control) where
       filter-append (has_priority control r) row rest
       ∙ elim (cases_eq r n) [
         | inl same ↦
-            ap (λ xs. xs ++ filter (has_priority control r) rest) (filter_all (has_priority control r) row (All-weaker (λ t. has_priority control n t ≡ true) (λ t. has_priority control r t ≡ true) (λ t is. grind (arith, nat_tests, is, same)) row here))
-            ∙ ap (λ xs. row ++ xs) (filter_none (has_priority control r) rest (All-weaker (λ t. rank t < n) (λ t. has_priority control r t ≡ false) (λ t below. grind (arith, nat_tests, below, same)) rest (ready_low lists n later)))
+            ap (λ xs. xs ++ filter (has_priority control r) rest) (filter_all (has_priority control r) row
+            (All-weaker (λ t. has_priority control n t ≡ true) (λ t. has_priority control r t ≡ true) (λ t is. grind (arith, nat_tests, is, same)) row
+            here))
+            ∙ ap (λ xs. row ++ xs) (filter_none (has_priority control r) rest
+            (All-weaker (λ t. rank t < n) (λ t. has_priority control r t ≡ false) (λ t below. grind (arith, nat_tests, below, same)) rest
+            (ready_low lists n later)))
             ∙ append-nil row ∙ ap (tasks_of lists) (sym same)
         | inr away ↦
-            ap (λ xs. xs ++ filter (has_priority control r) rest) (filter_none (has_priority control r) row (All-weaker (λ t. has_priority control n t ≡ true) (λ t. has_priority control r t ≡ false) (λ t is. grind (arith, nat_tests, is, away)) row here))
+            ap (λ xs. xs ++ filter (has_priority control r) rest) (filter_none (has_priority control r) row
+            (All-weaker (λ t. has_priority control n t ≡ true) (λ t. has_priority control r t ≡ false) (λ t is. grind (arith, nat_tests, is, away)) row
+            here))
             ∙ ready_of lists r n later (omega (arith, low, away))
       ]
 
@@ -139,7 +154,8 @@ module _ (control : Control) where
   in_its_row lists t n home low =
       ap (has t) (sym (ready_of lists (rank t) n home low)) ∙ has-filter (has_priority control (rank t)) t (ready_below lists n) ∙ grind (arith, nat_tests)
 
-  placed_later : (t : ℕ) (xs ys : List ℕ) → AllByRecursion (λ y. rank t ≤ rank y) xs → placed (outranks control) t (xs ++ ys) ≡ xs ++ placed (outranks control) t ys
+  placed_later : (t : ℕ) (xs ys : List ℕ) → AllByRecursion (λ y. rank t ≤ rank y) xs → placed (outranks control) t (xs ++ ys) ≡ xs ++ placed (outranks control)
+      t ys
   unfolding placed
   placed_later t xs ys front =
       let ahead = λ (y : ℕ). outranks control y t in
@@ -155,11 +171,13 @@ module _ (control : Control) where
   placed_first t ys lower =
       let ahead = λ (y : ℕ). outranks control y t in
       let after = λ (y : ℕ). not (outranks control y t) in
-      ap (λ zs. zs ++ t ∷ filter after ys) (filter_none ahead ys (All-weaker (λ y. rank y < rank t) (λ y. ahead y ≡ false) (λ y h. grind (arith, nat_tests, h)) ys lower))
+      ap (λ zs. zs ++ t ∷ filter after ys) (filter_none ahead ys
+      (All-weaker (λ y. rank y < rank t) (λ y. ahead y ≡ false) (λ y h. grind (arith, nat_tests, h)) ys lower))
       ∙ ap (λ zs. t ∷ zs) (filter_all after ys (All-weaker (λ y. rank y < rank t) (λ y. after y ≡ true) (λ y h. grind (arith, nat_tests, h)) ys lower))
 
   -- a task that is pushed to the list of its priority is placed among the ready tasks
-  pub placed_last : (lists : List (List Listed)) (r t n : ℕ) → AreAtHome lists n → n ≤ length lists → r < n → rank t ≡ r → ready_below (pushed lists r t) n ≡ placed (outranks control) t (ready_below lists n)
+  pub placed_last : (lists : List (List Listed)) (r t n : ℕ) → AreAtHome lists n → n ≤ length lists → r < n → rank t ≡ r → ready_below (pushed lists r t) n ≡
+      placed (outranks control) t (ready_below lists n)
   placed_last lists r t zero home sized low is = absurd (omega (arith, low))
   placed_last lists r t (suc n) home sized low is =
       let here = home n (omega arith) in
@@ -169,19 +187,24 @@ module _ (control : Control) where
       let rest = ready_below lists n in
       elim (cases_eq r n) [
         | inl same ↦
-            ap (λ xs. xs ++ ready_below more n) (ap (tasks_of more) (sym same) ∙ pushed_same lists r t (omega (arith, sized, low)) ∙ ap (λ p. tasks_of lists p ++ t ∷ []) same)
+            ap (λ xs. xs ++ ready_below more n) (ap (tasks_of more) (sym same) ∙ pushed_same lists r t (omega (arith, sized, low)) ∙ ap
+            (λ p. tasks_of lists p ++ t ∷ []) same)
             ∙ ap (λ xs. (row ++ t ∷ []) ++ xs) (ready_kept more lists n (λ p below. pushed_other lists r t p (omega (arith, below, same))))
             ∙ append_assoc row (t ∷ []) rest
-            ∙ ap (λ xs. row ++ xs) (sym (placed_first t rest (All-weaker (λ y. rank y < n) (λ y. rank y < rank t) (λ y below. omega (arith, below, is, same)) rest (ready_low lists n later))))
-            ∙ sym (placed_later t row rest (All-weaker (λ y. has_priority control n y ≡ true) (λ y. rank t ≤ rank y) (λ y h. grind (arith, nat_tests, h, is, same)) row here))
+            ∙ ap (λ xs. row ++ xs) (sym (placed_first t rest (All-weaker (λ y. rank y < n) (λ y. rank y < rank t) (λ y below. omega (arith, below, is, same))
+            rest (ready_low lists n later))))
+            ∙ sym (placed_later t row rest (All-weaker (λ y. has_priority control n y ≡ true) (λ y. rank t ≤ rank y)
+            (λ y h. grind (arith, nat_tests, h, is, same)) row here))
         | inr away ↦
             ap (λ xs. xs ++ ready_below more n) (pushed_other lists r t n (omega (arith, away)))
             ∙ ap (λ xs. row ++ xs) (placed_last lists r t n later (omega (arith, sized)) (omega (arith, low, away)) is)
-            ∙ sym (placed_later t row rest (All-weaker (λ y. has_priority control n y ≡ true) (λ y. rank t ≤ rank y) (λ y h. grind (arith, nat_tests, h, is, low)) row here))
+            ∙ sym (placed_later t row rest (All-weaker (λ y. has_priority control n y ≡ true) (λ y. rank t ≤ rank y)
+            (λ y h. grind (arith, nat_tests, h, is, low)) row here))
       ]
 
   -- the list that a ready task is in is that of its priority
-  pub listed_in : (view : ListsView) (t n : ℕ) → length view.lists ≡ n → AreAtHome view.lists n → has t (ready_below view.lists n) ≡ true → list_of t view ≡ Some (rank t)
+  pub listed_in : (view : ListsView) (t n : ℕ) → length view.lists ≡ n → AreAtHome view.lists n → has t (ready_below view.lists n) ≡ true → list_of t view ≡
+      Some (rank t)
   listed_in view t n sized home ready = at (list_of t view) refl
     where
       in_row : (xs : List ℕ) (p : ℕ) → AllByRecursion (λ task. has_priority control p task ≡ true) xs → has t xs ≡ true → rank t ≡ p
@@ -195,13 +218,17 @@ module _ (control : Control) where
       at None is = absurd (cc (ap is_some is, sym (ready_listed view t n sized), ready))
       at (Some p) is =
           let found = position-Some (has_item t) view.lists p [] is in
-          ap Some (sym (in_row (tasks_of view.lists p) p (home p (omega (arith, sized, found.0))) (list_any-map (λ m. eqb m t) (λ (e : Listed). e.item) (row_at view.lists p) ∙ found.1)))
+          ap Some (sym (in_row (tasks_of view.lists p) p (home p (omega (arith, sized, found.0)))
+          (list_any-map (λ m. eqb m t) (λ (e : Listed). e.item) (row_at view.lists p) ∙ found.1)))
 
   -- a task that goes to the end of the list of its priority is placed among the other ready tasks
-  pub placed_turned : (lists : List (List Listed)) (r t n : ℕ) → AreAtHome lists n → n ≤ length lists → r < n → rank t ≡ r → ready_below (slice_set (map (without_item t) lists) r (without_item t (row_at lists r) ++ record { item = t; key = 0 } ∷ [])) n ≡ placed (outranks control) t (without t (ready_below lists n))
+  pub placed_turned : (lists : List (List Listed)) (r t n : ℕ) → AreAtHome lists n → n ≤ length lists → r < n → rank t ≡ r → ready_below
+      (slice_set (map (without_item t) lists) r (without_item t (row_at lists r) ++ record { item = t; key = 0 } ∷ [])) n ≡ placed (outranks control) t
+      (without t (ready_below lists n))
   placed_turned lists r t n home sized low is =
       let left = map (without_item t) lists in
-      let kept : AreAtHome left n = λ p below. rw (without_row lists t p) (All-filter (λ task. has_priority control p task ≡ true) (λ m. not (eqb m t)) (tasks_of lists p) (home p below)) in
+      let kept : AreAtHome left n = λ p below. rw (without_row lists t p)
+      (All-filter (λ task. has_priority control p task ≡ true) (λ m. not (eqb m t)) (tasks_of lists p) (home p below)) in
       ap (λ (row : List Listed). ready_below (slice_set left r (row ++ record { item = t; key = 0 } ∷ [])) n) (sym (get_or-map (without_item t) lists r []))
       ∙ placed_last left r t n kept (omega (arith, sized, length-map lists (without_item t))) low is
       ∙ ap (placed (outranks control) t) (ready_without lists t n)

@@ -1,20 +1,22 @@
 -- Words of bits, and the cores that have a task.
-use Rattle.std.proofs.Common.{◌≡◌, ℕ, ◌*◌, ◌<◌, ◌≤◌, ◌%◌, ◌^◌, Bool, true, false, not, eqb, ltb, ◌&&◌, List, [], ◌∷◌, length, bit_and, bit_or, w32, min, refl, sym, ap, ◌∙◌, arith, inl, inr}
+use Rattle.std.proofs.Common.{◌≡◌, ℕ, ◌*◌, ◌<◌, ◌≤◌, ◌%◌, ◌^◌, Bool, true, false, not, eqb, ltb, ◌&&◌, List, [], ◌∷◌, length, None, is_some, bit_and, bit_or}
+use Rattle.std.proofs.Common.{w32, min, refl, sym, ap, ◌∙◌, arith, inl, inr}
 use Rattle.std.specs.Int.{bit_at, bit_not}
-use Rattle.std.specs.List.{list_any, AllByRecursion}
+use Rattle.std.specs.List.{find, list_any, AllByRecursion}
 use Rattle.std.proofs.lemmas.Bool.{cases_eq, cases_lt}
 use Rattle.std.proofs.lemmas.Bool.Decides.{nat_tests}
 use Rattle.std.proofs.lemmas.Nat.Bits.{bit_at_and, bit_at-zero, bit_at-lt, bit_at_set_same, bit_at_clear_same, bit_at_clear_other, same_from_bits}
 use Rattle.list_orders.specs.Search.{numbers, has}
 use Rattle.list_orders.proofs.Filters.{All-weaker}
 use Rattle.list_orders.proofs.Stamped.{numbers_below, numbers_have}
-use Rattle.bench_model.specs.Control.{Control, core_at, current}
+use Rattle.bench_model.specs.Control.{Control, core_at, current, runs_on}
 use Rattle.bench_model.specs.Seek.{is_running}
 use Rattle.bench_model.specs.Tally.{is_current}
 use Rattle.ready_core.specs.Fields.{is_set}
 
 -- one bit is cleared, and the others stay
-pub bit_cleared : (a place c : ℕ) → place < 32 → (32 ≤ c → is_set a c ≡ false) → is_set (bit_and a (bit_not w32 (1 * 2 ^ place % 4294967296))) c ≡ (not (eqb c place) && is_set a c)
+pub bit_cleared : (a place c : ℕ) → place < 32 → (32 ≤ c → is_set a c ≡ false) → is_set (bit_and a (bit_not w32 (1 * 2 ^ place % 4294967296))) c ≡
+    (not (eqb c place) && is_set a c)
 bit_cleared a place c word far = elim (cases_eq c place) [
   | inl here ↦ rw here (ap (λ d. eqb d 1) (bit_at_clear_same w32 a place word) ∙ grind (arith, nat_tests))
   | inr away ↦ elim (cases_lt c 32) [
@@ -33,6 +35,10 @@ bit_cleared a place c word far = elim (cases_eq c place) [
 none_any : (q : ℕ → Bool) (ns : List ℕ) → AllByRecursion (λ c. q c ≡ false) ns → list_any q ns ≡ false
 none_any q [] all = refl
 none_any q (n ∷ ns) all = grind (arith, all.0, none_any q ns all.1)
+
+none_found : (q : ℕ → Bool) (ns : List ℕ) → AllByRecursion (λ c. q c ≡ false) ns → find q ns ≡ None
+none_found q [] all = refl
+none_found q (n ∷ ns) all = rw all.0 (none_found q ns all.1)
 
 any_none : (q : ℕ → Bool) (c : ℕ) (ns : List ℕ) → list_any q ns ≡ false → has c ns ≡ true → q c ≡ false
 any_none q c [] none there = absurd (cc (there))
@@ -67,18 +73,23 @@ some_bit w n q bits = at (list_any q (numbers n)) refl
 
 -- a task that is the current one of no core does not run
 pub not_running : (control : Control) (task : ℕ) → is_current control task ≡ false → is_running control task ≡ false
+unfolding runs_on
 not_running control task none =
-    none_any (λ c. eqb (current control c) task && not (core_at control c).asked) (numbers (length control.cores)) (All-weaker (λ c. c < length control.cores) (λ c. (eqb (current control c) task && not (core_at control c).asked) ≡ false) idle (numbers (length control.cores)) (numbers_below (length control.cores)))
+    ap is_some (none_found (λ c. eqb (current control c) task && not (core_at control c).asked) (numbers (length control.cores))
+    (All-weaker (λ c. c < length control.cores) (λ c. (eqb (current control c) task && not (core_at control c).asked) ≡ false) idle
+    (numbers (length control.cores)) (numbers_below (length control.cores))))
   where
     idle : (c : ℕ) → c < length control.cores → (eqb (current control c) task && not (core_at control c).asked) ≡ false
-    idle c low = ap (λ b. b && not (core_at control c).asked) (any_none (λ core. eqb (current control core) task) c (numbers (length control.cores)) none (numbers_have (length control.cores) c low))
+    idle c low = ap (λ b. b && not (core_at control c).asked) (any_none (λ core. eqb (current control core) task) c (numbers (length control.cores)) none
+        (numbers_have (length control.cores) c low))
 
 -- a word with a bit that is set is not 0
 pub bit_there : (b place : ℕ) → place < 32 → eqb (bit_or b (1 * 2 ^ place % 4294967296)) 0 ≡ false
 bit_there b place low = elim (cases_eq (bit_or b (1 * 2 ^ place % 4294967296)) 0) [
   | inl none ↦
       let on : is_set (bit_or b (1 * 2 ^ place % 4294967296)) place ≡ true = ap (λ d. eqb d 1) (bit_at_set_same w32 b place low) ∙ grind (arith, nat_tests) in
-      let off : is_set (bit_or b (1 * 2 ^ place % 4294967296)) place ≡ false = ap (λ m. is_set m place) none ∙ ap (λ d. eqb d 1) (bit_at-zero place) ∙ grind (arith, nat_tests) in
+      let off : is_set (bit_or b (1 * 2 ^ place % 4294967296)) place ≡ false = ap (λ m. is_set m place) none ∙ ap (λ d. eqb d 1) (bit_at-zero place) ∙ grind
+      (arith, nat_tests) in
       absurd (cc (on, off))
   | inr some ↦ grind (arith, nat_tests, some)
 ]

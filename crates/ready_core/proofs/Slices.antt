@@ -1,5 +1,6 @@
 -- Time slices core by core, and the tasks that share a ready list.
-use Rattle.std.proofs.Common.{◌≡◌, ◌≢◌, ℕ, ◌+◌, ◌<◌, Bool, true, false, cond, not, eqb, ltb, ◌&&◌, ◌||◌, List, [], ◌∷◌, length, get_or, refl, sym, ap, subst, ◌∙◌, arith, inl, inr}
+use Rattle.std.proofs.Common.{◌≡◌, ◌≢◌, ℕ, ◌+◌, ◌<◌, Bool, true, false, cond, not, eqb, ltb, ◌&&◌, ◌||◌, List, [], ◌∷◌, length, get_or, refl, sym, ap, subst}
+use Rattle.std.proofs.Common.{◌∙◌, arith, inl, inr}
 use Rattle.std.specs.List.{filter, list_any, AllByRecursion, IsDistinct}
 use Rattle.std.proofs.lemmas.Bool.{cases_eq, eqb-true}
 use Rattle.std.proofs.lemmas.Bool.Decides.{nat_tests}
@@ -31,20 +32,26 @@ module _ (acting : ℕ) (control : Control) where
   abbrev look_by : ℕ → Bool → CoreLook
   look_by i b = cond b (asked_by acting i (core_at control i)) (core_at control i)
 
-  same_looks : (test : ℕ → Bool) (others : List CoreLook) → length others ≡ length control.cores → ((i : ℕ) → i < length control.cores → get_or others i no_look ≡ look_by i (test i)) → others ≡ looks test
-  same_looks test others sized same = ext_get_or no_look others (looks test) (sized ∙ sym (looks_length test)) (λ i low. same i (omega (arith, low, sized)) ∙ sym (look_at test i (omega (arith, low, sized))))
+  same_looks : (test : ℕ → Bool) (others : List CoreLook) → length others ≡ length control.cores →
+      ((i : ℕ) → i < length control.cores → get_or others i no_look ≡ look_by i (test i)) → others ≡ looks test
+  same_looks test others sized same = ext_get_or no_look others (looks test) (sized ∙ sym (looks_length test))
+      (λ i low. same i (omega (arith, low, sized)) ∙ sym (look_at test i (omega (arith, low, sized))))
 
   -- tests that agree ask the same cores
   pub asked_alike : (p q : ℕ → Bool) → ((i : ℕ) → i < length control.cores → p i ≡ q i) → ask_each acting p control ≡ ask_each acting q control
-  asked_alike p q same = ap (λ (cores : List CoreLook). record control { cores = cores }) (same_looks q (looks p) (looks_length p) (λ i low. look_at p i low ∙ ap (look_by i) (same i low)))
+  asked_alike p q same = ap (λ (cores : List CoreLook). record control { cores = cores })
+      (same_looks q (looks p) (looks_length p) (λ i low. look_at p i low ∙ ap (look_by i) (same i low)))
 
   -- no core is asked
   pub asked_none : (p : ℕ → Bool) → ((i : ℕ) → i < length control.cores → p i ≡ false) → control ≡ ask_each acting p control
-  asked_none p none = ap (λ (cores : List CoreLook). record control { cores = cores }) (same_looks p control.cores refl (λ i low. ap (look_by i) (sym (none i low))))
+  asked_none p none = ap (λ (cores : List CoreLook). record control { cores = cores })
+      (same_looks p control.cores refl (λ i low. ap (look_by i) (sym (none i low))))
 
   -- one more core is asked
-  pub asked_one : (p q : ℕ → Bool) (n : ℕ) → n < length control.cores → p n ≡ false → q n ≡ true → ((i : ℕ) → i < length control.cores → i ≢ n → p i ≡ q i) → ask acting n (ask_each acting p control) ≡ ask_each acting q control
-  asked_one p q n low before after others = ap (λ (cores : List CoreLook). record control { cores = cores }) (same_looks q _ (length-set (looks p) n _ ∙ looks_length p) each)
+  pub asked_one : (p q : ℕ → Bool) (n : ℕ) → n < length control.cores → p n ≡ false → q n ≡ true → ((i : ℕ) → i < length control.cores → i ≢ n → p i ≡ q i) →
+      ask acting n (ask_each acting p control) ≡ ask_each acting q control
+  asked_one p q n low before after others = ap (λ (cores : List CoreLook). record control { cores = cores })
+      (same_looks q _ (length-set (looks p) n _ ∙ looks_length p) each)
     where
       here : asked_by acting n (core_at (ask_each acting p control) n) ≡ look_by n (q n)
       here = ap (asked_by acting n) (look_at p n low ∙ ap (look_by n) before) ∙ ap (look_by n) (sym after)
@@ -60,11 +67,14 @@ module _ (acting : ℕ) (control : Control) where
   look_stays p n low before = look_at p n low ∙ ap (look_by n) before
 
 -- whether a core's task shares its time depends on that core alone, of the cores
-pub shares_stays : (view : CoresView) (cores : List CoreLook) (core : ℕ) → core_at (record view.control { cores = cores }) core ≡ core_at view.control core → shares_its_time list_queues (bare_view (record view { control = record view.control { cores = cores } })) core ≡ shares_its_time list_queues (bare_view view) core
+pub shares_stays : (view : CoresView) (cores : List CoreLook) (core : ℕ) → core_at (record view.control { cores = cores }) core ≡ core_at view.control core →
+    shares_its_time list_queues (bare_view (record view { control = record view.control { cores = cores } })) core ≡ shares_its_time list_queues
+    (bare_view view) core
 shares_stays view cores core same = ap shares same
   where
     shares : CoreLook → Bool
-    shares look = not (look.pend || look.asked) && (task_at view.control look.current).preempt && has look.current view.ready && ltb 1 (length (ready_in list_queues (task_at view.control look.current).in_use (bare_view view)))
+    shares look = not (look.pend || look.asked) && (task_at view.control look.current).preempt && has look.current view.ready && ltb 1
+        (length (ready_in list_queues (task_at view.control look.current).in_use (bare_view view)))
 
 -- how many a filter keeps and drops
 length_parts : (p : ℕ → Bool) (ns : List ℕ) → length (filter p ns) + length (filter (λ n. not (p n)) ns) ≡ length ns
@@ -107,7 +117,8 @@ list_any-among p n (x ∷ xs) low =
 more_than_one : (p : ℕ → Bool) (n x : ℕ) → x < n → p x ≡ true → ltb 1 (length (filter p (numbers n))) ≡ list_any (λ t. not (eqb t x) && p t) (numbers n)
 more_than_one p n x low passes =
     let kept = filter p (numbers n) in
-    let one : filter (λ t. eqb t x) kept ≡ x ∷ [] = filter-filter (λ t. eqb t x) p (numbers n) ∙ ap (filter p) (numbers_one n x low) ∙ ap (λ b. cond b (x ∷ []) []) passes in
+    let one : filter (λ t. eqb t x) kept ≡ x ∷ [] = filter-filter (λ t. eqb t x) p (numbers n) ∙ ap (filter p) (numbers_one n x low) ∙ ap
+    (λ b. cond b (x ∷ []) []) passes in
     let others = filter (λ t. not (eqb t x)) kept in
     let sizes : 1 + length others ≡ length kept = ap (λ (xs : List ℕ). length xs + length others) (sym one) ∙ length_parts (λ t. eqb t x) kept in
     let turned : others ≡ filter p (without x (numbers n)) = filter-filter (λ t. not (eqb t x)) p (numbers n) in
@@ -116,14 +127,17 @@ more_than_one p n x low passes =
     grind (arith, nat_tests, sizes, ap length turned, found, there)
 
 -- a ready task stands in a list of more than one where the queue has another of its priority
-pub shares_by_queue : (view : CoresView) (queue : List ℕ) (task : ℕ) → ((t : ℕ) → has t view.ready ≡ has t queue) → AllByRecursion (λ t. t < length view.control.tasks) queue → task < length view.control.tasks → has task view.ready ≡ true →
-    ltb 1 (length (ready_in list_queues (task_at view.control task).in_use (bare_view view))) ≡ list_any (λ other. not (eqb other task) && eqb (task_at view.control other).in_use (task_at view.control task).in_use) queue
+pub shares_by_queue : (view : CoresView) (queue : List ℕ) (task : ℕ) → ((t : ℕ) → has t view.ready ≡ has t queue) → AllByRecursion
+    (λ t. t < length view.control.tasks) queue → task < length view.control.tasks → has task view.ready ≡ true →
+    ltb 1 (length (ready_in list_queues (task_at view.control task).in_use (bare_view view))) ≡ list_any
+    (λ other. not (eqb other task) && eqb (task_at view.control other).in_use (task_at view.control task).in_use) queue
 shares_by_queue view queue task same low within ready =
     let n = length view.control.tasks in
     let rank = λ (t : ℕ). (task_at view.control t).in_use in
     let alike = λ (t : ℕ). eqb (rank t) (rank task) in
     more_than_one (λ t. has t view.ready && alike t) n task within (grind (arith, nat_tests, ready))
-    ∙ list_any-same (λ t. not (eqb t task) && (has t view.ready && alike t)) (λ t. has t queue && (not (eqb t task) && alike t)) (λ t. grind (arith, same t)) (numbers n)
+    ∙ list_any-same (λ t. not (eqb t task) && (has t view.ready && alike t)) (λ t. has t queue && (not (eqb t task) && alike t)) (λ t. grind (arith, same t))
+    (numbers n)
     ∙ list_any-among (λ t. not (eqb t task) && alike t) n queue low
 
 -- a listing has a number that it has once
@@ -133,14 +147,17 @@ one_of t [] once there = absurd (cc (there))
 one_of t (x ∷ xs) once there = at (eqb x t) refl (one_of t xs once.1)
   where
     none : eqb x t ≡ true → filter (λ m. eqb m t) xs ≡ []
-    none same = filter_none (λ m. eqb m t) xs (All-weaker (λ y. eqb x y ≡ false) (λ y. eqb y t ≡ false) (λ y apart. grind (arith, nat_tests, apart, same)) xs once.0)
+    none same = filter_none (λ m. eqb m t) xs (All-weaker (λ y. eqb x y ≡ false) (λ y. eqb y t ≡ false) (λ y apart. grind (arith, nat_tests, apart, same)) xs
+        once.0)
 
-    at : (b : Bool) → eqb x t ≡ b → (has t xs ≡ true → filter (λ m. eqb m t) xs ≡ t ∷ []) → cond b (x ∷ filter (λ m. eqb m t) xs) (filter (λ m. eqb m t) xs) ≡ t ∷ []
+    at : (b : Bool) → eqb x t ≡ b → (has t xs ≡ true → filter (λ m. eqb m t) xs ≡ t ∷ []) → cond b (x ∷ filter (λ m. eqb m t) xs) (filter (λ m. eqb m t) xs) ≡ t
+        ∷ []
     at true same rest = ap (λ ys. x ∷ ys) (none same) ∙ ap (λ y. y ∷ []) (eqb-true x t same)
     at false other rest = rest (grind (arith, there, other))
 
 -- a ready task stands in a list of more than one where the row of its priority has more than one
-pub company : (view : CoresView) (row : List ℕ) (task : ℕ) → ready_list (task_at view.control task).in_use view ≡ row → IsDistinct eqb row → AllByRecursion (λ t. t < length view.control.tasks) view.ready → task < length view.control.tasks → has task view.ready ≡ true →
+pub company : (view : CoresView) (row : List ℕ) (task : ℕ) → ready_list (task_at view.control task).in_use view ≡ row → IsDistinct eqb row → AllByRecursion
+    (λ t. t < length view.control.tasks) view.ready → task < length view.control.tasks → has task view.ready ≡ true →
     ltb 1 (length (ready_in list_queues (task_at view.control task).in_use (bare_view view))) ≡ ltb 1 (length row)
 company view row task is once low within ready =
     let rank = λ (t : ℕ). (task_at view.control t).in_use in
@@ -162,20 +179,26 @@ sliced_where seen view =
     record view { control = ask_each 0 (λ core. seen core && shares_its_time list_queues (bare_view view) core) view.control }
 
 pub size_stays : (view later : CoresView) (seen : ℕ → Bool) → later ≡ sliced_where seen view → length later.control.cores ≡ length view.control.cores
-size_stays view later seen is = ap (λ (v : CoresView). length v.control.cores) is ∙ looks_length 0 view.control (λ core. seen core && shares_its_time list_queues (bare_view view) core)
+size_stays view later seen is = ap (λ (v : CoresView). length v.control.cores) is ∙ looks_length 0 view.control
+    (λ core. seen core && shares_its_time list_queues (bare_view view) core)
 
 -- a core that was not looked at is as it was
-pub due_stays : (view later : CoresView) (seen : ℕ → Bool) (core : ℕ) → core < length view.control.cores → later ≡ sliced_where seen view → seen core ≡ false → is_due later.control core ≡ is_due view.control core
+pub due_stays : (view later : CoresView) (seen : ℕ → Bool) (core : ℕ) → core < length view.control.cores → later ≡ sliced_where seen view → seen core ≡ false →
+    is_due later.control core ≡ is_due view.control core
 due_stays view later seen core low is unseen =
     let test : ℕ → Bool = λ core. seen core && shares_its_time list_queues (bare_view view) core in
     ap (λ (v : CoresView). is_due v.control core) is
-    ∙ ap (λ (look : CoreLook). look.pend || look.asked) (look_stays 0 view.control test core low (ap (λ b. b && shares_its_time list_queues (bare_view view) core) unseen))
+    ∙ ap (λ (look : CoreLook). look.pend || look.asked) (look_stays 0 view.control test core low
+    (ap (λ b. b && shares_its_time list_queues (bare_view view) core) unseen))
 
 -- one more core is looked at
-pub slice_more : (view later : CoresView) (seen next : ℕ → Bool) (core : ℕ) → core < length view.control.cores → later ≡ sliced_where seen view → seen core ≡ false → next core ≡ true → ((c : ℕ) → c ≢ core → seen c ≡ next c) →
+pub slice_more : (view later : CoresView) (seen next : ℕ → Bool) (core : ℕ) → core < length view.control.cores → later ≡ sliced_where seen view → seen core ≡
+    false → next core ≡ true → ((c : ℕ) → c ≢ core → seen c ≡ next c) →
     cond (shares_its_time list_queues (bare_view later) core) (record later { control = ask 0 core later.control }) later ≡ sliced_where next view
-slice_more view later seen next core low is unseen then others = subst (λ v. cond (shares_its_time list_queues (bare_view v) core) (record v { control = ask 0 core v.control }) v ≡ sliced_where next view) (sym is)
-    (ap (λ b. cond b (record before { control = ask 0 core before.control }) before) (shares_stays view (looks 0 view.control p) core (look_stays 0 view.control p core low p_here)) ∙ at (test core) refl)
+slice_more view later seen next core low is unseen then others = subst (λ v. cond (shares_its_time list_queues (bare_view v) core)
+    (record v { control = ask 0 core v.control }) v ≡ sliced_where next view) (sym is)
+    (ap (λ b. cond b (record before { control = ask 0 core before.control }) before)
+    (shares_stays view (looks 0 view.control p) core (look_stays 0 view.control p core low p_here)) ∙ at (test core) refl)
   where
     test : ℕ → Bool
     test = shares_its_time list_queues (bare_view view)
@@ -199,28 +222,38 @@ slice_more view later seen next core low is unseen then others = subst (λ v. co
     away c apart = ap (λ b. b && test c) (others c apart)
 
     at : (b : Bool) → test core ≡ b → cond b (record before { control = ask 0 core before.control }) before ≡ sliced_where next view
-    at true passes = ap (λ (control : Control). record view { control = control }) (asked_one 0 view.control p q core low p_here (q_here ∙ passes) (λ c within apart. away c apart))
+    at true passes = ap (λ (control : Control). record view { control = control })
+        (asked_one 0 view.control p q core low p_here (q_here ∙ passes) (λ c within apart. away c apart))
     at false fails = ap (λ (control : Control). record view { control = control }) (asked_alike 0 view.control p q (λ c within. elim (cases_eq c core) [
       | inl same ↦ rw same (p_here ∙ sym (q_here ∙ fails))
       | inr apart ↦ away c apart
     ]))
 
 -- no core whose task may share its time is looked at yet
-pub slice_none : (view : CoresView) (seen : ℕ → Bool) → ((c : ℕ) → c < length view.control.cores → seen c ≡ true → is_due view.control c ≡ true) → view ≡ sliced_where seen view
-slice_none view seen due = ap (λ (control : Control). record view { control = control }) (asked_none 0 view.control (λ c. seen c && shares_its_time list_queues (bare_view view) c) each)
+pub slice_none : (view : CoresView) (seen : ℕ → Bool) → ((c : ℕ) → c < length view.control.cores → seen c ≡ true → is_due view.control c ≡ true) → view ≡
+    sliced_where seen view
+slice_none view seen due = ap (λ (control : Control). record view { control = control })
+    (asked_none 0 view.control (λ c. seen c && shares_its_time list_queues (bare_view view) c) each)
   where
     each : (c : ℕ) → c < length view.control.cores → (seen c && shares_its_time list_queues (bare_view view) c) ≡ false
     each c low = at (seen c) refl
       where
         at : (b : Bool) → seen c ≡ b → (b && shares_its_time list_queues (bare_view view) c) ≡ false
-        at true looked = ap (λ (d : Bool). not d && (task_at view.control (core_at view.control c).current).preempt && has (core_at view.control c).current view.ready && ltb 1 (length (ready_in list_queues (task_at view.control (core_at view.control c).current).in_use (bare_view view)))) (due c low looked)
+        at true looked = ap (λ (d : Bool). not d && (task_at view.control (core_at view.control c).current).preempt && has (core_at view.control c).current
+            view.ready && ltb 1 (length (ready_in list_queues (task_at view.control (core_at view.control c).current).in_use (bare_view view))))
+            (due c low looked)
         at false _ = refl
 
-pub sliced_on : (view : CoresView) (seen : ℕ → Bool) → view.slicing ≡ true → ((c : ℕ) → seen c ≡ true) → sliced_where seen view ≡ cores_rule (sliced list_queues) view
+pub sliced_on : (view : CoresView) (seen : ℕ → Bool) → view.slicing ≡ true → ((c : ℕ) → seen c ≡ true) → sliced_where seen view ≡ cores_rule
+    (sliced list_queues) view
 unfolding sliced
-sliced_on view seen on all = ap (λ (control : Control). record view { control = control }) (asked_alike 0 view.control (λ c. seen c && shares_its_time list_queues (bare_view view) c) (shares_its_time list_queues (bare_view view)) (λ c low. ap (λ b. b && shares_its_time list_queues (bare_view view) c) (all c)))
-    ∙ ap (λ b. cores_of (cond b (record (bare_view view) { control = ask_each 0 (shares_its_time list_queues (bare_view view)) view.control }) (bare_view view))) (sym on)
+sliced_on view seen on all = ap (λ (control : Control). record view { control = control })
+    (asked_alike 0 view.control (λ c. seen c && shares_its_time list_queues (bare_view view) c) (shares_its_time list_queues (bare_view view))
+    (λ c low. ap (λ b. b && shares_its_time list_queues (bare_view view) c) (all c)))
+    ∙ ap (λ b. cores_of (cond b (record (bare_view view) { control = ask_each 0 (shares_its_time list_queues (bare_view view)) view.control })
+    (bare_view view))) (sym on)
 
 pub sliced_off : (view : CoresView) → view.slicing ≡ false → view ≡ cores_rule (sliced list_queues) view
 unfolding sliced
-sliced_off view off = ap (λ b. cores_of (cond b (record (bare_view view) { control = ask_each 0 (shares_its_time list_queues (bare_view view)) view.control }) (bare_view view))) (sym off)
+sliced_off view off = ap (λ b. cores_of (cond b (record (bare_view view) { control = ask_each 0 (shares_its_time list_queues (bare_view view)) view.control })
+    (bare_view view))) (sym off)

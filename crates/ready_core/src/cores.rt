@@ -581,8 +581,7 @@ impl Cores {
         requires { task < length self.now.control.tasks }
         ensures { result ≡ is_running self.now.control task }
     {
-        self.is_current(task)
-            && self.core_numbers().any(|core| self.running(core) == task && !self.flags(core).asked)
+        self.is_current(task) && self.its_core(task).is_some()
     }
 
     // Whether the core has the task and no other core asked it to switch.

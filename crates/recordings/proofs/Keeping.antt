@@ -31,7 +31,8 @@ pub no_fault : (check : Result (Unit {0}) Fault) → ¬ IsErr check → check �
 no_fault (Ok done) none = refl
 no_fault (Err why) none = absurd (none refl)
 
-pub start_is_recording : (header : Header) (entries : List Entry) (limit capacity : ℕ) (kernel : View) → header_check header ≡ Ok tt → StandsFor kernel (start header) → kernel.settings ≡ settings_of header → entries ≡ [] → limit ≤ capacity → IsRecording header entries limit capacity kernel
+pub start_is_recording : (header : Header) (entries : List Entry) (limit capacity : ℕ) (kernel : View) → header_check header ≡ Ok tt → StandsFor kernel
+    (start header) → kernel.settings ≡ settings_of header → entries ≡ [] → limit ≤ capacity → IsRecording header entries limit capacity kernel
 start_is_recording header entries limit capacity kernel passes stands settings none memory =
     subst (λ (es : List Entry). IsRecording header es limit capacity kernel) (sym none) (record {
       passes = passes;
@@ -63,7 +64,8 @@ module _ (header : Header) (entries later : List Entry) (limit capacity room : �
   before = record { header = header; entries = entries; limit = limit }
 
   pub step_is_recording : IsRecording header entries limit capacity kernel → IsFit before step
-      → core ≡ core_of step → reply ≡ (step_of step (end_of header entries)).0 → StandsFor next (step_of step (end_of header entries)).1 → next.settings ≡ kernel.settings
+      → core ≡ core_of step → reply ≡ (step_of step (end_of header entries)).0 → StandsFor next (step_of step (end_of header entries)).1 → next.settings ≡
+      kernel.settings
       → later ≡ entries ++ (record { core = core; step = step; reply = reply }) ∷ [] → room ≡ capacity
       → IsRecording header later limit room next
   step_is_recording kept fit own replies stands settings more stays =

@@ -1,7 +1,7 @@
 -- What a recording is to those who use it.
 use Rattle.std.specs.Prelude.{ℕ, List, [], ◌∷◌, ◌++◌, length, nat_lt, Option, Result, Ok, Err, is_ok, if◌then◌else◌}
-use Rattle.bench_types.specs.declared.act.Act.{Act}
-use Rattle.bench_types.specs.declared.act.Act.TheVariants as acts
+use Rattle.bench_types.specs.declared.core_action.CoreAction.{CoreAction}
+use Rattle.bench_types.specs.declared.core_action.CoreAction.TheVariants as core_actions
 use Rattle.bench_types.specs.declared.entry.Entry.{Entry}
 use Rattle.bench_types.specs.declared.header.Header.{Header}
 use Rattle.bench_types.specs.declared.kernel_data.Hold.{Hold}
@@ -79,21 +79,23 @@ answer_to_call core call view =
     else answer_in_room (call_on core call view) view
 
 -- the step of what the core does: a call is made by its current task
-abbrev pub act_on : ℕ → Act → RecordingView → Step
-act_on core (acts.Call call) view = call_on core call view
-act_on core (acts.Interrupt note) view = steps.Interrupt core note
-act_on core acts.Tick view = steps.Tick
-act_on core acts.Switch view = steps.Switch core
+abbrev pub act_on : ℕ → CoreAction → RecordingView → Step
+act_on core (core_actions.Call call) view = call_on core call view
+act_on core (core_actions.Interrupt note) view = steps.Interrupt core note
+act_on core core_actions.Tick view = steps.Tick
+act_on core core_actions.Switch view = steps.Switch core
 
 -- the answer to what the core does: G2 comes for calls alone
-abbrev pub answer_to_act : ℕ → Act → RecordingView → Result Answer RecordRefusal
-answer_to_act core (acts.Call call) view = answer_to_call core call view
-answer_to_act core (acts.Interrupt note) view = answer_in_room (steps.Interrupt core note) view
-answer_to_act core acts.Tick view = answer_in_room steps.Tick view
-answer_to_act core acts.Switch view = answer_in_room (steps.Switch core) view
+abbrev pub answer_to_core_action : ℕ → CoreAction → RecordingView → Result Answer RecordRefusal
+answer_to_core_action core (core_actions.Call call) view = answer_to_call core call view
+answer_to_core_action core (core_actions.Interrupt note) view =
+    answer_in_room (steps.Interrupt core note) view
+answer_to_core_action core core_actions.Tick view = answer_in_room steps.Tick view
+answer_to_core_action core core_actions.Switch view = answer_in_room (steps.Switch core) view
 
 -- The recording after what the core does: with the step's entry, or as it was where the step is
 -- refused.
-abbrev pub after_act : ℕ → Act → RecordingView → RecordingView
-after_act core act view =
-    if is_ok (answer_to_act core act view) then with_step (act_on core act view) view else view
+abbrev pub after_core_action : ℕ → CoreAction → RecordingView → RecordingView
+after_core_action core core_action view =
+    if is_ok (answer_to_core_action core core_action view)
+    then with_step (act_on core core_action view) view else view

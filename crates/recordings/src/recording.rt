@@ -1,16 +1,16 @@
 //! A kernel that records its steps.
 ghost use Rattle.std.specs.Prelude.{◌≡◌, ◌<◌, ◌≤◌, ◌+◌, ◌↔◌, length, option_map, is_some, false, [], Ok, Err, IsErr, IfOk, OnOk, OnErr};
 ghost use Rattle.std.specs.Vec.{vec_capacity};
-ghost use Rattle.bench_types.specs.Act.{IsCheckedAct};
+ghost use Rattle.bench_types.specs.CoreAction.{IsCheckedCoreAction};
 ghost use Rattle.bench_types.specs.Header.{header_check};
-ghost use Rattle.bench_types.specs.Step.{settings_of, note_check, IsActionOfWord, IsCheckedCall, IsCheckedStep};
+ghost use Rattle.bench_types.specs.Step.{settings_of, note_check, IsNotifyActionOfWord, IsCheckedCall, IsCheckedStep};
 ghost use Rattle.bench_model.specs.History.{is_kept_out, places_of, AreByCurrent, IsByCurrent, IsGrowthBy, IsLegal, IsNext};
 ghost use Rattle.bench_model.specs.Holds.{depth_of, depth_by, is_held_by, is_held_elsewhere};
 ghost use Rattle.history_laws.specs.SoundHistories.{IsSoundHistory};
 ghost use Rattle.recordings.specs.Kept.{IsRecording};
-ghost use Rattle.recordings.specs.RecordingView.{empty_recording, entry_of, table_of, hold_of, task_on, room_of, with_step, answer_to, answer_in_room, call_on, answer_to_call, act_on, answer_to_act, after_act};
+ghost use Rattle.recordings.specs.RecordingView.{empty_recording, entry_of, table_of, hold_of, task_on, room_of, with_step, answer_to, answer_in_room, call_on, answer_to_call, act_on, answer_to_core_action, after_core_action};
 
-use bench_types::{Act, Call, Entry, Header, Note, Reply, Settings, Step};
+use bench_types::{Call, CoreAction, Entry, Header, Note, Reply, Settings, Step};
 use smp_kernel::{Kernel, Meter, StartFault};
 use std::alloc::{AllocError, Global};
 use std::marker::Model;
@@ -197,7 +197,7 @@ impl Recording {
     pub fn interrupt(&mut self, core: u32, note: Note) -> Result<Answer, RecordRefusal>
         requires core { core < self.old.header.config.cores }
         requires note { note_check (settings_of self.old.header) note ≡ Ok tt }
-        requires words { IsActionOfWord note.action }
+        requires words { IsNotifyActionOfWord note.action }
         ensures answer { result ≡ answer_in_room (Step.Interrupt core note) self.old }
         ensures history { OnOk result (self.new ≡ with_step (Step.Interrupt core note) self.old) }
         ensures unchanged { OnErr result (self.new ≡ self.old) }
@@ -235,19 +235,20 @@ impl Recording {
     /// Does what the core would do next, as [`Recording::call`], [`Recording::interrupt`],
     /// [`Recording::tick`] or [`Recording::switch`], with their refusals.
     #[inline(always)]
-    pub fn act(&mut self, core: u32, act: Act) -> Result<Answer, RecordRefusal>
+    pub fn perform(&mut self, core: u32, core_action: CoreAction) -> Result<Answer, RecordRefusal>
         requires core { core < self.old.header.config.cores }
-        requires act { IsCheckedAct (settings_of self.old.header) core act }
-        requires unheld { is_kept_out (hold_of self.old) (act_on core act self.old) ≡ false }
-        ensures answer { result ≡ answer_to_act core act self.old }
-        ensures history { self.new ≡ after_act core act self.old }
+        requires core_action { IsCheckedCoreAction (settings_of self.old.header) core core_action }
+        requires unheld { is_kept_out (hold_of self.old) (act_on core core_action self.old)
+            ≡ false }
+        ensures answer { result ≡ answer_to_core_action core core_action self.old }
+        ensures history { self.new ≡ after_core_action core core_action self.old }
         ensures growth { IsGrowthBy core self.old.entries self.new.entries }
     {
-        match act {
-            Act::Call(call) => self.call(core, call),
-            Act::Interrupt(note) => self.interrupt(core, note),
-            Act::Tick => self.tick(),
-            Act::Switch => self.switch(core),
+        match core_action {
+            CoreAction::Call(call) => self.call(core, call),
+            CoreAction::Interrupt(note) => self.interrupt(core, note),
+            CoreAction::Tick => self.tick(),
+            CoreAction::Switch => self.switch(core),
         }
     }
 

@@ -1,5 +1,5 @@
 //! The calls that take memory, by name.
-use crate::outcome::{Outcome, Told};
+use crate::call_result::{CallResult, Printed};
 use crate::{commands, kernels, rigs, stores, texts, trials};
 use std::alloc::{AllocError, Global};
 use std::sync::Wait;
@@ -12,7 +12,7 @@ pub(crate) enum Call {
     Copy,
     Open,
     Apply,
-    Traced,
+    Results,
     Trial,
     State,
     Row,
@@ -37,7 +37,7 @@ pub(crate) const ALL: [Call; 21] = [
     Call::Copy,
     Call::Open,
     Call::Apply,
-    Call::Traced,
+    Call::Results,
     Call::Trial,
     Call::State,
     Call::Row,
@@ -64,7 +64,7 @@ impl Call {
             Call::Copy => "Kernel::copy",
             Call::Open => "Store::open",
             Call::Apply => "Store::apply",
-            Call::Traced => "Store::traced",
+            Call::Results => "Store::traced",
             Call::Trial => "Store::trial",
             Call::State => "Store::state",
             Call::Row => "Store::row",
@@ -85,8 +85,8 @@ impl Call {
     }
 
     /// Makes it, and says what came of it.
-    pub(crate) fn make<R: Threads + Wait + Sync>(self, rt: &R, host: &HostRuntime) -> Told {
-        Told(self.outcome(rt, host))
+    pub(crate) fn make<R: Threads + Wait + Sync>(self, rt: &R, host: &HostRuntime) -> Printed {
+        Printed(self.call_result(rt, host))
     }
 
     /// Makes it once so many blocks of memory were taken.
@@ -95,20 +95,24 @@ impl Call {
         rt: &R,
         host: &HostRuntime,
         blocks: u32,
-    ) -> Told {
+    ) -> Printed {
         match take_blocks(host.alloc(), blocks) {
             Ok(()) => self.make(rt, host),
-            Err(AllocError) => Told(None),
+            Err(AllocError) => Printed(None),
         }
     }
 
-    fn outcome<R: Threads + Wait + Sync>(self, rt: &R, host: &HostRuntime) -> Option<Outcome> {
+    fn call_result<R: Threads + Wait + Sync>(
+        self,
+        rt: &R,
+        host: &HostRuntime,
+    ) -> Option<CallResult> {
         match self {
             Call::Start => kernels::start(host),
             Call::Copy => kernels::copy(host),
             Call::Open => stores::open(host),
             Call::Apply => stores::apply(host),
-            Call::Traced => stores::traced(host),
+            Call::Results => stores::with_results(host),
             Call::Trial => trials::trial(host),
             Call::State => stores::state(host),
             Call::Row => stores::row(host),

@@ -2,7 +2,7 @@
 ghost use Rattle.std.specs.Prelude.{◌≡◌, true};
 ghost use Rattle.bench_commands.specs.Run.{has_span};
 
-use crate::outcome::Outcome;
+use crate::call_result::CallResult;
 use bench_commands::{Gate, Mode, Status, record, run};
 use program_io::{Counted, RunFault};
 use std::io::{self, Write};
@@ -82,17 +82,17 @@ impl Gate for Open {
 }
 
 /// What came of a command that is to write the lines, where it ended so and the sink took that.
-fn outcome_of(status: Status, sink: &Sink, lines: &str) -> Outcome {
+fn outcome_of(status: Status, sink: &Sink, lines: &str) -> CallResult {
     match status {
-        Status::Fault(RunFault::Memory) => Outcome::refused(sink.taken().is_empty()),
-        _ => Outcome::answered(status == Status::Fine && sink.taken() == lines.as_bytes()),
+        Status::Fault(RunFault::Memory) => CallResult::refused(sink.taken().is_empty()),
+        _ => CallResult::answered(status == Status::Fine && sink.taken() == lines.as_bytes()),
     }
 }
 
 /// The second outcome, too, where the first was that memory was refused.
-fn with_second(first: Outcome, second: Outcome) -> Outcome {
+fn with_second(first: CallResult, second: CallResult) -> CallResult {
     match first {
-        Outcome::Refused => Outcome::refused(second == Outcome::Answered),
+        CallResult::Refused => CallResult::refused(second == CallResult::Answered),
         _ => first,
     }
 }
@@ -103,7 +103,7 @@ fn replayed<R: Threads + Sync>(
     text: &str,
     mode: &Mode,
     lines: &str,
-) -> Outcome
+) -> CallResult
     requires { has_span mode.now ≡ true }
 {
     let mut sink = Sink::new();
@@ -115,32 +115,32 @@ fn replayed<R: Threads + Sync>(
 }
 
 /// The replay of a session.
-pub(crate) fn plain<R: Threads + Sync>(rt: &R, host: &HostRuntime) -> Outcome {
+pub(crate) fn plain<R: Threads + Sync>(rt: &R, host: &HostRuntime) -> CallResult {
     let mode = Mode::Replay {
         span: 64,
         tally: false,
     };
     let first = replayed(rt, host, SESSION, &mode, LINES);
     match first {
-        Outcome::Refused => with_second(first, replayed(rt, host, SESSION, &mode, LINES)),
+        CallResult::Refused => with_second(first, replayed(rt, host, SESSION, &mode, LINES)),
         _ => first,
     }
 }
 
 /// The replay of a bench document, with tallies.
-pub(crate) fn edited<R: Threads + Sync>(rt: &R, host: &HostRuntime) -> Outcome {
+pub(crate) fn edited<R: Threads + Sync>(rt: &R, host: &HostRuntime) -> CallResult {
     let mode = Mode::Replay {
         span: 1,
         tally: true,
     };
     let first = replayed(rt, host, BENCH, &mode, EDITED_LINES);
     match first {
-        Outcome::Refused => with_second(first, replayed(rt, host, BENCH, &mode, EDITED_LINES)),
+        CallResult::Refused => with_second(first, replayed(rt, host, BENCH, &mode, EDITED_LINES)),
         _ => first,
     }
 }
 
-fn recording<R: Threads + Wait + Sync>(rt: &R, host: &HostRuntime) -> Outcome {
+fn recording<R: Threads + Wait + Sync>(rt: &R, host: &HostRuntime) -> CallResult {
     let mut sink = Sink::new();
     let mut bytes = RIG.as_bytes();
     let mut reader = Counted::new(&mut bytes);
@@ -150,10 +150,10 @@ fn recording<R: Threads + Wait + Sync>(rt: &R, host: &HostRuntime) -> Outcome {
 }
 
 /// The recording of a rig.
-pub(crate) fn recorded<R: Threads + Wait + Sync>(rt: &R, host: &HostRuntime) -> Outcome {
+pub(crate) fn recorded<R: Threads + Wait + Sync>(rt: &R, host: &HostRuntime) -> CallResult {
     let first = recording(rt, host);
     match first {
-        Outcome::Refused => with_second(first, recording(rt, host)),
+        CallResult::Refused => with_second(first, recording(rt, host)),
         _ => first,
     }
 }

@@ -1,5 +1,5 @@
 //! Calls of a kernel.
-use crate::outcome::Outcome;
+use crate::call_result::CallResult;
 use crate::worked::header;
 use bench_types::Header;
 use smp_kernel::{Kernel, StartFault};
@@ -16,13 +16,13 @@ fn is_at_start(kernel: &Kernel) -> bool {
     kernel.settings().cores == 2 && kernel.running(0) == 2 && kernel.running(1) == 3
 }
 
-pub(crate) fn start(rt: &HostRuntime) -> Option<Outcome> {
+pub(crate) fn start(rt: &HostRuntime) -> Option<CallResult> {
     let header = header(rt.alloc())?;
     Some(match Kernel::start(rt.alloc(), &header) {
-        Ok(kernel) => Outcome::answered(is_at_start(&kernel)),
+        Ok(kernel) => CallResult::answered(is_at_start(&kernel)),
         Err(fault) => {
             let is_want = fault == StartFault::NoMemory;
-            Outcome::refused(is_want && starts(rt.alloc(), &header))
+            CallResult::refused(is_want && starts(rt.alloc(), &header))
         }
     })
 }
@@ -34,21 +34,21 @@ fn starts(alloc: Global, header: &Header) -> bool {
     }
 }
 
-pub(crate) fn copy(rt: &HostRuntime) -> Option<Outcome> {
+pub(crate) fn copy(rt: &HostRuntime) -> Option<CallResult> {
     let kernel = started(rt.alloc())?;
     copy_beside_twin(rt.alloc(), &kernel)
 }
 
 // A kernel is dear to drop, so each of the two is made where one call follows.
-fn copy_beside_twin(alloc: Global, kernel: &Kernel) -> Option<Outcome> {
+fn copy_beside_twin(alloc: Global, kernel: &Kernel) -> Option<CallResult> {
     let twin = started(alloc)?;
     Some(copied(alloc, kernel, &twin))
 }
 
-fn copied(alloc: Global, kernel: &Kernel, twin: &Kernel) -> Outcome {
+fn copied(alloc: Global, kernel: &Kernel, twin: &Kernel) -> CallResult {
     match kernel.copy(alloc) {
-        Ok(copy) => Outcome::answered(kernel.same(&copy)),
-        Err(_) => Outcome::refused(kernel.same(twin) && copies(alloc, kernel)),
+        Ok(copy) => CallResult::answered(kernel.same(&copy)),
+        Err(_) => CallResult::refused(kernel.same(twin) && copies(alloc, kernel)),
     }
 }
 

@@ -6,9 +6,9 @@
 #![tactic(auto)]
 
 mod call;
+mod call_result;
 mod commands;
 mod kernels;
-mod outcome;
 mod rigs;
 mod stores;
 mod texts;

@@ -1,7 +1,7 @@
 //! Calls that make a lock pair or a rig, or copy what was recorded.
 ghost use Rattle.std.specs.Prelude.{◌≡◌, [], IfSome};
 
-use crate::outcome::Outcome;
+use crate::call_result::CallResult;
 use crate::worked::{STEPS, header};
 use arrayvec::ArrayVec;
 use bench_types::{Entry, Header, Items, Reply, Step};
@@ -21,12 +21,12 @@ fn recording(rt: &HostRuntime, header: &Header) -> Option<Recording>
     Recording::new(rt.alloc(), Meter::new(rt), header, LIMIT).ok()
 }
 
-pub(crate) fn lock_pair(rt: &HostRuntime) -> Option<Outcome> {
+pub(crate) fn lock_pair(rt: &HostRuntime) -> Option<CallResult> {
     let header = header(rt.alloc())?;
     let (first, second) = (recording(rt, &header)?, recording(rt, &header)?);
     Some(match seats_of_pair(rt.alloc(), first) {
-        Ok(seats) => Outcome::answered(seats == 2),
-        Err(AllocError) => Outcome::refused(seats_of_pair(rt.alloc(), second) == Ok(2)),
+        Ok(seats) => CallResult::answered(seats == 2),
+        Err(AllocError) => CallResult::refused(seats_of_pair(rt.alloc(), second) == Ok(2)),
     })
 }
 
@@ -38,13 +38,13 @@ fn seats_of_pair(alloc: Global, recording: Recording) -> Result<usize, AllocErro
     Ok(seats.len())
 }
 
-pub(crate) fn rig(rt: &HostRuntime) -> Option<Outcome> {
+pub(crate) fn rig(rt: &HostRuntime) -> Option<CallResult> {
     let header = header(rt.alloc())?;
     Some(match seats_of_rig(rt, &header) {
-        Ok(seats) => Outcome::answered(seats == 2),
+        Ok(seats) => CallResult::answered(seats == 2),
         Err(fault) => {
-            let again = seats_of_rig(rt, &header);
-            Outcome::refused(fault == RigFault::NoMemory && again == Ok(2))
+            let retried = seats_of_rig(rt, &header);
+            CallResult::refused(fault == RigFault::NoMemory && retried == Ok(2))
         }
     })
 }
@@ -73,11 +73,11 @@ fn entry_of(step: Step) -> Entry {
     }
 }
 
-pub(crate) fn steps(rt: &HostRuntime) -> Option<Outcome> {
+pub(crate) fn steps(rt: &HostRuntime) -> Option<CallResult> {
     let recorded = recorded(rt.alloc())?;
     Some(match recorded.steps(rt.alloc()) {
-        Ok(steps) => Outcome::answered(steps.as_slice() == STEPS.as_slice()),
-        Err(AllocError) => Outcome::refused(gives_steps(rt.alloc(), &recorded)),
+        Ok(steps) => CallResult::answered(steps.as_slice() == STEPS.as_slice()),
+        Err(AllocError) => CallResult::refused(gives_steps(rt.alloc(), &recorded)),
     })
 }
 

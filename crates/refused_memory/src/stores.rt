@@ -1,8 +1,10 @@
 //! Calls of a store.
-use crate::outcome::Outcome;
+use crate::call_result::CallResult;
 use crate::worked::{STEPS, header, steps};
 use bench_types::{Call, Edit, Header, Step};
-use session_store::{OpenFault, OpenRefusal, Outcome as Replayed, Store, StoreFault, Untraced};
+use session_store::{
+    NoResults, OpenFault, OpenRefusal, Outcome as Replayed, Results, Store, StoreFault,
+};
 use smp_kernel::Meter;
 use std::alloc::{AllocError, Global};
 
@@ -86,18 +88,18 @@ pub(crate) fn open_twins(rt: &HostRuntime) -> Option<Twins> {
     Some(Twins { one, two })
 }
 
-pub(crate) fn open(rt: &HostRuntime) -> Option<Outcome> {
+pub(crate) fn open(rt: &HostRuntime) -> Option<CallResult> {
     let header = header(rt.alloc())?;
     Some(open_with(rt, header, steps(rt.alloc())?))
 }
 
-fn open_with(rt: &HostRuntime, header: Header, steps: Vec<Step>) -> Outcome {
+fn open_with(rt: &HostRuntime, header: Header, steps: Vec<Step>) -> CallResult {
     let mut meter = Meter::new(rt);
-    match Store::open(rt.alloc(), header, steps, SPAN, &mut meter) {
-        Ok(store) => Outcome::answered(store.len() == 6 && meter.count() == 6),
+    match Store::<Results>::open(rt.alloc(), header, steps, SPAN, &mut meter) {
+        Ok(store) => CallResult::answered(store.len() == 6 && meter.count() == 6),
         Err(fault) => {
             let is_right = meter.count() <= 6 && is_handed_back(&fault);
-            Outcome::refused(is_right && opens(rt, fault))
+            CallResult::refused(is_right && opens(rt, fault))
         }
     }
 }
@@ -114,26 +116,26 @@ fn is_handed_back(fault: &OpenFault) -> bool {
 fn opens(rt: &HostRuntime, fault: OpenFault) -> bool {
     let OpenFault { header, steps, .. } = fault;
     let mut meter = Meter::new(rt);
-    match Store::open(rt.alloc(), header, steps.into_vec(), SPAN, &mut meter) {
+    match Store::<Results>::open(rt.alloc(), header, steps.into_vec(), SPAN, &mut meter) {
         Ok(store) => store.len() == 6 && meter.count() == 6,
         Err(_) => false,
     }
 }
 
-pub(crate) fn apply(rt: &HostRuntime) -> Option<Outcome> {
+pub(crate) fn apply(rt: &HostRuntime) -> Option<CallResult> {
     let mut twins = open_twins(rt)?;
     apply_all(rt.alloc(), &mut twins.one, &mut twins.two)
 }
 
 /// The edits are made in their order, and each also in a second store, which shows what the first
 /// one was before the next edit.
-fn apply_all(alloc: Global, one: &mut Opened, twin: &mut Opened) -> Option<Outcome> {
-    let mut outcome = Outcome::Answered;
+fn apply_all(alloc: Global, one: &mut Opened, twin: &mut Opened) -> Option<CallResult> {
+    let mut call_result = CallResult::Answered;
     for edit in &edits() {
-        outcome = outcome.then(applied(alloc, one, twin, edit).ok()?);
+        call_result = call_result.then(applied(alloc, one, twin, edit).ok()?);
         twin.store.apply(alloc, edit.0, &mut twin.meter).ok()?;
     }
-    Some(outcome)
+    Some(call_result)
 }
 
 fn applied(
@@ -141,50 +143,50 @@ fn applied(
     one: &mut Opened,
     twin: &Opened,
     edit: &(Edit, Replayed),
-) -> Result<Outcome, AllocError> {
+) -> Result<CallResult, AllocError> {
     let (edit, wanted) = *edit;
     let most = one.meter.count().saturating_add(u64::from(wanted.replayed));
     let answer = one.store.apply(alloc, edit, &mut one.meter);
     if answer.is_ok() {
         let is_right = answer == Ok(wanted) && one.meter.count() == most;
-        return Ok(Outcome::answered(is_right));
+        return Ok(CallResult::answered(is_right));
     }
     let is_right = answer == Err(StoreFault::NoMemory) && one.meter.count() <= most;
     let stays = is_same(alloc, &one.store, &twin.store)?;
-    let again = one.store.apply(alloc, edit, &mut one.meter);
-    Ok(Outcome::refused(is_right && stays && again == Ok(wanted)))
+    let retried = one.store.apply(alloc, edit, &mut one.meter);
+    Ok(CallResult::refused(is_right && stays && retried == Ok(wanted)))
 }
 
 /// A store of the worked session that keeps nothing of its replay, with the meter of its steps.
 #[derive(Drop)]
-struct Begun {
-    store: Store<Untraced>,
+struct OpenStore {
+    store: Store<NoResults>,
     meter: Meter,
 }
 
-fn begin_worked(rt: &HostRuntime) -> Option<Begun> {
+fn begin_worked(rt: &HostRuntime) -> Option<OpenStore> {
     let header = header(rt.alloc())?;
     let steps = steps(rt.alloc())?;
     let mut meter = Meter::new(rt);
-    let store = Store::open_untraced(rt.alloc(), header, steps, SPAN, &mut meter).ok()?;
-    Some(Begun { store, meter })
+    let store = Store::<NoResults>::open(rt.alloc(), header, steps, SPAN, &mut meter).ok()?;
+    Some(OpenStore { store, meter })
 }
 
 /// Where memory is refused the store is gone, so another one is opened.
-pub(crate) fn traced(rt: &HostRuntime) -> Option<Outcome> {
-    let Begun { store, mut meter } = begin_worked(rt)?;
-    Some(match store.traced(rt.alloc(), &mut meter) {
-        Ok(store) => Outcome::answered(is_whole(&store) && meter.count() == 12),
-        Err(AllocError) => Outcome::refused(meter.count() <= 12 && is_traced(rt)),
+pub(crate) fn with_results(rt: &HostRuntime) -> Option<CallResult> {
+    let OpenStore { store, mut meter } = begin_worked(rt)?;
+    Some(match store.with_results(rt.alloc(), &mut meter) {
+        Ok(store) => CallResult::answered(is_whole(&store) && meter.count() == 12),
+        Err(AllocError) => CallResult::refused(meter.count() <= 12 && has_results(rt)),
     })
 }
 
 /// Whether another one is traced now.
-fn is_traced(rt: &HostRuntime) -> bool {
-    let Some(Begun { store, mut meter }) = begin_worked(rt) else {
+fn has_results(rt: &HostRuntime) -> bool {
+    let Some(OpenStore { store, mut meter }) = begin_worked(rt) else {
         return false;
     };
-    match store.traced(rt.alloc(), &mut meter) {
+    match store.with_results(rt.alloc(), &mut meter) {
         Ok(store) => is_whole(&store),
         Err(AllocError) => false,
     }
@@ -220,14 +222,14 @@ fn tallied(alloc: Global, store: &Store) -> Result<String, AllocError> {
     store.tallies(alloc)?.text(alloc, store.header())
 }
 
-pub(crate) fn state(rt: &HostRuntime) -> Option<Outcome> {
+pub(crate) fn state(rt: &HostRuntime) -> Option<CallResult> {
     let mut opened = open_worked(rt)?;
     Some(match tick_at_5(rt.alloc(), &mut opened) {
-        Ok(tick) => Outcome::answered(tick == Some(3) && opened.meter.count() == 7),
+        Ok(tick) => CallResult::answered(tick == Some(3) && opened.meter.count() == 7),
         Err(AllocError) => {
             let is_right = opened.meter.count() <= 7;
-            let again = tick_at_5(rt.alloc(), &mut opened);
-            Outcome::refused(is_right && again == Ok(Some(3)))
+            let retried = tick_at_5(rt.alloc(), &mut opened);
+            CallResult::refused(is_right && retried == Ok(Some(3)))
         }
     })
 }
@@ -238,13 +240,13 @@ fn tick_at_5(alloc: Global, opened: &mut Opened) -> Result<Option<u32>, AllocErr
     Ok(kernel.map(|kernel| kernel.tick()))
 }
 
-pub(crate) fn row(rt: &HostRuntime) -> Option<Outcome> {
+pub(crate) fn row(rt: &HostRuntime) -> Option<CallResult> {
     let opened = open_worked(rt)?;
     Some(match is_row_of_5(rt.alloc(), &opened.store) {
-        Ok(is_right) => Outcome::answered(is_right),
+        Ok(is_right) => CallResult::answered(is_right),
         Err(AllocError) => {
-            let again = is_row_of_5(rt.alloc(), &opened.store);
-            Outcome::refused(again == Ok(true))
+            let retried = is_row_of_5(rt.alloc(), &opened.store);
+            CallResult::refused(retried == Ok(true))
         }
     })
 }
@@ -259,11 +261,11 @@ fn is_row_of_5(alloc: Global, store: &Store) -> Result<bool, AllocError> {
     })
 }
 
-pub(crate) fn tallies(rt: &HostRuntime) -> Option<Outcome> {
+pub(crate) fn tallies(rt: &HostRuntime) -> Option<CallResult> {
     let opened = open_worked(rt)?;
     Some(match tallied(rt.alloc(), &opened.store) {
-        Ok(text) => Outcome::answered(text.as_str() == TALLIES),
-        Err(AllocError) => Outcome::refused(is_tallied(rt.alloc(), &opened.store)),
+        Ok(text) => CallResult::answered(text.as_str() == TALLIES),
+        Err(AllocError) => CallResult::refused(is_tallied(rt.alloc(), &opened.store)),
     })
 }
 

@@ -2,7 +2,7 @@
 ghost use Rattle.std.specs.Prelude.{◌≡◌, IfSome};
 ghost use Rattle.bench_types.specs.Session.{IsSession};
 
-use crate::outcome::Outcome;
+use crate::call_result::CallResult;
 use crate::worked::header;
 use bench_types::{Call, Edit, Header, Step};
 use session_text::{TextFault, Why, read_bench, read_edit, read_rig, read_session};
@@ -42,12 +42,12 @@ fn is_session(read: &(Header, Vec<Step>)) -> bool {
     read.0.tasks.as_slice().len() == 3 && read.1.as_slice() == STEPS.as_slice()
 }
 
-pub(crate) fn session(alloc: Global) -> Outcome {
+pub(crate) fn session(alloc: Global) -> CallResult {
     match read_session(alloc, SESSION.as_bytes()) {
-        Ok(read) => Outcome::answered(is_session(&read)),
+        Ok(read) => CallResult::answered(is_session(&read)),
         Err(fault) => {
-            let again = sessions(alloc).is_some_and(|read| is_session(&read));
-            Outcome::refused(is_want(&fault) && again)
+            let retried = sessions(alloc).is_some_and(|read| is_session(&read));
+            CallResult::refused(is_want(&fault) && retried)
         }
     }
 }
@@ -59,12 +59,12 @@ fn reads_bench(alloc: Global) -> Result<bool, TextFault> {
     Ok(is_step && bench.edits.as_slice() == [Edit::Remove { at: 0 }].as_slice())
 }
 
-pub(crate) fn bench(alloc: Global) -> Outcome {
+pub(crate) fn bench(alloc: Global) -> CallResult {
     match reads_bench(alloc) {
-        Ok(is_right) => Outcome::answered(is_right),
+        Ok(is_right) => CallResult::answered(is_right),
         Err(fault) => {
-            let again = reads_bench(alloc).unwrap_or(false);
-            Outcome::refused(is_want(&fault) && again)
+            let retried = reads_bench(alloc).unwrap_or(false);
+            CallResult::refused(is_want(&fault) && retried)
         }
     }
 }
@@ -79,13 +79,13 @@ const A_DELAYS: Edit = Edit::Insert {
     },
 };
 
-pub(crate) fn edit(alloc: Global) -> Option<Outcome> {
+pub(crate) fn edit(alloc: Global) -> Option<CallResult> {
     let header = header(alloc)?;
     Some(match read_edit(alloc, EDIT.as_bytes(), &header) {
-        Ok(edit) => Outcome::answered(edit == A_DELAYS),
+        Ok(edit) => CallResult::answered(edit == A_DELAYS),
         Err(fault) => {
-            let again = read_edit(alloc, EDIT.as_bytes(), &header).ok();
-            Outcome::refused(is_want(&fault) && again == Some(A_DELAYS))
+            let retried = read_edit(alloc, EDIT.as_bytes(), &header).ok();
+            CallResult::refused(is_want(&fault) && retried == Some(A_DELAYS))
         }
     })
 }
@@ -96,21 +96,21 @@ fn reads_rig(alloc: Global) -> Result<bool, TextFault> {
     Ok(rig.limit == 10 && rig.scripts.as_slice().len() == 2)
 }
 
-pub(crate) fn rig(alloc: Global) -> Outcome {
+pub(crate) fn rig(alloc: Global) -> CallResult {
     match reads_rig(alloc) {
-        Ok(is_right) => Outcome::answered(is_right),
+        Ok(is_right) => CallResult::answered(is_right),
         Err(fault) => {
-            let again = reads_rig(alloc).unwrap_or(false);
-            Outcome::refused(is_want(&fault) && again)
+            let retried = reads_rig(alloc).unwrap_or(false);
+            CallResult::refused(is_want(&fault) && retried)
         }
     }
 }
 
-pub(crate) fn written(alloc: Global) -> Option<Outcome> {
+pub(crate) fn written(alloc: Global) -> Option<CallResult> {
     let (header, steps) = sessions(alloc)?;
     Some(match writes(alloc, &header, &steps) {
-        Ok(is_right) => Outcome::answered(is_right),
-        Err(AllocError) => Outcome::refused(writes(alloc, &header, &steps) == Ok(true)),
+        Ok(is_right) => CallResult::answered(is_right),
+        Err(AllocError) => CallResult::refused(writes(alloc, &header, &steps) == Ok(true)),
     })
 }
 

@@ -1,5 +1,5 @@
 //! Trials of edits, which leave a store as it was.
-use crate::outcome::Outcome;
+use crate::call_result::CallResult;
 use crate::stores::{Opened, edits, is_same, open_twins};
 use bench_reports::Tallies;
 use bench_types::Edit;
@@ -17,17 +17,17 @@ task B run 0 4 wait 0 inverted 0 in 0 displaced 0 timeouts 0 top 1
 task C run 0 0 wait 4 inverted 0 in 0 displaced 0 timeouts 0 top 1
 ";
 
-pub(crate) fn trial(rt: &HostRuntime) -> Option<Outcome> {
+pub(crate) fn trial(rt: &HostRuntime) -> Option<CallResult> {
     let mut twins = open_twins(rt)?;
     tried(rt.alloc(), &mut twins.one, &twins.two)
 }
 
-fn tried(alloc: Global, one: &mut Opened, twin: &Opened) -> Option<Outcome> {
+fn tried(alloc: Global, one: &mut Opened, twin: &Opened) -> Option<CallResult> {
     let [(edit, wanted), ..] = edits();
     let most = one.meter.count().saturating_add(u64::from(wanted.replayed));
     match one.store.trial(alloc, edit, &mut one.meter) {
-        Ok((outcome, tallies)) => {
-            let is_right = outcome == wanted && one.meter.count() == most;
+        Ok((call_result, tallies)) => {
+            let is_right = call_result == wanted && one.meter.count() == most;
             answered(alloc, &one.store, is_right, &tallies)
         }
         Err(fault) => {
@@ -37,20 +37,20 @@ fn tried(alloc: Global, one: &mut Opened, twin: &Opened) -> Option<Outcome> {
     }
 }
 
-fn answered(alloc: Global, store: &Store, is_right: bool, tallies: &Tallies) -> Option<Outcome> {
+fn answered(alloc: Global, store: &Store, is_right: bool, tallies: &Tallies) -> Option<CallResult> {
     let text = tallies.text(alloc, store.header()).ok()?;
-    Some(Outcome::answered(is_right && text.as_str() == TALLIES))
+    Some(CallResult::answered(is_right && text.as_str() == TALLIES))
 }
 
-fn refused(alloc: Global, one: &mut Opened, twin: &Opened, is_right: bool) -> Option<Outcome> {
+fn refused(alloc: Global, one: &mut Opened, twin: &Opened, is_right: bool) -> Option<CallResult> {
     let stays = is_same(alloc, &one.store, &twin.store).ok()?;
-    Some(Outcome::refused(is_right && stays && is_tried(alloc, one)))
+    Some(CallResult::refused(is_right && stays && is_tried(alloc, one)))
 }
 
 fn is_tried(alloc: Global, one: &mut Opened) -> bool {
     let [(edit, wanted), ..] = edits();
     match one.store.trial(alloc, edit, &mut one.meter) {
-        Ok((outcome, _)) => outcome == wanted,
+        Ok((call_result, _)) => call_result == wanted,
         Err(_) => false,
     }
 }
@@ -61,7 +61,7 @@ fn candidates() -> [Edit; 2] {
     [edit, Edit::Remove { at: 6 }]
 }
 
-pub(crate) fn all<R: Threads + Sync>(rt: &R, host: &HostRuntime) -> Option<Outcome> {
+pub(crate) fn all<R: Threads + Sync>(rt: &R, host: &HostRuntime) -> Option<CallResult> {
     let twins = open_twins(host)?;
     all_beside_twin(rt, host, &twins.one.store, &twins.two.store)
 }
@@ -72,29 +72,35 @@ fn all_beside_twin<R: Threads + Sync>(
     host: &HostRuntime,
     store: &Store,
     twin: &Store,
-) -> Option<Outcome> {
+) -> Option<CallResult> {
     let first = tried_all(rt, host, store);
-    if first == Outcome::Answered {
+    if first == CallResult::Answered {
         return Some(first);
     }
     let stays = is_same(host.alloc(), store, twin).ok()?;
-    let again = tried_all(rt, host, store);
-    Some(Outcome::refused(stays && first == Outcome::Refused && again == Outcome::Answered))
+    let retried = tried_all(rt, host, store);
+    Some(CallResult::refused(
+        stays && first == CallResult::Refused && retried == CallResult::Answered,
+    ))
 }
 
-fn tried_all<R: Threads + Sync>(rt: &R, host: &HostRuntime, store: &Store) -> Outcome {
+fn tried_all<R: Threads + Sync>(rt: &R, host: &HostRuntime, store: &Store) -> CallResult {
     match try_all(rt, host, host.alloc(), store, &candidates()) {
         Ok(tried) => outcome_of(&tried),
-        Err(AllocError) => Outcome::Refused,
+        Err(AllocError) => CallResult::Refused,
     }
 }
 
-fn outcome_of(tried: &[Result<(Replayed, Tallies), StoreFault>]) -> Outcome {
+fn outcome_of(tried: &[Result<(Replayed, Tallies), StoreFault>]) -> CallResult {
     let [(_, wanted), ..] = edits();
     match tried {
-        [Ok((outcome, _)), Err(StoreFault::Edit(_))] => Outcome::answered(*outcome == wanted),
-        [Err(StoreFault::NoMemory), Err(_)] => Outcome::Refused,
-        [Ok((outcome, _)), Err(StoreFault::NoMemory)] => Outcome::refused(*outcome == wanted),
-        _ => Outcome::Wrong,
+        [Ok((call_result, _)), Err(StoreFault::Edit(_))] => CallResult::answered(
+            *call_result == wanted,
+        ),
+        [Err(StoreFault::NoMemory), Err(_)] => CallResult::Refused,
+        [Ok((call_result, _)), Err(StoreFault::NoMemory)] => CallResult::refused(
+            *call_result == wanted,
+        ),
+        _ => CallResult::Wrong,
     }
 }

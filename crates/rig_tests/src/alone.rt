@@ -11,7 +11,7 @@ use crate::rigs::{closed, one_missing, one_task, refused, rig_of, turn};
 use crate::scenes::{Scene, play_alone, recorded, recorded_over};
 use crate::stopped::make_call;
 use bench_samples::PLAIN;
-use bench_types::{Action, Call, Config, Fault, Note, Refusal, Reply, Step};
+use bench_types::{Call, Config, Fault, Note, NotifyAction, Refusal, Reply, Step};
 use core_rig::{CloseFault, CoreSeat, Recorded, Rig, RigRefusal};
 use std::alloc::Global;
 use std::process::Abort;
@@ -134,7 +134,7 @@ fn check_value(rt: &(impl Wait + Abort), rig: &Rig, zero: &mut CoreSeat)
 fn seven_at(index: u32) -> Note {
     Note {
         task: 2,
-        action: Action::Set(7),
+        action: NotifyAction::Set(7),
         index,
     }
 }

@@ -2,7 +2,7 @@
 //! assertion is dear to prove where it stands.
 ghost use Rattle.core_rig.specs.Seats.{IsSeatOf};
 
-use bench_types::{Action, Call, Entry, Note, Reply};
+use bench_types::{Call, Entry, Note, NotifyAction, Reply};
 use core_rig::{Answer, CoreSeat, Recorded, Rig, RigRefusal};
 use std::fmt::Debug;
 use std::process::Abort;
@@ -18,7 +18,7 @@ pub const ISR: Reply = Reply::Isr {
 pub fn one_more(task: u32) -> Note {
     Note {
         task,
-        action: Action::Increment,
+        action: NotifyAction::Increment,
         index: 0,
     }
 }

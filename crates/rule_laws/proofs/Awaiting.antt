@@ -10,11 +10,12 @@ use Rattle.bench_types.specs.declared.note.NoteState.TheVariants.{NotWaiting, Wa
 use Rattle.bench_types.specs.declared.reply.Reply.{Reply}
 use Rattle.bench_types.specs.declared.reply.Reply.TheVariants.{Blocked, Isr}
 use Rattle.bench_types.specs.declared.step.Unfinished.TheVariants.{Made}
-use Rattle.bench_types.specs.declared.step.Call.{Call}
-use Rattle.bench_types.specs.declared.step.Call.TheVariants as calls
-use Rattle.bench_types.specs.Step.{IsActionOfWord, IsCheckedCall}
+use Rattle.bench_types.specs.declared.step.BlockingCall.{BlockingCall}
+use Rattle.bench_types.specs.declared.step.BlockingCall.TheVariants as calls
+use Rattle.bench_types.specs.Step.{IsNotifyActionOfWord, IsCheckedCall, as_call}
 use Rattle.bench_model.specs.Control.{core_at}
-use Rattle.bench_model.specs.Notes.{note_at, is_received, without_bits, wait_begun, wait_ended, take_begun, take_ended, state_cleared, value_cleared, slot_of}
+use Rattle.bench_model.specs.Notes.{note_at, is_received, without_bits, wait_entered, wait_ended, take_entered, take_ended, state_cleared, value_cleared}
+use Rattle.bench_model.specs.Notes.{slot_of}
 use Rattle.bench_model.specs.Notifying.{timeout_of, is_passed, interrupted, state_forgotten, bits_cleared, completed, awaited}
 use Rattle.bench_model.specs.State.{State, blocked}
 use Rattle.bench_model.specs.Table.{Table, stamp_queues, is_ready}
@@ -30,11 +31,12 @@ use Rattle.order_laws.proofs.SoundSteps.{blocked_sound}
 without_word : (bits value : ℕ) → value < 2 ^ 32 → without_bits bits value < 2 ^ 32
 without_word bits value low = omega (arith, and_le_l value (bit_not w32 bits))
 
-pub wait_begun_word : (entry : ℕ) (note : Notification) → note.value < 2 ^ 32 → (wait_begun entry note).1.value < 2 ^ 32
-unfolding wait_begun
-wait_begun_word entry note low = at (is_received note.state)
+pub wait_entered_word : (entry : ℕ) (note : Notification) → note.value < 2 ^ 32 → (wait_entered entry note).1.value < 2 ^ 32
+unfolding wait_entered
+wait_entered_word entry note low = at (is_received note.state)
   where
-    at : (b : Bool) → (cond {A = Bool × Notification} b (false, note) (true, record { value = without_bits entry note.value; state = Waiting })).1.value < 2 ^ 32
+    at : (b : Bool) → (cond {A = Bool × Notification} b (false, note) (true, record { value = without_bits entry note.value; state = Waiting })).1.value < 2 ^
+        32
     at true = low
     at false = without_word entry note.value low
 
@@ -46,9 +48,9 @@ wait_ended_word exit note low = at (is_received note.state)
     at true = without_word exit note.value low
     at false = low
 
-pub take_begun_word : (note : Notification) → note.value < 2 ^ 32 → (take_begun note).1.value < 2 ^ 32
-unfolding take_begun
-take_begun_word note low = at (eqb note.value 0)
+pub take_entered_word : (note : Notification) → note.value < 2 ^ 32 → (take_entered note).1.value < 2 ^ 32
+unfolding take_entered
+take_entered_word note low = at (eqb note.value 0)
   where
     at : (b : Bool) → (cond {A = Bool × Notification} b (true, record note { state = Waiting }) (false, note)).1.value < 2 ^ 32
     at true = low
@@ -72,25 +74,21 @@ unfolding value_cleared
 value_cleared_word bits note low = without_word bits note.value low
 
 -- a call that completes changes notifications, or nothing
-pub completed_notes : {Orders : Type 0} (task : ℕ) (call : Call) (state : State Orders) → (notes : List Notification) × ((completed task call state).1 ≡ record state { notes = notes })
+pub completed_notes : {Orders : Type 0} (task : ℕ) (call : BlockingCall) (state : State Orders) → (notes : List Notification) ×
+    ((completed task call state).1 ≡ record state { notes = notes })
 unfolding completed
-completed_notes task calls.Yield state = (state.notes, refl)
 completed_notes task (calls.Delay ticks) state = (state.notes, refl)
 completed_notes task (calls.DelayUntil prev inc) state = (state.notes, refl)
-completed_notes task (calls.PrioritySet other priority) state = (state.notes, refl)
-completed_notes task (calls.AffinitySet other mask) state = (state.notes, refl)
-completed_notes task (calls.PreemptOff other) state = (state.notes, refl)
-completed_notes task (calls.PreemptOn other) state = (state.notes, refl)
-completed_notes task (calls.Notify note) state = (state.notes, refl)
-completed_notes task (calls.NotifyWait entry exit ticks index) state = (let slot = slot_of state.settings task index in slice_set state.notes slot (wait_ended exit (note_at state.notes slot)).1, refl)
-completed_notes task (calls.NotifyTake clear ticks index) state = (let slot = slot_of state.settings task index in slice_set state.notes slot (take_ended clear (note_at state.notes slot)).1, refl)
-completed_notes task (calls.StateClear other index) state = (state.notes, refl)
-completed_notes task (calls.ValueClear other bits index) state = (state.notes, refl)
-completed_notes task (calls.MutexTake mutex ticks) state = (state.notes, refl)
-completed_notes task (calls.MutexGive mutex) state = (state.notes, refl)
-completed_notes task calls.Finish state = (state.notes, refl)
-completed_notes task calls.HoldOpen state = (state.notes, refl)
-completed_notes task calls.HoldClose state = (state.notes, refl)
+completed_notes task (calls.NotifyWait entry exit ticks index) state = (
+  let slot = slot_of state.settings task index in slice_set state.notes slot
+      (wait_ended exit (note_at state.notes slot)).1,
+  refl,
+)
+completed_notes task (calls.NotifyTake clear ticks index) state = (
+  let slot = slot_of state.settings task index in slice_set state.notes slot
+      (take_ended clear (note_at state.notes slot)).1,
+  refl,
+)
 
 -- ---- as lists
 
@@ -100,9 +98,11 @@ seen_from reply view = (reply, view)
 same_seen : (reply : Reply) (one other : View) → one ≡ other → seen_from reply one ≡ seen_from reply other
 same_seen reply one other a = ap (seen_from reply) a
 
-pub interrupted_seen : (table : Table) (core : ℕ) (note : Note) → IsConsistent table → note.task < table.settings.tasks → seen_of (interrupted stamp_queues core note table) ≡ interrupted list_queues core note (view_of table)
+pub interrupted_seen : (table : Table) (core : ℕ) (note : Note) → IsConsistent table → note.task < table.settings.tasks → seen_of
+    (interrupted stamp_queues core note table) ≡ interrupted list_queues core note (view_of table)
 unfolding interrupted
-interrupted_seen table core note sound low = ap (λ (view : View). (Isr (is_passed note table) (core_at view.control core).pend, view)) (notify_seen table core note sound low)
+interrupted_seen table core note sound low = ap (λ (view : View). (Isr (is_passed note table) (core_at view.control core).pend, view))
+    (notify_seen table core note sound low)
 
 pub forgotten_seen : (table : Table) (task index : ℕ) → seen_of (state_forgotten task index table) ≡ state_forgotten task index (view_of table)
 unfolding state_forgotten
@@ -112,41 +112,31 @@ pub bits_seen : (table : Table) (task bits index : ℕ) → seen_of (bits_cleare
 unfolding bits_cleared
 bits_seen table task bits index = refl
 
-pub completed_seen : (table : Table) (task : ℕ) (call : Call) → seen_of (completed task call table) ≡ completed task call (view_of table)
+pub completed_seen : (table : Table) (task : ℕ) (call : BlockingCall) → seen_of (completed task call table) ≡ completed task call (view_of table)
 unfolding completed
-completed_seen table task calls.Yield = refl
 completed_seen table task (calls.Delay ticks) = refl
-completed_seen table task (calls.PrioritySet other priority) = refl
-completed_seen table task (calls.AffinitySet other mask) = refl
-completed_seen table task (calls.PreemptOff other) = refl
-completed_seen table task (calls.PreemptOn other) = refl
-completed_seen table task (calls.Notify note) = refl
 completed_seen table task (calls.NotifyWait entry exit ticks index) = refl
 completed_seen table task (calls.NotifyTake clear ticks index) = refl
-completed_seen table task (calls.StateClear other index) = refl
-completed_seen table task (calls.ValueClear other bits index) = refl
-completed_seen table task (calls.MutexTake mutex ticks) = refl
-completed_seen table task (calls.MutexGive mutex) = refl
 completed_seen table task (calls.DelayUntil prev inc) = refl
-completed_seen table task calls.Finish = refl
-completed_seen table task calls.HoldOpen = refl
-completed_seen table task calls.HoldClose = refl
 
-pub timeout_seen : (table : Table) (core task : ℕ) (call : Call) (ticks : ℕ) (begun : Bool × List Notification) → IsConsistent table → task < length table.orders.rows → is_ready task table.orders ≡ true →
-    seen_of (awaited stamp_queues core task call ticks begun table) ≡ awaited list_queues core task call ticks begun (view_of table)
+pub timeout_seen : (table : Table) (core task : ℕ) (call : BlockingCall) (ticks : ℕ) (entered : Bool × List Notification) → IsConsistent table → task < length
+    table.orders.rows → is_ready task table.orders ≡ true →
+    seen_of (awaited stamp_queues core task call ticks entered table) ≡ awaited list_queues core task call ticks entered (view_of table)
 unfolding awaited
-timeout_seen table core task call ticks begun sound below ready = either (begun.0 && ltb 0 ticks)
+timeout_seen table core task call ticks entered sound below ready = either (entered.0 && ltb 0 ticks)
   where
     waiting : Table
-    waiting = record table { notes = begun.1 }
+    waiting = record table { notes = entered.1 }
 
-    either : (b : Bool) → seen_of (cond b (Blocked, blocked stamp_queues core task (Made call) (timeout_of ticks) None waiting) (completed task call waiting)) ≡ cond b (Blocked, blocked list_queues core task (Made call) (timeout_of ticks) None (view_of waiting)) (completed task call (view_of waiting))
+    either : (b : Bool) → seen_of (cond b (Blocked, blocked stamp_queues core task (Made call) (timeout_of ticks) None waiting) (completed task call waiting)) ≡
+        cond b (Blocked, blocked list_queues core task (Made call) (timeout_of ticks) None (view_of waiting)) (completed task call (view_of waiting))
     either true = same_seen Blocked _ _ (blocked_seen core task (Made call) (timeout_of ticks) None waiting sound.stamped.given below ready)
     either false = completed_seen waiting task call
 
 -- ---- soundness stays
 
-pub interrupted_sound : (table : Table) (core : ℕ) (note : Note) → IsConsistent table → note.task < table.settings.tasks → IsActionOfWord note.action → IsConsistent (interrupted stamp_queues core note table).1
+pub interrupted_sound : (table : Table) (core : ℕ) (note : Note) → IsConsistent table → note.task < table.settings.tasks → IsNotifyActionOfWord note.action →
+    IsConsistent (interrupted stamp_queues core note table).1
 unfolding interrupted
 interrupted_sound table core note sound low word = notify_sound table core note sound low word
 
@@ -158,25 +148,14 @@ pub bits_sound : (table : Table) (task bits index : ℕ) → IsConsistent table 
 unfolding bits_cleared
 bits_sound table task bits index sound = ruled_sound (slot_of table.settings task index) (value_cleared bits) table sound (value_cleared_word bits)
 
-pub completed_sound : (table : Table) (task : ℕ) (call : Call) → IsConsistent table → IsConsistent (completed task call table).1
+pub completed_sound : (table : Table) (task : ℕ) (call : BlockingCall) → IsConsistent table → IsConsistent (completed task call table).1
 unfolding completed
-completed_sound table task calls.Yield sound = sound
 completed_sound table task (calls.Delay ticks) sound = sound
-completed_sound table task (calls.PrioritySet other priority) sound = sound
-completed_sound table task (calls.AffinitySet other mask) sound = sound
-completed_sound table task (calls.PreemptOff other) sound = sound
-completed_sound table task (calls.PreemptOn other) sound = sound
-completed_sound table task (calls.Notify note) sound = sound
-completed_sound table task (calls.NotifyWait entry exit ticks index) sound = ruled_sound (slot_of table.settings task index) (wait_ended exit) table sound (wait_ended_word exit)
-completed_sound table task (calls.NotifyTake clear ticks index) sound = ruled_sound (slot_of table.settings task index) (take_ended clear) table sound (take_ended_word clear)
-completed_sound table task (calls.StateClear other index) sound = sound
-completed_sound table task (calls.ValueClear other bits index) sound = sound
-completed_sound table task (calls.MutexTake mutex ticks) sound = sound
-completed_sound table task (calls.MutexGive mutex) sound = sound
+completed_sound table task (calls.NotifyWait entry exit ticks index) sound = ruled_sound (slot_of table.settings task index) (wait_ended exit) table sound
+    (wait_ended_word exit)
+completed_sound table task (calls.NotifyTake clear ticks index) sound = ruled_sound (slot_of table.settings task index) (take_ended clear) table sound
+    (take_ended_word clear)
 completed_sound table task (calls.DelayUntil prev inc) sound = sound
-completed_sound table task calls.Finish sound = sound
-completed_sound table task calls.HoldOpen sound = sound
-completed_sound table task calls.HoldClose sound = sound
 
 -- the ticks of a wait that does not end at once
 pub waits_on : (ticks : ℕ) → 0 < ticks → ticks < 2 ^ 32 → IsWait (timeout_of ticks)
@@ -194,14 +173,18 @@ waits_short ticks low = either (eqb ticks (2 ^ 32 - 1)) refl
     either true endless = tt
     either false short = grind (arith, nat_tests, short, low)
 
-pub timeout_sound : (table : Table) (core task : ℕ) (call : Call) (ticks : ℕ) (begun : Bool × List Notification) → IsConsistent (record table { notes = begun.1 }) → IsCaller table core task → IsCheckedCall table.settings call → length table.control.cores ≤ task → ticks < 2 ^ 32 →
-    IsConsistent (awaited stamp_queues core task call ticks begun table).1
+pub timeout_sound : (table : Table) (core task : ℕ) (call : BlockingCall) (ticks : ℕ) (entered : Bool × List Notification) → IsConsistent
+    (record table { notes = entered.1 }) → IsCaller table core task → IsCheckedCall table.settings (as_call call) → length table.control.cores ≤ task → ticks <
+    2 ^ 32 →
+    IsConsistent (awaited stamp_queues core task call ticks entered table).1
 unfolding awaited
-timeout_sound table core task call ticks begun sound place checked user low = either (begun.0 && ltb 0 ticks) refl
+timeout_sound table core task call ticks entered sound place checked user low = either (entered.0 && ltb 0 ticks) refl
   where
     waiting : Table
-    waiting = record table { notes = begun.1 }
+    waiting = record table { notes = entered.1 }
 
-    either : (b : Bool) → (begun.0 && ltb 0 ticks) ≡ b → IsConsistent (cond {A = Reply × Table} b (Blocked, blocked stamp_queues core task (Made call) (timeout_of ticks) None waiting) (completed task call waiting)).1
-    either true waits = blocked_sound core task (Made call) (timeout_of ticks) None waiting sound place checked user (waits_on ticks (grind (arith, nat_tests, waits)) low) tt (λ none. absurd (cc (none)))
+    either : (b : Bool) → (entered.0 && ltb 0 ticks) ≡ b → IsConsistent (cond {A = Reply × Table} b
+        (Blocked, blocked stamp_queues core task (Made call) (timeout_of ticks) None waiting) (completed task call waiting)).1
+    either true waits = blocked_sound core task (Made call) (timeout_of ticks) None waiting sound place checked user
+        (waits_on ticks (grind (arith, nat_tests, waits)) low) tt (λ none. absurd (cc (none)))
     either false done = completed_sound waiting task call sound

@@ -26,11 +26,14 @@ lists_of_by : (control : Control) (stamps : Stamps) → lists_of control stamps 
 unfolding lists_of lists_by
 lists_of_by control stamps = refl
 
-pub change_apart : (control : Control) (stamps : Stamps) (task : ℕ) (block : TaskControl) → block.in_use ≡ (task_at control task).in_use → lists_of (with_task task block control) stamps ≡ lists_of control stamps
+pub change_apart : (control : Control) (stamps : Stamps) (task : ℕ) (block : TaskControl) → block.in_use ≡ (task_at control task).in_use → lists_of
+    (with_task task block control) stamps ≡ lists_of control stamps
 change_apart control stamps task block kept =
-    lists_of_by (with_task task block control) stamps ∙ ap (λ front. lists_by front stamps) (outranks_kept control task block kept) ∙ sym (lists_of_by control stamps)
+    lists_of_by (with_task task block control) stamps ∙ ap (λ front. lists_by front stamps) (outranks_kept control task block kept) ∙ sym
+    (lists_of_by control stamps)
 
-pub change_sound : (table : Table) (task : ℕ) (block : TaskControl) → IsConsistent table → IsControlBlock table.settings block → IsConsistent (record table { control = with_task task block table.control })
+pub change_sound : (table : Table) (task : ℕ) (block : TaskControl) → IsConsistent table → IsControlBlock table.settings block → IsConsistent
+    (record table { control = with_task task block table.control })
 change_sound table task block sound low = record {
   sized = resized table _ refl (ap (λ a. record (lengths_of table) { controls = a }) (length-set table.control.tasks task block)) sound.sized;
   stamped = sound.stamped;
@@ -42,7 +45,8 @@ change_sound table task block sound low = record {
   };
   in_time = sound.in_time;
   blocks = λ i within. elim (cases_eq i task) [
-    | inl here ↦ subst (IsControlBlock table.settings) (sym (ap (task_at (with_task task block table.control)) here ∙ block_same table.control task block (omega (arith, sound.sized.controls, here, within)))) low
+    | inl here ↦ subst (IsControlBlock table.settings) (sym
+        (ap (task_at (with_task task block table.control)) here ∙ block_same table.control task block (omega (arith, sound.sized.controls, here, within)))) low
     | inr away ↦ subst (IsControlBlock table.settings) (sym (block_other table.control task block i away)) (sound.blocks i within)
   ];
   calls = sound.calls;
@@ -51,19 +55,25 @@ change_sound table task block sound low = record {
 }
 
 -- of the changed task the old place is read no more
-moved_last : (control changed : Control) (task : ℕ) (stamps : Stamps) → without task (ranked (outranks changed) (standing_so stands_ready stamps)) ≡ without task (ranked (outranks control) (standing_so stands_ready stamps)) → seen.add_to_ready_list changed task (lists_of changed stamps) ≡ seen.add_to_ready_list changed task (lists_of control stamps)
+moved_last : (control changed : Control) (task : ℕ) (stamps : Stamps) → without task (ranked (outranks changed) (standing_so stands_ready stamps)) ≡ without
+    task (ranked (outranks control) (standing_so stands_ready stamps)) → seen.add_to_ready_list changed task (lists_of changed stamps) ≡ seen.add_to_ready_list
+    changed task (lists_of control stamps)
 unfolding lists_of seen.add_to_ready_list
-moved_last control changed task stamps same = ap (λ others. record (seen.add_to_ready_list changed task (lists_of control stamps)) { ready = placed (outranks changed) task others }) same
+moved_last control changed task stamps same = ap (λ others. record (seen.add_to_ready_list changed task (lists_of control stamps))
+    { ready = placed (outranks changed) task others }) same
 
-has_ready : (control : Control) (task : ℕ) (stamps : Stamps) → has task (lists_of control stamps).ready ≡ has task (ranked (outranks control) (standing_so stands_ready stamps))
+has_ready : (control : Control) (task : ℕ) (stamps : Stamps) → has task (lists_of control stamps).ready ≡ has task
+    (ranked (outranks control) (standing_so stands_ready stamps))
 unfolding lists_of
 has_ready control task stamps = refl
 
 -- a blocked task has no place that its priority in use decides
-blocked_apart : (table : Table) (task priority : ℕ) → IsConsistent table → task < table.settings.tasks → is_ready task table.orders ≡ false → lists_of (with_in_use task priority table.control) table.orders ≡ lists_of table.control table.orders
+blocked_apart : (table : Table) (task priority : ℕ) → IsConsistent table → task < table.settings.tasks → is_ready task table.orders ≡ false → lists_of
+    (with_in_use task priority table.control) table.orders ≡ lists_of table.control table.orders
 unfolding lists_by lists_of
 blocked_apart table task priority sound low blocked =
-    lists_of_by changed table.orders ∙ ap (λ ready. record (lists_of table.control table.orders) { ready = ready }) same ∙ sym (lists_of_by table.control table.orders)
+    lists_of_by changed table.orders ∙ ap (λ ready. record (lists_of table.control table.orders) { ready = ready }) same ∙ sym
+    (lists_of_by table.control table.orders)
   where
     changed : Control
     changed = with_in_use task priority table.control
@@ -72,14 +82,17 @@ blocked_apart table task priority sound low blocked =
     queue = standing_so stands_ready table.orders
 
     absent : (control : Control) → without task (ranked (outranks control) queue) ≡ ranked (outranks control) queue
-    absent control = without_absent task (ranked (outranks control) queue) (sym (has_ready control task table.orders) ∙ is_ready_seen control table.orders task sound.stamped.given (omega (arith, sound.sized.rows)) ∙ blocked)
+    absent control = without_absent task (ranked (outranks control) queue)
+        (sym (has_ready control task table.orders) ∙ is_ready_seen control table.orders task sound.stamped.given (omega (arith, sound.sized.rows)) ∙ blocked)
 
     same : ranked (outranks changed) queue ≡ ranked (outranks table.control) queue
     same = sym (absent changed) ∙ others_stay table.control task _ queue ∙ absent table.control
 
-pub in_use_seen : (table : Table) (task priority : ℕ) → IsConsistent table → task < table.settings.tasks → view_of (in_use_set stamp_queues task priority table) ≡ in_use_set list_queues task priority (view_of table)
+pub in_use_seen : (table : Table) (task priority : ℕ) → IsConsistent table → task < table.settings.tasks → view_of (in_use_set stamp_queues task priority table)
+    ≡ in_use_set list_queues task priority (view_of table)
 unfolding in_use_set
-in_use_seen table task priority sound low = at (is_ready task table.orders) refl (has task (lists_of table.control table.orders).ready) (is_ready_seen table.control table.orders task sound.stamped.given below)
+in_use_seen table task priority sound low = at (is_ready task table.orders) refl (has task (lists_of table.control table.orders).ready)
+    (is_ready_seen table.control table.orders task sound.stamped.given below)
   where
     changed : Control
     changed = with_in_use task priority table.control
@@ -87,13 +100,19 @@ in_use_seen table task priority sound low = at (is_ready task table.orders) refl
     below : task < length table.orders.rows
     below = omega (arith, sound.sized.rows)
 
-    at : (b : Bool) → is_ready task table.orders ≡ b → (d : Bool) → d ≡ is_ready task table.orders → view_of (record table { control = changed; orders = cond b (add_to_ready_list task table.orders) table.orders }) ≡ record (view_of table) { control = changed; orders = cond d (seen.add_to_ready_list changed task (lists_of table.control table.orders)) (lists_of table.control table.orders) }
-    at true is true same = same_state table.settings changed changed table.calls table.notes table.holders table.hold _ _ refl (add_to_ready_seen changed table.orders task sound.stamped.given below ∙ moved_last table.control changed task table.orders (others_stay table.control task _ (standing_so stands_ready table.orders)))
-    at false is false same = same_state table.settings changed changed table.calls table.notes table.holders table.hold _ _ refl (blocked_apart table task priority sound low is)
+    at : (b : Bool) → is_ready task table.orders ≡ b → (d : Bool) → d ≡ is_ready task table.orders → view_of
+        (record table { control = changed; orders = cond b (add_to_ready_list task table.orders) table.orders }) ≡ record (view_of table)
+        { control = changed; orders = cond d (seen.add_to_ready_list changed task (lists_of table.control table.orders)) (lists_of table.control table.orders) }
+    at true is true same = same_state table.settings changed changed table.calls table.notes table.holders table.hold _ _ refl
+        (add_to_ready_seen changed table.orders task sound.stamped.given below ∙ moved_last table.control changed task table.orders
+        (others_stay table.control task _ (standing_so stands_ready table.orders)))
+    at false is false same = same_state table.settings changed changed table.calls table.notes table.holders table.hold _ _ refl
+        (blocked_apart table task priority sound low is)
     at true is false same = absurd (cc (is, same))
     at false is true same = absurd (cc (is, same))
 
-pub in_use_sound : (table : Table) (task priority : ℕ) → IsConsistent table → task < table.settings.tasks → priority < table.settings.priorities → IsConsistent (in_use_set stamp_queues task priority table)
+pub in_use_sound : (table : Table) (task priority : ℕ) → IsConsistent table → task < table.settings.tasks → priority < table.settings.priorities → IsConsistent
+    (in_use_set stamp_queues task priority table)
 unfolding in_use_set
 in_use_sound table task priority sound low below = at (is_ready task table.orders)
   where

@@ -41,14 +41,16 @@ after_select_alone core view = at (has left view.orders.ready)
     at true = refl
     at false = refl
 
-after_eviction_alone : (core loser : ℕ) (view : View) → cores_of (after_eviction list_queues core loser view) ≡ cores_rule (after_eviction list_queues core loser) (cores_of view)
+after_eviction_alone : (core loser : ℕ) (view : View) → cores_of (after_eviction list_queues core loser view) ≡ cores_rule
+    (after_eviction list_queues core loser) (cores_of view)
 unfolding after_eviction
 after_eviction_alone core loser view = at (not (eqb (current view.control core) loser) && has loser view.orders.ready)
   where
     among : ℕ → Bool
     among = may_move view.control loser (current view.control core) core
 
-    at : (b : Bool) → cores_of (cond b (sought core loser among view) view) ≡ cores_of (cond b (sought core loser among (bare_view (cores_of view))) (bare_view (cores_of view)))
+    at : (b : Bool) → cores_of (cond b (sought core loser among view) view) ≡ cores_of
+        (cond b (sought core loser among (bare_view (cores_of view))) (bare_view (cores_of view)))
     at true = refl
     at false = refl
 
@@ -56,44 +58,58 @@ switch_alone : (core : ℕ) (view : View) → cores_of (after_switch list_queues
 unfolding after_switch
 switch_alone core view =
     let loser = current view.control core in
-    after_eviction_alone core loser (after_select list_queues core view) ∙ ap (cores_rule (after_eviction list_queues core loser)) (after_select_alone core view)
+    after_eviction_alone core loser (after_select list_queues core view) ∙ ap (cores_rule (after_eviction list_queues core loser))
+    (after_select_alone core view)
     ∙ sym (after_eviction_alone core loser (after_select list_queues core (bare_view (cores_of view))))
 
 sliced_alone : (view : View) → cores_of (sliced list_queues view) ≡ cores_rule (sliced list_queues) (cores_of view)
 unfolding sliced
 sliced_alone view = at view.settings.slicing
   where
-    at : (b : Bool) → cores_of (cond b (record view { control = ask_each 0 (shares_its_time list_queues view) view.control }) view) ≡ cores_of (cond b (record (bare_view (cores_of view)) { control = ask_each 0 (shares_its_time list_queues (bare_view (cores_of view))) view.control }) (bare_view (cores_of view)))
+    at : (b : Bool) → cores_of (cond b (record view { control = ask_each 0 (shares_its_time list_queues view) view.control }) view) ≡ cores_of
+        (cond b (record (bare_view (cores_of view)) { control = ask_each 0 (shares_its_time list_queues (bare_view (cores_of view))) view.control })
+        (bare_view (cores_of view)))
     at true = refl
     at false = refl
 
-in_use_alone : (task priority : ℕ) (view : View) → cores_of (in_use_set list_queues task priority view) ≡ cores_rule (in_use_set list_queues task priority) (cores_of view)
+in_use_alone : (task priority : ℕ) (view : View) → cores_of (in_use_set list_queues task priority view) ≡ cores_rule (in_use_set list_queues task priority)
+    (cores_of view)
 unfolding in_use_set seen.add_to_ready_list
 in_use_alone task priority view = at (has task view.orders.ready)
   where
     changed : Control
     changed = with_in_use task priority view.control
 
-    at : (b : Bool) → cores_of (record view { control = changed; orders = cond b (seen.add_to_ready_list changed task view.orders) view.orders }) ≡ cores_of (record (bare_view (cores_of view)) { control = changed; orders = cond b (seen.add_to_ready_list changed task (bare_view (cores_of view)).orders) (bare_view (cores_of view)).orders })
+    at : (b : Bool) → cores_of (record view { control = changed; orders = cond b (seen.add_to_ready_list changed task view.orders) view.orders }) ≡ cores_of
+        (record (bare_view (cores_of view)) {
+          control = changed;
+          orders = cond b (seen.add_to_ready_list changed task (bare_view (cores_of view)).orders)
+              (bare_view (cores_of view)).orders;
+        })
     at true = refl
     at false = refl
 
-pub seek_on : (table : Table) (acting task : ℕ) (among : ℕ → Bool) → cores_seen (sought acting task among table) ≡ record (cores_seen table) { control = seek acting task among table.control }
+pub seek_on : (table : Table) (acting task : ℕ) (among : ℕ → Bool) → cores_seen (sought acting task among table) ≡ record (cores_seen table)
+    { control = seek acting task among table.control }
 seek_on table acting task among = ap cores_of (seek_seen table acting task among)
 
-pub wake_on : (table : Table) (acting task : ℕ) → IsStamped table.orders → task < length table.orders.rows → cores_seen (wake stamp_queues acting task table) ≡ cores_rule (wake list_queues acting task) (cores_seen table)
+pub wake_on : (table : Table) (acting task : ℕ) → IsStamped table.orders → task < length table.orders.rows → cores_seen (wake stamp_queues acting task table) ≡
+    cores_rule (wake list_queues acting task) (cores_seen table)
 wake_on table acting task stamped below = ap cores_of (wake_seen table acting task stamped.given below) ∙ wake_alone acting task (view_of table)
 
-pub switch_on : (table : Table) (core : ℕ) → IsConsistent table → core < table.settings.cores → cores_seen (after_switch stamp_queues core table) ≡ cores_rule (after_switch list_queues core) (cores_seen table)
+pub switch_on : (table : Table) (core : ℕ) → IsConsistent table → core < table.settings.cores → cores_seen (after_switch stamp_queues core table) ≡ cores_rule
+    (after_switch list_queues core) (cores_seen table)
 switch_on table core sound low = ap cores_of (after_switch_seen table core sound low) ∙ switch_alone core (view_of table)
 
 pub slices_on : (table : Table) → IsConsistent table → cores_seen (sliced stamp_queues table) ≡ cores_rule (sliced list_queues) (cores_seen table)
 slices_on table sound = ap cores_of (sliced_seen table sound) ∙ sliced_alone (view_of table)
 
-pub in_use_on : (table : Table) (task priority : ℕ) → IsConsistent table → task < table.settings.tasks → cores_seen (in_use_set stamp_queues task priority table) ≡ cores_rule (in_use_set list_queues task priority) (cores_seen table)
+pub in_use_on : (table : Table) (task priority : ℕ) → IsConsistent table → task < table.settings.tasks → cores_seen
+    (in_use_set stamp_queues task priority table) ≡ cores_rule (in_use_set list_queues task priority) (cores_seen table)
 in_use_on table task priority sound low = ap cores_of (in_use_seen table task priority sound low) ∙ in_use_alone task priority (view_of table)
 
-pub ask_on : (table : Table) (acting core : ℕ) → cores_seen (record table { control = ask acting core table.control }) ≡ record (cores_seen table) { control = ask acting core table.control }
+pub ask_on : (table : Table) (acting core : ℕ) → cores_seen (record table { control = ask acting core table.control }) ≡ record (cores_seen table)
+    { control = ask acting core table.control }
 unfolding lists_of
 ask_on table acting core = refl
 
@@ -101,13 +117,17 @@ delay_ready : (task : ℕ) (ticks : Option ℕ) (wait : Option MutexWait) (lists
 unfolding seen.delay
 delay_ready task ticks wait lists = refl
 
-pub wait_on : (table : Table) (task : ℕ) (ticks : Option ℕ) (wait : Option MutexWait) → IsConsistent table → task < table.settings.tasks → is_ready task table.orders ≡ true → cores_seen (record table { orders = delay task ticks wait table.orders }) ≡ record (cores_seen table) { ready = without task (cores_seen table).ready }
+pub wait_on : (table : Table) (task : ℕ) (ticks : Option ℕ) (wait : Option MutexWait) → IsConsistent table → task < table.settings.tasks → is_ready task
+    table.orders ≡ true → cores_seen (record table { orders = delay task ticks wait table.orders }) ≡ record (cores_seen table)
+    { ready = without task (cores_seen table).ready }
 wait_on table task ticks wait sound low ready =
     let below : task < length table.orders.rows = omega (arith, sound.sized.rows) in
-    ap (λ (lists : Lists). record (cores_seen table) { ready = lists.ready }) (delay_seen table.control table.orders task ticks wait sound.stamped.given below ready)
+    ap (λ (lists : Lists). record (cores_seen table) { ready = lists.ready })
+    (delay_seen table.control table.orders task ticks wait sound.stamped.given below ready)
     ∙ ap (λ ready. record (cores_seen table) { ready = ready }) (delay_ready task ticks wait (lists_of table.control table.orders))
 
-inherited_alone : (acting holder priority : ℕ) (view : View) → cores_of (inherited list_queues acting holder priority view) ≡ cores_rule (inherited list_queues acting holder priority) (cores_of view)
+inherited_alone : (acting holder priority : ℕ) (view : View) → cores_of (inherited list_queues acting holder priority view) ≡ cores_rule
+    (inherited list_queues acting holder priority) (cores_of view)
 unfolding inherited in_use_set seen.add_to_ready_list
 inherited_alone acting holder priority view = at (ltb (task_at view.control holder).in_use priority) (has holder view.orders.ready)
   where
@@ -120,12 +140,14 @@ inherited_alone acting holder priority view = at (ltb (task_at view.control hold
     sought_for : View → View
     sought_for of = record of { control = seek acting holder (in_mask of.control holder) of.control }
 
-    at : (b d : Bool) → cores_of (cond b (cond d (sought_for (later d view)) (later d view)) view) ≡ cores_of (cond b (cond d (sought_for (later d (bare_view (cores_of view)))) (later d (bare_view (cores_of view)))) (bare_view (cores_of view)))
+    at : (b d : Bool) → cores_of (cond b (cond d (sought_for (later d view)) (later d view)) view) ≡ cores_of
+        (cond b (cond d (sought_for (later d (bare_view (cores_of view)))) (later d (bare_view (cores_of view)))) (bare_view (cores_of view)))
     at true true = refl
     at true false = refl
     at false d = refl
 
-after_disinherit_alone : (acting task priority : ℕ) (view : View) → cores_of (after_disinherit list_queues acting task priority view) ≡ cores_rule (after_disinherit list_queues acting task priority) (cores_of view)
+after_disinherit_alone : (acting task priority : ℕ) (view : View) → cores_of (after_disinherit list_queues acting task priority view) ≡ cores_rule
+    (after_disinherit list_queues acting task priority) (cores_of view)
 unfolding after_disinherit in_use_set seen.add_to_ready_list
 after_disinherit_alone acting task priority view = at (eqb (task_at view.control task).in_use priority) (has task view.orders.ready)
   where
@@ -138,13 +160,18 @@ after_disinherit_alone acting task priority view = at (eqb (task_at view.control
     asked : View → View
     asked of = record of { control = ask_its_core acting task of.control }
 
-    at : (b d : Bool) → cores_of (cond b view (asked (later d view))) ≡ cores_of (cond b (bare_view (cores_of view)) (asked (later d (bare_view (cores_of view)))))
+    at : (b d : Bool) → cores_of (cond b view (asked (later d view))) ≡ cores_of
+        (cond b (bare_view (cores_of view)) (asked (later d (bare_view (cores_of view)))))
     at true d = refl
     at false true = refl
     at false false = refl
 
-pub inherited_on : (table : Table) (acting holder priority : ℕ) → IsConsistent table → holder < table.settings.tasks → cores_seen (inherited stamp_queues acting holder priority table) ≡ cores_rule (inherited list_queues acting holder priority) (cores_seen table)
-inherited_on table acting holder priority sound low = ap cores_of (inherited_seen table acting holder priority sound low) ∙ inherited_alone acting holder priority (view_of table)
+pub inherited_on : (table : Table) (acting holder priority : ℕ) → IsConsistent table → holder < table.settings.tasks → cores_seen
+    (inherited stamp_queues acting holder priority table) ≡ cores_rule (inherited list_queues acting holder priority) (cores_seen table)
+inherited_on table acting holder priority sound low = ap cores_of (inherited_seen table acting holder priority sound low) ∙ inherited_alone acting holder
+    priority (view_of table)
 
-pub after_disinherit_on : (table : Table) (acting task priority : ℕ) → IsConsistent table → task < table.settings.tasks → cores_seen (after_disinherit stamp_queues acting task priority table) ≡ cores_rule (after_disinherit list_queues acting task priority) (cores_seen table)
-after_disinherit_on table acting task priority sound low = ap cores_of (after_disinherit_seen table acting task priority sound low) ∙ after_disinherit_alone acting task priority (view_of table)
+pub after_disinherit_on : (table : Table) (acting task priority : ℕ) → IsConsistent table → task < table.settings.tasks → cores_seen
+    (after_disinherit stamp_queues acting task priority table) ≡ cores_rule (after_disinherit list_queues acting task priority) (cores_seen table)
+after_disinherit_on table acting task priority sound low = ap cores_of (after_disinherit_seen table acting task priority sound low) ∙ after_disinherit_alone
+    acting task priority (view_of table)

@@ -1,5 +1,6 @@
 -- Mutexes with priority inheritance: each rule as lists, and that it keeps a table sound.
-use Rattle.std.proofs.Common.{◌≡◌, suc, ℕ, ◌+◌, ◌-◌, ◌<◌, ◌≤◌, ◌^◌, Bool, true, false, cond, not, eqb, ltb, ◌&&◌, length, Option, Some, None, refl, sym, ap, ap₂, subst, ◌∙◌, arith}
+use Rattle.std.proofs.Common.{◌≡◌, suc, ℕ, ◌+◌, ◌-◌, ◌<◌, ◌≤◌, ◌^◌, Bool, true, false, cond, not, eqb, ltb, ◌&&◌, length, Option, Some, None, refl, sym, ap}
+use Rattle.std.proofs.Common.{ap₂, subst, ◌∙◌, arith}
 use Rattle.std.specs.Prelude.{slice_set, option_map}
 use Rattle.std.specs.Option.{option_map_or}
 use Rattle.std.proofs.lemmas.Bool.Decides.{nat_tests}
@@ -16,7 +17,8 @@ use Rattle.bench_model.specs.Control.{task_at, current, in_mask, ask_its_core}
 use Rattle.bench_model.specs.Lists.{seen_of}
 use Rattle.bench_model.specs.Lists.{View, list_queues, view_of}
 use Rattle.bench_model.specs.Steps.{after_finish}
-use Rattle.bench_model.specs.Mutexes.{held_by, is_marked, taken, inherited, waited_at, mutex_take, owed, after_disinherit, timed_out, disinherit_priority, take_finished, disinherited, first_woken, mutex_give}
+use Rattle.bench_model.specs.Mutexes.{held_by, is_marked, taken, inherited, waited_at, take_from, mutex_take, owed, after_disinherit, timed_out}
+use Rattle.bench_model.specs.Mutexes.{disinherit_priority, finish_from, take_finished, disinherited, first_woken, give_from, mutex_give}
 use Rattle.bench_model.specs.Notifying.{timeout_of, completed}
 use Rattle.bench_model.specs.Seek.{seek, wake}
 use Rattle.rule_laws.specs.SeekLaws.{sought}
@@ -42,7 +44,8 @@ unfolding taken
 taken_seen table task mutex = refl
 
 -- a mutex that a task holds from now on, or none
-given_sound : (table : Table) (mutex : ℕ) (given : Option ℕ) → IsConsistent table → mutex < table.settings.mutexes → ((task : ℕ) → given ≡ Some task → task < table.settings.tasks) → IsConsistent (record table { holders = slice_set table.holders mutex given })
+given_sound : (table : Table) (mutex : ℕ) (given : Option ℕ) → IsConsistent table → mutex < table.settings.mutexes →
+    ((task : ℕ) → given ≡ Some task → task < table.settings.tasks) → IsConsistent (record table { holders = slice_set table.holders mutex given })
 given_sound table mutex given sound low one = record {
   sized = resized table _ refl (ap (λ a. record (lengths_of table) { holders = a }) (length-set table.holders mutex given)) sound.sized;
   stamped = sound.stamped;
@@ -57,9 +60,11 @@ given_sound table mutex given sound low one = record {
 some_same : (task other : ℕ) → Some task ≡ Some other → other ≡ task
 some_same task other same = cc (same)
 
-pub taken_sound : (table : Table) (task mutex : ℕ) → IsConsistent table → task < table.settings.tasks → mutex < table.settings.mutexes → IsConsistent (taken task mutex table)
+pub taken_sound : (table : Table) (task mutex : ℕ) → IsConsistent table → task < table.settings.tasks → mutex < table.settings.mutexes → IsConsistent
+    (taken task mutex table)
 unfolding taken
-taken_sound table task mutex sound low below = given_sound table mutex (Some task) sound below (λ other same. subst (λ i. i < table.settings.tasks) (sym (some_same task other same)) low)
+taken_sound table task mutex sound low below = given_sound table mutex (Some task) sound below
+    (λ other same. subst (λ i. i < table.settings.tasks) (sym (some_same task other same)) low)
 
 -- ---- inheriting
 
@@ -82,7 +87,8 @@ module _ (table : Table) (acting holder priority : ℕ) (sound : IsConsistent ta
       let raised = in_use_seen table holder priority sound low in
       let ready = is_ready holder table.orders in
       either_seen is_below (cond ready (sought_for later) later) table (cond ready (sought_for later_view) later_view) (view_of table)
-      (either_seen ready (sought_for later) later (sought_for later_view) later_view (seek_seen later acting holder (in_mask later.control holder) ∙ ap sought_for raised) raised)
+      (either_seen ready (sought_for later) later (sought_for later_view) later_view
+      (seek_seen later acting holder (in_mask later.control holder) ∙ ap sought_for raised) raised)
       refl
       ∙ ap (λ ready. cond is_below (cond ready (sought_for later_view) later_view) (view_of table)) (ready_seen table holder sound low)
 
@@ -109,7 +115,8 @@ either_kept : (b : Bool) (table one other : Table) → IsKept table one → IsKe
 either_kept true table one other first second = first
 either_kept false table one other first second = second
 
-in_use_kept : (table : Table) (task priority : ℕ) → IsConsistent table → task < table.settings.tasks → IsKept table (in_use_set stamp_queues task priority table)
+in_use_kept : (table : Table) (task priority : ℕ) → IsConsistent table → task < table.settings.tasks → IsKept table
+    (in_use_set stamp_queues task priority table)
 unfolding in_use_set
 in_use_kept table task priority sound low = record {
   cores = refl;
@@ -126,7 +133,8 @@ sought_kept table other acting task among kept =
     let more = seek_more acting task among other.control in
     record { cores = more.cores ∙ kept.cores; currents = λ core. more.currents core ∙ kept.currents core; ready = kept.ready }
 
-inherited_kept : (table : Table) (acting holder priority : ℕ) → IsConsistent table → holder < table.settings.tasks → IsKept table (inherited stamp_queues acting holder priority table)
+inherited_kept : (table : Table) (acting holder priority : ℕ) → IsConsistent table → holder < table.settings.tasks → IsKept table
+    (inherited stamp_queues acting holder priority table)
 unfolding inherited
 inherited_kept table acting holder priority sound low =
     let later = in_use_set stamp_queues holder priority table in
@@ -143,7 +151,8 @@ inherited_settings table acting holder priority = at (ltb (task_at table.control
     later : Table
     later = in_use_set stamp_queues holder priority table
 
-    at : (b d : Bool) → (cond b (cond d (record later { control = seek acting holder (in_mask later.control holder) later.control }) later) table).settings ≡ table.settings
+    at : (b d : Bool) → (cond b (cond d (record later { control = seek acting holder (in_mask later.control holder) later.control }) later) table).settings ≡
+        table.settings
     at true true = refl
     at true false = refl
     at false d = refl
@@ -153,7 +162,8 @@ inherited_settings table acting holder priority = at (ltb (task_at table.control
 abbrev outcome : Reply → View → Reply × View
 outcome reply view = (reply, view)
 
-module _ (table : Table) (core task mutex holder : ℕ) (ticks : Option ℕ) (sound : IsConsistent table) (place : IsCaller table core task) (low : holder < table.settings.tasks) where
+module _ (table : Table) (core task mutex holder : ℕ) (ticks : Option ℕ) (sound : IsConsistent table) (place : IsCaller table core task)
+    (low : holder < table.settings.tasks) where
   abbrev mine : ℕ
   mine = (task_at table.control task).in_use
 
@@ -181,15 +191,18 @@ module _ (table : Table) (core task mutex holder : ℕ) (ticks : Option ℕ) (so
 
   pub waited_seen : view_of (waited_at stamp_queues core task mutex holder ticks table) ≡ waited_at list_queues core task mutex holder ticks (view_of table)
   unfolding waited_at
-  waited_seen = blocked_seen core task marked ticks wait raised raised_sound.stamped.given raised_place.2 raised_place.3 ∙ ap (blocked list_queues core task marked ticks wait) (inherited_seen table core holder mine sound low)
+  waited_seen = blocked_seen core task marked ticks wait raised raised_sound.stamped.given raised_place.2 raised_place.3 ∙ ap
+      (blocked list_queues core task marked ticks wait) (inherited_seen table core holder mine sound low)
 
-  pub waited_sound : length table.control.cores ≤ task → IsWait ticks → IsMutexTime ticks → mutex < table.settings.mutexes → IsConsistent (waited_at stamp_queues core task mutex holder ticks table)
+  pub waited_sound : length table.control.cores ≤ task → IsWait ticks → IsMutexTime ticks → mutex < table.settings.mutexes → IsConsistent
+      (waited_at stamp_queues core task mutex holder ticks table)
   unfolding waited_at
   waited_sound user fits short below =
       let same = sym (inherited_settings table core holder mine) in
       let there : mutex < raised.settings.mutexes = subst (λ s. mutex < s.mutexes) same below in
       let rank : mine < raised.settings.priorities = subst (λ s. mine < s.priorities) same (sound.blocks task caller_low).in_use in
-      blocked_sound core task marked ticks wait raised raised_sound raised_place there (omega (arith, (inherited_kept table core holder mine sound low).cores, user)) fits (there, rank) (λ is. (refl, short))
+      blocked_sound core task marked ticks wait raised raised_sound raised_place there
+      (omega (arith, (inherited_kept table core holder mine sound low).cores, user)) fits (there, rank) (λ is. (refl, short))
 
 -- ---- taking
 
@@ -198,30 +211,37 @@ module _ (table : Table) (core task mutex ticks : ℕ) (sound : IsConsistent tab
   unfolding mutex_take
   take_seen = from (holder_at table.holders mutex) refl
     where
-      either : (b : Bool) (holder : ℕ) → holder < table.settings.tasks → seen_of (cond b (Flag false, table) (Blocked, waited_at stamp_queues core task mutex holder (timeout_of ticks) table)) ≡ cond b (Flag false, view_of table) (Blocked, waited_at list_queues core task mutex holder (timeout_of ticks) (view_of table))
+      either : (b : Bool) (holder : ℕ) → holder < table.settings.tasks → seen_of
+          (cond b (Flag false, table) (Blocked, waited_at stamp_queues core task mutex holder (timeout_of ticks) table)) ≡ cond b (Flag false, view_of table)
+          (Blocked, waited_at list_queues core task mutex holder (timeout_of ticks) (view_of table))
       either true holder low = refl
       either false holder low = ap (outcome Blocked) (waited_seen table core task mutex holder (timeout_of ticks) sound place low)
 
-      from : (held : Option ℕ) → holder_at table.holders mutex ≡ held → seen_of (option_map_or (λ holder. cond (eqb ticks 0) (Flag false, table) (Blocked, waited_at stamp_queues core task mutex holder (timeout_of ticks) table)) held (Flag true, taken task mutex table)) ≡ option_map_or (λ holder. cond (eqb ticks 0) (Flag false, view_of table) (Blocked, waited_at list_queues core task mutex holder (timeout_of ticks) (view_of table))) held (Flag true, taken task mutex (view_of table))
+      from : (held : Option ℕ) → holder_at table.holders mutex ≡ held → seen_of (take_from stamp_queues held core task mutex ticks table) ≡ take_from
+          list_queues held core task mutex ticks (view_of table)
       from None free = ap (outcome (Flag true)) (taken_seen table task mutex)
       from (Some holder) held = either (eqb ticks 0) holder (sound.mutexes.held_by_tasks mutex holder held)
 
-  pub take_sound : length table.control.cores ≤ task → ticks < 2 ^ 32 → mutex < table.settings.mutexes → IsConsistent (mutex_take stamp_queues core task mutex ticks table).1
+  pub take_sound : length table.control.cores ≤ task → ticks < 2 ^ 32 → mutex < table.settings.mutexes → IsConsistent
+      (mutex_take stamp_queues core task mutex ticks table).1
   unfolding mutex_take
   take_sound user few below = from (holder_at table.holders mutex) refl
     where
-      either : (b : Bool) → eqb ticks 0 ≡ b → (holder : ℕ) → holder < table.settings.tasks → IsConsistent (cond {A = Reply × Table} b (Flag false, table) (Blocked, waited_at stamp_queues core task mutex holder (timeout_of ticks) table)).1
+      either : (b : Bool) → eqb ticks 0 ≡ b → (holder : ℕ) → holder < table.settings.tasks → IsConsistent
+          (cond {A = Reply × Table} b (Flag false, table) (Blocked, waited_at stamp_queues core task mutex holder (timeout_of ticks) table)).1
       either true none holder low = sound
-      either false some holder low = waited_sound table core task mutex holder (timeout_of ticks) sound place low user (waits_on ticks (grind (arith, nat_tests, some)) few) (waits_short ticks few) below
+      either false some holder low = waited_sound table core task mutex holder (timeout_of ticks) sound place low user
+          (waits_on ticks (grind (arith, nat_tests, some)) few) (waits_short ticks few) below
 
-      from : (held : Option ℕ) → holder_at table.holders mutex ≡ held → IsConsistent (option_map_or {U = Reply × Table} (λ holder. cond (eqb ticks 0) (Flag false, table) (Blocked, waited_at stamp_queues core task mutex holder (timeout_of ticks) table)) held (Flag true, taken task mutex table)).1
+      from : (held : Option ℕ) → holder_at table.holders mutex ≡ held → IsConsistent (take_from stamp_queues held core task mutex ticks table).1
       from None free = taken_sound table task mutex sound (omega (arith, sound.sized.rows, place.2)) below
       from (Some holder) held = either (eqb ticks 0) refl holder (sound.mutexes.held_by_tasks mutex holder held)
 
 -- ---- a wait that is over
 
 pub ended_seen : (table : Table) (task : ℕ) → view_of (after_return stamp_queues task table) ≡ after_return list_queues task (view_of table)
-ended_seen table task = ap (λ orders. record (view_of table) { calls = slice_set table.calls task None; orders = orders }) (forget_deadline_seen table.control table.orders task)
+ended_seen table task = ap (λ orders. record (view_of table) { calls = slice_set table.calls task None; orders = orders })
+    (forget_deadline_seen table.control table.orders task)
 
 forgotten_length : (stamps : Stamps) (task : ℕ) → length (forget_deadline task stamps).deadlines ≡ length stamps.deadlines
 unfolding forget_deadline
@@ -231,7 +251,8 @@ forgotten_length stamps task = length-set stamps.deadlines task None
 forgotten_sound : (table : Table) (task : ℕ) → IsConsistent table → task < table.settings.tasks → IsConsistent (after_return stamp_queues task table)
 unfolding forget_deadline
 forgotten_sound table task sound low = record {
-  sized = resized table _ refl (ap₂ (λ a b. record (lengths_of table) { calls = a; deadlines = b }) (length-set table.calls task None) (forgotten_length table.orders task)) sound.sized;
+  sized = resized table _ refl (ap₂ (λ a b. record (lengths_of table) { calls = a; deadlines = b }) (length-set table.calls task None)
+      (forgotten_length table.orders task)) sound.sized;
   stamped = record { given = sound.stamped.given; once = sound.stamped.once };
   in_place = record {
     is_task = sound.in_place.is_task;
@@ -243,17 +264,20 @@ forgotten_sound table task sound low = record {
   blocks = sound.blocks;
   calls = call_set table.settings table.calls task None (omega (arith, sound.sized.calls)) (λ other same. absurd (cc (same))) sound.calls;
   notes = sound.notes;
-  mutexes = freed_mutexes table.settings table.calls table.holders table.orders sound.mutexes task (omega (arith, sound.sized.calls)) (omega (arith, sound.sized.deadlines));
+  mutexes = freed_mutexes table.settings table.calls table.holders table.orders sound.mutexes task (omega (arith, sound.sized.calls))
+      (omega (arith, sound.sized.deadlines));
 }
 
 -- ---- disinheriting
 
 module _ (table : Table) (acting task priority : ℕ) (sound : IsConsistent table) (low : task < table.settings.tasks) where
-  pub after_disinherit_seen : view_of (after_disinherit stamp_queues acting task priority table) ≡ after_disinherit list_queues acting task priority (view_of table)
+  pub after_disinherit_seen : view_of (after_disinherit stamp_queues acting task priority table) ≡ after_disinherit list_queues acting task priority
+      (view_of table)
   unfolding after_disinherit
   after_disinherit_seen =
       let now = in_use_set stamp_queues task priority table in
-      either_seen (eqb (task_at table.control task).in_use priority) table (on_control (ask_its_core acting task) now) (view_of table) (on_control (ask_its_core acting task) (in_use_set list_queues task priority (view_of table)))
+      either_seen (eqb (task_at table.control task).in_use priority) table (on_control (ask_its_core acting task) now) (view_of table)
+      (on_control (ask_its_core acting task) (in_use_set list_queues task priority (view_of table)))
       refl
       (its_core_seen now acting task ∙ ap (on_control (ask_its_core acting task)) (in_use_seen table task priority sound low))
 
@@ -265,7 +289,8 @@ module _ (table : Table) (acting task priority : ℕ) (sound : IsConsistent tabl
       (its_core_sound now acting task (in_use_sound table task priority sound low below))
 
 disinherit_seen : (table : Table) (task mutex : ℕ) → IsConsistent table → owed list_queues task mutex (view_of table) ≡ owed stamp_queues task mutex table
-disinherit_seen table task mutex sound = ap (λ first. disinherit_priority first (task_at table.control task).base) (first_waiter_seen mutex table.orders table.control sound.stamped)
+disinherit_seen table task mutex sound = ap (λ first. disinherit_priority first (task_at table.control task).base)
+    (first_waiter_seen mutex table.orders table.control sound.stamped)
 
 greater_below : (base rank bound : ℕ) → base < bound → rank < bound → cond (ltb base rank) rank base < bound
 greater_below base rank bound low high = at (ltb base rank)
@@ -274,7 +299,8 @@ greater_below base rank bound low high = at (ltb base rank)
     at true = high
     at false = low
 
-disinherit_below : (table : Table) (task mutex : ℕ) → IsConsistent table → task < table.settings.tasks → owed stamp_queues task mutex table < table.settings.priorities
+disinherit_below : (table : Table) (task mutex : ℕ) → IsConsistent table → task < table.settings.tasks → owed stamp_queues task mutex table <
+    table.settings.priorities
 disinherit_below table task mutex sound low = from (first_waiter mutex table.orders) refl
   where
     base : ℕ
@@ -284,19 +310,22 @@ disinherit_below table task mutex sound low = from (first_waiter mutex table.ord
     from None none = greater_below base base table.settings.priorities (sound.blocks task low).base (sound.blocks task low).base
     from (Some waiter) some =
         let waits = first_waiter_waits mutex table.orders waiter some in
-        greater_below base waiter.wait.priority table.settings.priorities (sound.blocks task low).base (sound.mutexes.waits waiter.task waiter.wait waits.0 waits.1).1
+        greater_below base waiter.wait.priority table.settings.priorities (sound.blocks task low).base
+        (sound.mutexes.waits waiter.task waiter.wait waits.0 waits.1).1
 
 module _ (table : Table) (acting task mutex : ℕ) (mark : Bool) (holder : ℕ) (sound : IsConsistent table) (low : holder < table.settings.tasks) where
   abbrev gives_back : Bool
   gives_back = mark && not (eqb holder task) && eqb (held_by table.holders holder) 1
 
-  pub timed_out_seen : view_of (timed_out stamp_queues acting task mutex mark holder table) ≡ timed_out list_queues acting task mutex mark holder (view_of table)
+  pub timed_out_seen : view_of (timed_out stamp_queues acting task mutex mark holder table) ≡ timed_out list_queues acting task mutex mark holder
+      (view_of table)
   unfolding timed_out
   timed_out_seen =
       either_seen gives_back (after_disinherit stamp_queues acting holder (owed stamp_queues holder mutex table) table) table
       (after_disinherit list_queues acting holder (owed stamp_queues holder mutex table) (view_of table)) (view_of table)
       (after_disinherit_seen table acting holder (owed stamp_queues holder mutex table) sound low) refl
-      ∙ ap (λ rank. cond gives_back (after_disinherit list_queues acting holder rank (view_of table)) (view_of table)) (sym (disinherit_seen table holder mutex sound))
+      ∙ ap (λ rank. cond gives_back (after_disinherit list_queues acting holder rank (view_of table)) (view_of table))
+      (sym (disinherit_seen table holder mutex sound))
 
   pub timed_out_sound : IsConsistent (timed_out stamp_queues acting task mutex mark holder table)
   unfolding timed_out
@@ -310,13 +339,15 @@ abbrev is_over : Option ℕ → Bool
 is_over left = option_map_or (λ ticks. eqb ticks 0) left false
 
 -- the ticks of a wait that goes on
-goes_on : (tick : ℕ) (deadline : Option ℕ) → ((at : ℕ) → deadline ≡ Some at → suc at < tick + 2 ^ 32) → is_over (option_map (λ at. at - tick) deadline) ≡ false → IsWait (option_map (λ at. at - tick) deadline) × IsMutexTime (option_map (λ at. at - tick) deadline)
+goes_on : (tick : ℕ) (deadline : Option ℕ) → ((at : ℕ) → deadline ≡ Some at → suc at < tick + 2 ^ 32) → is_over (option_map (λ at. at - tick) deadline) ≡ false
+    → IsWait (option_map (λ at. at - tick) deadline) × IsMutexTime (option_map (λ at. at - tick) deadline)
 goes_on tick None near on = (tt, tt)
 goes_on tick (Some at) near on =
     let some : 0 < at - tick = grind (arith, nat_tests, on) in
     ((some, omega (arith, near at refl)), omega (arith, near at refl, some))
 
-still_waits : (table : Table) (task : ℕ) → IsConsistent table → is_over (deadline_left task table.orders) ≡ false → IsWait (deadline_left task table.orders) × IsMutexTime (deadline_left task table.orders)
+still_waits : (table : Table) (task : ℕ) → IsConsistent table → is_over (deadline_left task table.orders) ≡ false → IsWait (deadline_left task table.orders) ×
+    IsMutexTime (deadline_left task table.orders)
 unfolding deadline_left
 still_waits table task sound on = goes_on table.orders.tick (deadline_at table.orders task) (λ at is. (sound.mutexes.deadlines task at is).0) on
 
@@ -330,36 +361,32 @@ module _ (table : Table) (core task mutex : ℕ) (mark : Bool) (sound : IsConsis
   over_sound : IsConsistent over
   over_sound = forgotten_sound table task sound over_low
 
-  abbrev finished_by : Option ℕ → Option ℕ → Reply × Table
-  finished_by left held =
-      option_map_or
-      (λ holder. cond (is_over left)
-      (Flag false, timed_out stamp_queues core task mutex mark holder over)
-      (Blocked, waited_at stamp_queues core task mutex holder left table))
-      held (Flag true, taken task mutex over)
-
-  abbrev finished_view : Option ℕ → Option ℕ → Reply × View
-  finished_view left held =
-      option_map_or
-      (λ holder. cond (is_over left)
+  abbrev finished_view : Option ℕ → ℕ → Reply × View
+  finished_view left holder =
+      cond (is_over left)
       (Flag false, timed_out list_queues core task mutex mark holder (after_return list_queues task (view_of table)))
-      (Blocked, waited_at list_queues core task mutex holder left (view_of table)))
-      held (Flag true, taken task mutex (after_return list_queues task (view_of table)))
+      (Blocked, waited_at list_queues core task mutex holder left (view_of table))
 
   finish_seen : seen_of (take_finished stamp_queues core task mutex mark table) ≡ take_finished list_queues core task mutex mark (view_of table)
   unfolding take_finished
-  finish_seen = from (holder_at table.holders mutex) refl ∙ ap (λ left. finished_view left (holder_at table.holders mutex)) (sym (deadline_left_seen table.control table.orders task))
+  finish_seen = from (holder_at table.holders mutex) refl
     where
       left : Option ℕ
       left = deadline_left task table.orders
 
-      either : (b : Bool) (holder : ℕ) → holder < table.settings.tasks → seen_of (cond b (Flag false, timed_out stamp_queues core task mutex mark holder over) (Blocked, waited_at stamp_queues core task mutex holder left table)) ≡ cond b (Flag false, timed_out list_queues core task mutex mark holder (after_return list_queues task (view_of table))) (Blocked, waited_at list_queues core task mutex holder left (view_of table))
-      either true holder low = ap (outcome (Flag false)) (timed_out_seen over core task mutex mark holder over_sound low ∙ ap (timed_out list_queues core task mutex mark holder) (ended_seen table task))
+      either : (b : Bool) (holder : ℕ) → holder < table.settings.tasks → seen_of
+          (cond b (Flag false, timed_out stamp_queues core task mutex mark holder over) (Blocked, waited_at stamp_queues core task mutex holder left table)) ≡
+          cond b (Flag false, timed_out list_queues core task mutex mark holder (after_return list_queues task (view_of table)))
+          (Blocked, waited_at list_queues core task mutex holder left (view_of table))
+      either true holder low = ap (outcome (Flag false)) (timed_out_seen over core task mutex mark holder over_sound low ∙ ap
+          (timed_out list_queues core task mutex mark holder) (ended_seen table task))
       either false holder low = ap (outcome Blocked) (waited_seen table core task mutex holder left sound place low)
 
-      from : (held : Option ℕ) → holder_at table.holders mutex ≡ held → seen_of (finished_by left held) ≡ finished_view left held
+      from : (held : Option ℕ) → holder_at table.holders mutex ≡ held → seen_of (finish_from stamp_queues held core task mutex mark table) ≡ finish_from
+          list_queues held core task mutex mark (view_of table)
       from None free = ap (outcome (Flag true)) (taken_seen over task mutex ∙ ap (taken task mutex) (ended_seen table task))
-      from (Some holder) held = either (is_over left) holder (sound.mutexes.held_by_tasks mutex holder held)
+      from (Some holder) held = either (is_over left) holder (sound.mutexes.held_by_tasks mutex holder held) ∙ ap (λ left. finished_view left holder)
+          (sym (deadline_left_seen table.control table.orders task))
 
   finish_sound : length table.control.cores ≤ task → mutex < table.settings.mutexes → IsConsistent (take_finished stamp_queues core task mutex mark table).1
   unfolding take_finished
@@ -368,22 +395,27 @@ module _ (table : Table) (core task mutex : ℕ) (mark : Bool) (sound : IsConsis
       left : Option ℕ
       left = deadline_left task table.orders
 
-      either : (b : Bool) → is_over left ≡ b → (holder : ℕ) → holder < table.settings.tasks → IsConsistent (cond {A = Reply × Table} b (Flag false, timed_out stamp_queues core task mutex mark holder over) (Blocked, waited_at stamp_queues core task mutex holder left table)).1
+      either : (b : Bool) → is_over left ≡ b → (holder : ℕ) → holder < table.settings.tasks → IsConsistent
+          (cond {A = Reply × Table} b (Flag false, timed_out stamp_queues core task mutex mark holder over)
+          (Blocked, waited_at stamp_queues core task mutex holder left table)).1
       either true is holder low = timed_out_sound over core task mutex mark holder over_sound low
       either false on holder low =
           let waits = still_waits table task sound on in
           waited_sound table core task mutex holder left sound place low user waits.0 waits.1 below
 
-      from : (held : Option ℕ) → holder_at table.holders mutex ≡ held → IsConsistent (finished_by left held).1
+      from : (held : Option ℕ) → holder_at table.holders mutex ≡ held → IsConsistent (finish_from stamp_queues held core task mutex mark table).1
       from None free = taken_sound over task mutex over_sound over_low below
       from (Some holder) held = either (is_over left) refl holder (sound.mutexes.held_by_tasks mutex holder held)
 
-pub finished_seen : (table : Table) (core task : ℕ) (call : Unfinished) → IsConsistent table → IsCaller table core task → seen_of (after_finish stamp_queues core task call table) ≡ after_finish list_queues core task call (view_of table)
+pub finished_seen : (table : Table) (core task : ℕ) (call : Unfinished) → IsConsistent table → IsCaller table core task → seen_of
+    (after_finish stamp_queues core task call table) ≡ after_finish list_queues core task call (view_of table)
 unfolding after_finish
-finished_seen table core task (Made call) sound place = completed_seen (after_return stamp_queues task table) task call ∙ ap (completed task call) (ended_seen table task)
+finished_seen table core task (Made call) sound place = completed_seen (after_return stamp_queues task table) task call ∙ ap (completed task call)
+    (ended_seen table task)
 finished_seen table core task (Take mutex mark) sound place = finish_seen table core task mutex mark sound place
 
-pub finished_sound : (table : Table) (core task : ℕ) (call : Unfinished) → IsConsistent table → IsCaller table core task → IsCheckedUnfinished table.settings call → length table.control.cores ≤ task → IsConsistent (after_finish stamp_queues core task call table).1
+pub finished_sound : (table : Table) (core task : ℕ) (call : Unfinished) → IsConsistent table → IsCaller table core task → IsCheckedUnfinished table.settings
+    call → length table.control.cores ≤ task → IsConsistent (after_finish stamp_queues core task call table).1
 unfolding after_finish
 finished_sound table core task (Made call) sound place checked user =
     let low : task < table.settings.tasks = omega (arith, sound.sized.rows, place.2) in
@@ -395,9 +427,13 @@ finished_sound table core task (Take mutex mark) sound place checked user = fini
 module _ (table : Table) (acting mutex : ℕ) (sound : IsConsistent table) where
   pub woken_seen : view_of (first_woken stamp_queues acting mutex table) ≡ first_woken list_queues acting mutex (view_of table)
   unfolding first_woken
-  woken_seen = from (first_waiter mutex table.orders) refl ∙ ap (λ first. option_map_or (λ (waiter : Waiter). wake list_queues acting waiter.task (view_of table)) first (view_of table)) (sym (first_waiter_seen mutex table.orders table.control sound.stamped))
+  woken_seen = from (first_waiter mutex table.orders) refl ∙ ap (λ first. option_map_or
+      (λ (waiter : Waiter). wake list_queues acting waiter.task (view_of table)) first (view_of table))
+      (sym (first_waiter_seen mutex table.orders table.control sound.stamped))
     where
-      from : (first : Option Waiter) → first_waiter mutex table.orders ≡ first → view_of (option_map_or (λ (waiter : Waiter). wake stamp_queues acting waiter.task table) first table) ≡ option_map_or (λ (waiter : Waiter). wake list_queues acting waiter.task (view_of table)) first (view_of table)
+      from : (first : Option Waiter) → first_waiter mutex table.orders ≡ first → view_of
+          (option_map_or (λ (waiter : Waiter). wake stamp_queues acting waiter.task table) first table) ≡ option_map_or
+          (λ (waiter : Waiter). wake list_queues acting waiter.task (view_of table)) first (view_of table)
       from None none = refl
       from (Some waiter) some = wake_seen table acting waiter.task sound.stamped.given (first_waiter_waits mutex table.orders waiter some).0
 
@@ -405,16 +441,19 @@ module _ (table : Table) (acting mutex : ℕ) (sound : IsConsistent table) where
   unfolding first_woken
   woken_sound = from (first_waiter mutex table.orders) refl
     where
-      from : (first : Option Waiter) → first_waiter mutex table.orders ≡ first → IsConsistent (option_map_or (λ (waiter : Waiter). wake stamp_queues acting waiter.task table) first table)
+      from : (first : Option Waiter) → first_waiter mutex table.orders ≡ first → IsConsistent
+          (option_map_or (λ (waiter : Waiter). wake stamp_queues acting waiter.task table) first table)
       from None none = sound
-      from (Some waiter) some = wake_sound table acting waiter.task sound (omega (arith, sound.sized.rows, (first_waiter_waits mutex table.orders waiter some).0))
+      from (Some waiter) some = wake_sound table acting waiter.task sound
+          (omega (arith, sound.sized.rows, (first_waiter_waits mutex table.orders waiter some).0))
 
 module _ (table : Table) (core task : ℕ) (sound : IsConsistent table) (low : task < table.settings.tasks) where
   pub disinherited_seen : view_of (disinherited stamp_queues core task table) ≡ disinherited list_queues core task (view_of table)
   unfolding disinherited
   disinherited_seen =
       let base = (task_at table.control task).base in
-      either_seen (eqb (held_by table.holders task) 0) (after_disinherit stamp_queues core task base table) table (after_disinherit list_queues core task base (view_of table)) (view_of table)
+      either_seen (eqb (held_by table.holders task) 0) (after_disinherit stamp_queues core task base table) table
+      (after_disinherit list_queues core task base (view_of table)) (view_of table)
       (after_disinherit_seen table core task base sound low) refl
 
   pub disinherited_sound : IsConsistent (disinherited stamp_queues core task table)
@@ -435,7 +474,7 @@ module _ (table : Table) (core task mutex : ℕ) (sound : IsConsistent table) (l
   unfolding mutex_give
   give_seen = from (holder_at table.holders mutex)
     where
-      from : (held : Option ℕ) → seen_of (option_map_or (λ holder. (Flag true, first_woken stamp_queues core mutex (disinherited stamp_queues core task freed))) held (Flag false, table)) ≡ option_map_or (λ holder. (Flag true, first_woken list_queues core mutex (disinherited list_queues core task (view_of freed)))) held (Flag false, view_of table)
+      from : (held : Option ℕ) → seen_of (give_from stamp_queues held core task mutex table) ≡ give_from list_queues held core task mutex (view_of table)
       from None = refl
       from (Some holder) = ap (outcome (Flag true))
           (woken_seen (disinherited stamp_queues core task freed) core mutex (disinherited_sound freed core task freed_sound low)
@@ -445,6 +484,6 @@ module _ (table : Table) (core task mutex : ℕ) (sound : IsConsistent table) (l
   unfolding mutex_give
   give_sound = from (holder_at table.holders mutex)
     where
-      from : (held : Option ℕ) → IsConsistent (option_map_or {U = Reply × Table} (λ holder. (Flag true, first_woken stamp_queues core mutex (disinherited stamp_queues core task freed))) held (Flag false, table)).1
+      from : (held : Option ℕ) → IsConsistent (give_from stamp_queues held core task mutex table).1
       from None = sound
       from (Some holder) = woken_sound (disinherited stamp_queues core task freed) core mutex (disinherited_sound freed core task freed_sound low)

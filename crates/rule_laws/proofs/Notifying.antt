@@ -4,11 +4,11 @@ use Rattle.std.specs.Prelude.{slice_set}
 use Rattle.std.proofs.lemmas.Bool.{cases_eq}
 use Rattle.std.proofs.lemmas.List.{length-set, get_or-set_same, get_or-set_other}
 use Rattle.std.proofs.lemmas.Nat.{or_lt}
-use Rattle.bench_types.specs.declared.note.Action.{Action}
-use Rattle.bench_types.specs.declared.note.Action.TheVariants.{Nothing, SetBits, Increment, Set, SetNew}
+use Rattle.bench_types.specs.declared.note.NotifyAction.{NotifyAction}
+use Rattle.bench_types.specs.declared.note.NotifyAction.TheVariants.{Nothing, SetBits, Increment, Set, SetNew}
 use Rattle.bench_types.specs.declared.note.Note.{Note}
 use Rattle.bench_types.specs.declared.note.Notification.{Notification}
-use Rattle.bench_types.specs.Step.{IsActionOfWord}
+use Rattle.bench_types.specs.Step.{IsNotifyActionOfWord}
 use Rattle.bench_model.specs.Notes.{no_note, note_at, is_waiting, passes, acted, notified, of_slot, slot_of}
 use Rattle.bench_model.specs.Notifying.{notify}
 use Rattle.bench_model.specs.Seek.{wake}
@@ -21,7 +21,8 @@ use Rattle.order_laws.proofs.Sizes.{lengths_of, resized}
 pub notes_apart : (table : Table) (notes : List Notification) → view_of (record table { notes = notes }) ≡ record (view_of table) { notes = notes }
 notes_apart table notes = refl
 
-pub notes_sound : (table : Table) (notes : List Notification) → IsConsistent table → length notes ≡ table.settings.tasks * table.settings.notes → HasWords notes → IsConsistent (record table { notes = notes })
+pub notes_sound : (table : Table) (notes : List Notification) → IsConsistent table → length notes ≡ table.settings.tasks * table.settings.notes → HasWords notes
+    → IsConsistent (record table { notes = notes })
 notes_sound table notes sound each words = record {
   sized = resized table _ refl (ap (λ a. record (lengths_of table) { notes = a }) (each ∙ sym sound.sized.notes)) sound.sized;
   stamped = sound.stamped;
@@ -33,14 +34,14 @@ notes_sound table notes sound each words = record {
   mutexes = sound.mutexes;
 }
 
-acted_word : (action : Action) (value : ℕ) → IsActionOfWord action → value < 2 ^ 32 → acted action value < 2 ^ 32
+acted_word : (action : NotifyAction) (value : ℕ) → IsNotifyActionOfWord action → value < 2 ^ 32 → acted action value < 2 ^ 32
 acted_word Nothing value word low = low
 acted_word (SetBits bits) value word low = or_lt 32 value bits low word
 acted_word Increment value word low = omega arith
 acted_word (Set new) value word low = word
 acted_word (SetNew new) value word low = word
 
-notified_word : (action : Action) (note : Notification) → IsActionOfWord action → note.value < 2 ^ 32 → (notified action note).value < 2 ^ 32
+notified_word : (action : NotifyAction) (note : Notification) → IsNotifyActionOfWord action → note.value < 2 ^ 32 → (notified action note).value < 2 ^ 32
 unfolding notified
 notified_word action note word low = at (passes action note.state)
   where
@@ -53,16 +54,19 @@ module _ {A : Type 0} (slot : ℕ) (rule : Notification → A × Notification) w
   abbrev ruled : List Notification → List Notification
   ruled notes = (of_slot slot rule notes).1
 
-  ruled_words : (notes : List Notification) → ((note : Notification) → note.value < 2 ^ 32 → (rule note).1.value < 2 ^ 32) → HasWords notes → HasWords (ruled notes)
+  ruled_words : (notes : List Notification) → ((note : Notification) → note.value < 2 ^ 32 → (rule note).1.value < 2 ^ 32) → HasWords notes → HasWords
+      (ruled notes)
   ruled_words notes keeps words i low =
       let new = (rule (note_at notes slot)).1 in
       let long = length-set notes slot new in
       elim (cases_eq i slot) [
-        | inl here ↦ let below : slot < length notes = omega (arith, low, here, long) in subst (λ (n : Notification). n.value < 2 ^ 32) (sym (ap (note_at (ruled notes)) here ∙ get_or-set_same notes slot new no_note below)) (keeps (note_at notes slot) (words slot below))
+        | inl here ↦ let below : slot < length notes = omega (arith, low, here, long) in subst (λ (n : Notification). n.value < 2 ^ 32)
+            (sym (ap (note_at (ruled notes)) here ∙ get_or-set_same notes slot new no_note below)) (keeps (note_at notes slot) (words slot below))
         | inr away ↦ subst (λ (n : Notification). n.value < 2 ^ 32) (sym (get_or-set_other notes slot i new no_note away)) (words i (omega (arith, low, long)))
       ]
 
-  pub ruled_sound : (table : Table) → IsConsistent table → ((note : Notification) → note.value < 2 ^ 32 → (rule note).1.value < 2 ^ 32) → IsConsistent (record table { notes = ruled table.notes })
+  pub ruled_sound : (table : Table) → IsConsistent table → ((note : Notification) → note.value < 2 ^ 32 → (rule note).1.value < 2 ^ 32) → IsConsistent
+      (record table { notes = ruled table.notes })
   ruled_sound table sound keeps =
       notes_sound table (ruled table.notes) sound (length-set table.notes slot _ ∙ sound.sized.notes) (ruled_words table.notes keeps sound.notes)
 
@@ -70,24 +74,25 @@ module _ (table : Table) (acting : ℕ) (note : Note) (sound : IsConsistent tabl
   abbrev slot : ℕ
   slot = slot_of table.settings note.task note.index
 
-  abbrev told : Table
-  told = record table { notes = slice_set table.notes slot (notified note.action (note_at table.notes slot)) }
+  abbrev known : Table
+  known = record table { notes = slice_set table.notes slot (notified note.action (note_at table.notes slot)) }
 
-  told_sound : IsActionOfWord note.action → IsConsistent told
-  told_sound word = ruled_sound slot (λ old. (old, notified note.action old)) table sound (λ old. notified_word note.action old word)
+  known_sound : IsNotifyActionOfWord note.action → IsConsistent known
+  known_sound word = ruled_sound slot (λ old. (old, notified note.action old)) table sound (λ old. notified_word note.action old word)
 
   pub notify_seen : view_of (notify stamp_queues acting note table) ≡ notify list_queues acting note (view_of table)
   unfolding notify
   notify_seen = at (is_waiting (note_at table.notes slot).state)
     where
-      at : (b : Bool) → view_of (cond b (wake stamp_queues acting note.task told) told) ≡ cond b (wake list_queues acting note.task (view_of told)) (view_of told)
-      at true = wake_seen told acting note.task sound.stamped.given (omega (arith, sound.sized.rows, low))
+      at : (b : Bool) → view_of (cond b (wake stamp_queues acting note.task known) known) ≡ cond b (wake list_queues acting note.task (view_of known))
+          (view_of known)
+      at true = wake_seen known acting note.task sound.stamped.given (omega (arith, sound.sized.rows, low))
       at false = refl
 
-  pub notify_sound : IsActionOfWord note.action → IsConsistent (notify stamp_queues acting note table)
+  pub notify_sound : IsNotifyActionOfWord note.action → IsConsistent (notify stamp_queues acting note table)
   unfolding notify
   notify_sound word = at (is_waiting (note_at table.notes slot).state)
     where
-      at : (b : Bool) → IsConsistent (cond b (wake stamp_queues acting note.task told) told)
-      at true = wake_sound told acting note.task (told_sound word) low
-      at false = told_sound word
+      at : (b : Bool) → IsConsistent (cond b (wake stamp_queues acting note.task known) known)
+      at true = wake_sound known acting note.task (known_sound word) low
+      at false = known_sound word

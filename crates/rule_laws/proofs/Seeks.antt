@@ -1,5 +1,6 @@
 -- The core that is asked, seeking and time slices: what the search finds, how each is seen, and that each keeps soundness.
-use Rattle.std.proofs.Common.{◌≡◌, ℕ, ◌<◌, ◌≤◌, Bool, true, false, cond, not, eqb, ◌&&◌, ◌||◌, List, length, map, Option, Some, None, refl, sym, ap, subst, ◌∙◌, arith, inl, inr}
+use Rattle.std.proofs.Common.{◌≡◌, ℕ, ◌<◌, ◌≤◌, Bool, true, false, cond, not, eqb, ◌&&◌, ◌||◌, List, length, map, Option, Some, None, refl, sym, ap, subst, ◌∙◌}
+use Rattle.std.proofs.Common.{arith, inl, inr}
 use Rattle.std.specs.Option.{option_map_or}
 use Rattle.std.proofs.lemmas.Bool.{cases_lt}
 use Rattle.std.proofs.lemmas.List.{get_or_past, length-set}
@@ -24,7 +25,8 @@ use Rattle.order_laws.proofs.SoundSteps.{IsAskedMore, asked_more, asked_runs, as
 use Rattle.list_orders.proofs.Stamped.{numbers_below}
 
 -- the orders do not read the cores, of which seeking may ask one
-seek_apart : (acting task : ℕ) (among : ℕ → Bool) (control : Control) (stamps : Stamps) → lists_of (seek acting task among control) stamps ≡ lists_of control stamps
+seek_apart : (acting task : ℕ) (among : ℕ → Bool) (control : Control) (stamps : Stamps) → lists_of (seek acting task among control) stamps ≡ lists_of control
+    stamps
 unfolding seek
 seek_apart acting task among control stamps = at (is_running control task) (core_to_yield control task among)
   where
@@ -34,33 +36,41 @@ seek_apart acting task among control stamps = at (is_running control task) (core
     at false (Some core) = lists_of_cores control _ stamps
 
 pub seek_seen : (table : Table) (acting task : ℕ) (among : ℕ → Bool) → view_of (sought acting task among table) ≡ sought acting task among (view_of table)
-seek_seen table acting task among = same_state table.settings _ _ table.calls table.notes table.holders table.hold _ _ refl (seek_apart acting task among table.control table.orders)
+seek_seen table acting task among = same_state table.settings _ _ table.calls table.notes table.holders table.hold _ _ refl
+    (seek_apart acting task among table.control table.orders)
 
-pub wake_seen : (table : Table) (acting task : ℕ) → IsGiven table.orders → task < length table.orders.rows → view_of (wake stamp_queues acting task table) ≡ wake list_queues acting task (view_of table)
+pub wake_seen : (table : Table) (acting task : ℕ) → IsGiven table.orders → task < length table.orders.rows → view_of (wake stamp_queues acting task table) ≡
+    wake list_queues acting task (view_of table)
 unfolding wake
 wake_seen table acting task given below =
     same_state table.settings _ _ table.calls table.notes table.holders table.hold _ _ refl
-    (seek_apart acting task (in_mask table.control task) table.control (add_to_ready_list task table.orders) ∙ add_to_ready_seen table.control table.orders task given below)
+    (seek_apart acting task (in_mask table.control task) table.control (add_to_ready_list task table.orders) ∙ add_to_ready_seen table.control table.orders task
+    given below)
 
-after_eviction_seen : (table : Table) (core loser : ℕ) → IsGiven table.orders → loser < length table.orders.rows → view_of (after_eviction stamp_queues core loser table) ≡ after_eviction list_queues core loser (view_of table)
+after_eviction_seen : (table : Table) (core loser : ℕ) → IsGiven table.orders → loser < length table.orders.rows → view_of
+    (after_eviction stamp_queues core loser table) ≡ after_eviction list_queues core loser (view_of table)
 unfolding after_eviction
 after_eviction_seen table core loser given below =
-    at (lost && is_ready loser table.orders) (lost && seen.is_ready loser (lists_of table.control table.orders)) (ap (λ b. lost && b) (sym (is_ready_seen table.control table.orders loser given below)))
+    at (lost && is_ready loser table.orders) (lost && seen.is_ready loser (lists_of table.control table.orders))
+    (ap (λ b. lost && b) (sym (is_ready_seen table.control table.orders loser given below)))
   where
     lost : Bool
     lost = not (eqb (current table.control core) loser)
 
-    at : (b d : Bool) → b ≡ d → view_of (cond b (sought core loser (may_move table.control loser (current table.control core) core) table) table) ≡ cond d (sought core loser (may_move table.control loser (current table.control core) core) (view_of table)) (view_of table)
+    at : (b d : Bool) → b ≡ d → view_of (cond b (sought core loser (may_move table.control loser (current table.control core) core) table) table) ≡ cond d
+        (sought core loser (may_move table.control loser (current table.control core) core) (view_of table)) (view_of table)
     at true true same = seek_seen table core loser (may_move table.control loser (current table.control core) core)
     at false false same = refl
     at true false same = absurd (cc (same))
     at false true same = absurd (cc (same))
 
-pub after_select_rows : (table : Table) (core : ℕ) → IsConsistent table → core < length table.control.cores → length (after_select stamp_queues core table).orders.rows ≡ length table.orders.rows
+pub after_select_rows : (table : Table) (core : ℕ) → IsConsistent table → core < length table.control.cores → length
+    (after_select stamp_queues core table).orders.rows ≡ length table.orders.rows
 unfolding after_select
 after_select_rows table core sound below = queued_length table.orders (current table.control core) (sound.in_place.is_task core below)
 
-pub after_switch_seen : (table : Table) (core : ℕ) → IsConsistent table → core < table.settings.cores → view_of (after_switch stamp_queues core table) ≡ after_switch list_queues core (view_of table)
+pub after_switch_seen : (table : Table) (core : ℕ) → IsConsistent table → core < table.settings.cores → view_of (after_switch stamp_queues core table) ≡
+    after_switch list_queues core (view_of table)
 unfolding after_switch
 after_switch_seen table core sound low =
     let below : core < length table.control.cores = omega (arith, sound.sized.cores) in
@@ -74,29 +84,38 @@ after_switch_seen table core sound low =
 ready_in_seen : (table : Table) (priority : ℕ) → IsConsistent table → ready_in stamp_queues priority table ≡ ready_in list_queues priority (view_of table)
 ready_in_seen table priority sound =
     let tasks = length table.control.tasks in
-    filter_agrees (λ task. is_ready task table.orders && eqb (task_at table.control task).in_use priority) (λ task. seen.is_ready task (lists_of table.control table.orders) && eqb (task_at table.control task).in_use priority) (numbers tasks)
-    (All-weaker (λ task. task < tasks) _ (λ task below. ap (λ b. b && eqb (task_at table.control task).in_use priority) (sym (is_ready_seen table.control table.orders task sound.stamped.given (omega (arith, sound.sized.controls, sound.sized.rows))))) (numbers tasks) (numbers_below tasks))
+    filter_agrees (λ task. is_ready task table.orders && eqb (task_at table.control task).in_use priority)
+    (λ task. seen.is_ready task (lists_of table.control table.orders) && eqb (task_at table.control task).in_use priority) (numbers tasks)
+    (All-weaker (λ task. task < tasks) _ (λ task below. ap (λ b. b && eqb (task_at table.control task).in_use priority)
+    (sym (is_ready_seen table.control table.orders task sound.stamped.given (omega (arith, sound.sized.controls, sound.sized.rows))))) (numbers tasks)
+    (numbers_below tasks))
 
-shares_seen : (table : Table) (core : ℕ) → IsConsistent table → core < length table.control.cores → shares_its_time stamp_queues table core ≡ shares_its_time list_queues (view_of table) core
+shares_seen : (table : Table) (core : ℕ) → IsConsistent table → core < length table.control.cores → shares_its_time stamp_queues table core ≡ shares_its_time
+    list_queues (view_of table) core
 shares_seen table core sound below =
     let runs = current table.control core in
     let ready = is_ready_seen table.control table.orders runs sound.stamped.given (sound.in_place.is_task core below) in
     let list = ready_in_seen table (task_at table.control runs).in_use sound in
     cc (ready, list)
 
-sliced_control : (table : Table) → IsConsistent table → ask_each 0 (shares_its_time stamp_queues table) table.control ≡ ask_each 0 (shares_its_time list_queues (view_of table)) table.control
+sliced_control : (table : Table) → IsConsistent table → ask_each 0 (shares_its_time stamp_queues table) table.control ≡ ask_each 0
+    (shares_its_time list_queues (view_of table)) table.control
 sliced_control table sound =
     let cores = length table.control.cores in
     ap (λ (looks : List CoreLook). record table.control { cores = looks })
-    (map_agrees (asked_where 0 (shares_its_time stamp_queues table) table.control) (asked_where 0 (shares_its_time list_queues (view_of table)) table.control) (numbers cores)
-    (All-weaker (λ core. core < cores) _ (λ core below. ap (λ b. cond b (asked_by 0 core (core_at table.control core)) (core_at table.control core)) (shares_seen table core sound below)) (numbers cores) (numbers_below cores)))
+    (map_agrees (asked_where 0 (shares_its_time stamp_queues table) table.control) (asked_where 0 (shares_its_time list_queues (view_of table)) table.control)
+    (numbers cores)
+    (All-weaker (λ core. core < cores) _ (λ core below. ap (λ b. cond b (asked_by 0 core (core_at table.control core)) (core_at table.control core))
+    (shares_seen table core sound below)) (numbers cores) (numbers_below cores)))
 
 pub sliced_seen : (table : Table) → IsConsistent table → view_of (sliced stamp_queues table) ≡ sliced list_queues (view_of table)
 unfolding sliced
 sliced_seen table sound = at table.settings.slicing
   where
-    at : (b : Bool) → view_of (cond b (record table { control = ask_each 0 (shares_its_time stamp_queues table) table.control }) table) ≡ cond b (record (view_of table) { control = ask_each 0 (shares_its_time list_queues (view_of table)) table.control }) (view_of table)
-    at true = same_state table.settings _ _ table.calls table.notes table.holders table.hold _ _ (sliced_control table sound) (lists_of_cores table.control _ table.orders)
+    at : (b : Bool) → view_of (cond b (record table { control = ask_each 0 (shares_its_time stamp_queues table) table.control }) table) ≡ cond b
+        (record (view_of table) { control = ask_each 0 (shares_its_time list_queues (view_of table)) table.control }) (view_of table)
+    at true = same_state table.settings _ _ table.calls table.notes table.holders table.hold _ _ (sliced_control table sound)
+        (lists_of_cores table.control _ table.orders)
     at false = refl
 
 -- seeking asks one core, or none
@@ -107,13 +126,16 @@ seek_more acting task among control = at (is_running control task) (core_to_yiel
     none : IsAskedMore control control
     none = record { cores = refl; tasks = refl; currents = λ c. refl; due = λ c is. is }
 
-    at : (b : Bool) (o : Option ℕ) → core_to_yield control task among ≡ o → IsAskedMore control (cond b control (option_map_or (λ core. ask acting core control) o control))
+    at : (b : Bool) (o : Option ℕ) → core_to_yield control task among ≡ o → IsAskedMore control
+        (cond b control (option_map_or (λ core. ask acting core control) o control))
     at true o same = none
     at false None same = none
     at false (Some core) same = asked_more control acting core (subst (IsAnswer control task among) same (best_core control task among)).0.0
 
-pub ask_sound : (table : Table) (acting core : ℕ) → IsConsistent table → core < table.settings.cores → IsConsistent (record table { control = ask acting core table.control })
-ask_sound table acting core sound low = more_sound table (ask acting core table.control) (asked_more table.control acting core (omega (arith, sound.sized.cores))) sound
+pub ask_sound : (table : Table) (acting core : ℕ) → IsConsistent table → core < table.settings.cores → IsConsistent
+    (record table { control = ask acting core table.control })
+ask_sound table acting core sound low = more_sound table (ask acting core table.control)
+    (asked_more table.control acting core (omega (arith, sound.sized.cores))) sound
 
 pub seek_sound : (table : Table) (acting task : ℕ) (among : ℕ → Bool) → IsConsistent table → IsConsistent (sought acting task among table)
 seek_sound table acting task among sound = more_sound table (seek acting task among table.control) (seek_more acting task among table.control) sound
@@ -122,7 +144,8 @@ pub wake_sound : (table : Table) (acting task : ℕ) → IsConsistent table → 
 unfolding wake
 wake_sound table acting task sound low =
     let readied = ready_sound table task sound low in
-    more_sound (record table { orders = add_to_ready_list task table.orders }) (seek acting task (in_mask table.control task) table.control) (seek_more acting task (in_mask table.control task) table.control) readied
+    more_sound (record table { orders = add_to_ready_list task table.orders }) (seek acting task (in_mask table.control task) table.control)
+    (seek_more acting task (in_mask table.control task) table.control) readied
 
 after_eviction_sound : (table : Table) (core loser : ℕ) → IsConsistent table → IsConsistent (after_eviction stamp_queues core loser table)
 unfolding after_eviction
@@ -137,7 +160,8 @@ after_eviction_sound table core loser sound = at (not (eqb (current table.contro
 
 pub after_switch_sound : (table : Table) (core : ℕ) → IsConsistent table → core < table.settings.cores → IsConsistent (after_switch stamp_queues core table)
 unfolding after_switch
-after_switch_sound table core sound low = after_eviction_sound (after_select stamp_queues core table) core (current table.control core) (after_select_sound core table sound (omega (arith, sound.sized.cores)))
+after_switch_sound table core sound low = after_eviction_sound (after_select stamp_queues core table) core (current table.control core)
+    (after_select_sound core table sound (omega (arith, sound.sized.cores)))
 
 after_eviction_length : (table : Table) (core loser : ℕ) → length (after_eviction stamp_queues core loser table).control.cores ≡ length table.control.cores
 unfolding after_eviction
@@ -162,12 +186,17 @@ after_switch_length core table = after_eviction_length (after_select stamp_queue
 abbrev no_look : CoreLook
 no_look = record { current = 0; pend = false; asked = false }
 
-each_look : (acting : ℕ) (test : ℕ → Bool) (control : Control) (core : ℕ) → core < length control.cores → core_at (ask_each acting test control) core ≡ asked_where acting test control core
-each_look acting test control core below = get_or-map-range_with_len (asked_where acting test control) 0 (length control.cores) core core no_look below (omega arith)
+each_look : (acting : ℕ) (test : ℕ → Bool) (control : Control) (core : ℕ) → core < length control.cores → core_at (ask_each acting test control) core ≡
+    asked_where acting test control core
+each_look acting test control core below = get_or-map-range_with_len (asked_where acting test control) 0 (length control.cores) core core no_look below
+    (omega arith)
 
-each_past : (acting : ℕ) (test : ℕ → Bool) (control : Control) (core : ℕ) → length control.cores ≤ core → core_at (ask_each acting test control) core ≡ core_at control core
+each_past : (acting : ℕ) (test : ℕ → Bool) (control : Control) (core : ℕ) → length control.cores ≤ core → core_at (ask_each acting test control) core ≡ core_at
+    control core
 each_past acting test control core past =
-    get_or_past (map (asked_where acting test control) (numbers (length control.cores))) core no_look (omega (arith, length-map-range_with_len (asked_where acting test control) 0 (length control.cores))) ∙ sym (get_or_past control.cores core no_look past)
+    get_or_past (map (asked_where acting test control) (numbers (length control.cores))) core no_look
+    (omega (arith, length-map-range_with_len (asked_where acting test control) 0 (length control.cores))) ∙ sym
+    (get_or_past control.cores core no_look past)
 
 where_runs : (acting : ℕ) (test : ℕ → Bool) (control : Control) (core : ℕ) → (asked_where acting test control core).current ≡ current control core
 where_runs acting test control core = at (test core)
@@ -176,10 +205,12 @@ where_runs acting test control core = at (test core)
     at true = asked_runs acting core (core_at control core)
     at false = refl
 
-where_due : (acting : ℕ) (test : ℕ → Bool) (control : Control) (core : ℕ) → is_due control core ≡ true → ((asked_where acting test control core).pend || (asked_where acting test control core).asked) ≡ true
+where_due : (acting : ℕ) (test : ℕ → Bool) (control : Control) (core : ℕ) → is_due control core ≡ true →
+    ((asked_where acting test control core).pend || (asked_where acting test control core).asked) ≡ true
 where_due acting test control core is = at (test core)
   where
-    at : (b : Bool) → ((cond b (asked_by acting core (core_at control core)) (core_at control core)).pend || (cond b (asked_by acting core (core_at control core)) (core_at control core)).asked) ≡ true
+    at : (b : Bool) → ((cond b (asked_by acting core (core_at control core)) (core_at control core)).pend ||
+        (cond b (asked_by acting core (core_at control core)) (core_at control core)).asked) ≡ true
     at true = asked_is_due acting core (core_at control core)
     at false = is
 
@@ -202,5 +233,6 @@ unfolding sliced
 sliced_sound table sound = at table.settings.slicing
   where
     at : (b : Bool) → IsConsistent (cond b (record table { control = ask_each 0 (shares_its_time stamp_queues table) table.control }) table)
-    at true = more_sound table (ask_each 0 (shares_its_time stamp_queues table) table.control) (each_more 0 (shares_its_time stamp_queues table) table.control) sound
+    at true = more_sound table (ask_each 0 (shares_its_time stamp_queues table) table.control) (each_more 0 (shares_its_time stamp_queues table) table.control)
+        sound
     at false = sound

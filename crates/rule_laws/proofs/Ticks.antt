@@ -28,11 +28,13 @@ unfolding wake
 wake_length table task below = add_to_ready_length table.orders task below
 
 -- tasks that are woken in turn
-pub woken_seen : (tasks : List ℕ) (table : Table) → IsGiven table.orders → AllByRecursion (λ task. task < length table.orders.rows) tasks → view_of (woken stamp_queues tasks table) ≡ woken list_queues tasks (view_of table)
+pub woken_seen : (tasks : List ℕ) (table : Table) → IsGiven table.orders → AllByRecursion (λ task. task < length table.orders.rows) tasks → view_of
+    (woken stamp_queues tasks table) ≡ woken list_queues tasks (view_of table)
 woken_seen [] table given below = refl
 woken_seen (task ∷ tasks) table given below =
     let later = wake stamp_queues 0 task table in
-    let rest = All-weaker (λ i. i < length table.orders.rows) (λ i. i < length later.orders.rows) (λ i h. omega (arith, wake_length table task below.0)) tasks below.1 in
+    let rest = All-weaker (λ i. i < length table.orders.rows) (λ i. i < length later.orders.rows) (λ i h. omega (arith, wake_length table task below.0)) tasks
+    below.1 in
     woken_seen tasks later (wake_given table task given below.0) rest ∙ ap (woken list_queues tasks) (wake_seen table 0 task given below.0)
 
 -- the cores after the seeks of tasks that are woken in turn
@@ -54,7 +56,8 @@ sought_more (task ∷ tasks) control =
     more_chain control later (sought_each tasks later) (seek_more 0 task (in_mask control task) control) (sought_more tasks later)
 
 -- what waking does to the cores, and what it does to the orders
-pub woken_parts : (tasks : List ℕ) (table : Table) → woken stamp_queues tasks table ≡ record table { control = sought_each tasks table.control; orders = readied table.orders tasks }
+pub woken_parts : (tasks : List ℕ) (table : Table) → woken stamp_queues tasks table ≡ record table
+    { control = sought_each tasks table.control; orders = readied table.orders tasks }
 unfolding wake
 woken_parts [] table = refl
 woken_parts (task ∷ tasks) table = woken_parts tasks (wake stamp_queues 0 task table)
@@ -74,12 +77,15 @@ pub ticked_sound : (table : Table) → IsConsistent table → IsConsistent (tick
 unfolding ticked
 ticked_sound table sound = sliced_sound (after_wakes table) (wakes_sound table sound)
 
-advanced_view : (table : Table) → WakesInTime table.orders → view_of (with_orders table (advance table.orders)) ≡ with_orders (view_of table) (seen.advance (view_of table).orders)
-advanced_view table in_time = same_state table.settings table.control table.control table.calls table.notes table.holders table.hold _ _ refl (advance_seen table.control table.orders (in_time_ahead table.orders in_time))
+advanced_view : (table : Table) → WakesInTime table.orders → view_of (with_orders table (advance table.orders)) ≡ with_orders (view_of table)
+    (seen.advance (view_of table).orders)
+advanced_view table in_time = same_state table.settings table.control table.control table.calls table.notes table.holders table.hold _ _ refl
+    (advance_seen table.control table.orders (in_time_ahead table.orders in_time))
 
 due_seen_later : (table : Table) → WakesInTime table.orders → due (advance table.orders) ≡ seen.due (seen.advance (view_of table).orders)
 due_seen_later table in_time =
-    sym (due_seen table.control (advance table.orders) (advanced_near table.orders in_time)) ∙ ap seen.due (advance_seen table.control table.orders (in_time_ahead table.orders in_time))
+    sym (due_seen table.control (advance table.orders) (advanced_near table.orders in_time)) ∙ ap seen.due
+    (advance_seen table.control table.orders (in_time_ahead table.orders in_time))
 
 pub ticked_seen : (table : Table) → IsConsistent table → view_of (ticked stamp_queues table) ≡ ticked list_queues (view_of table)
 unfolding ticked

@@ -2,7 +2,7 @@
 use Rattle.std.specs.Prelude.{◌≡◌, ℕ, ◌*◌, ◌<◌, List, length}
 use Rattle.bench_types.specs.declared.note.Note.{Note}
 use Rattle.bench_types.specs.declared.note.Notification.{Notification}
-use Rattle.bench_types.specs.Step.{IsActionOfWord}
+use Rattle.bench_types.specs.Step.{IsNotifyActionOfWord}
 use Rattle.bench_model.specs.Notifying.{notify}
 use Rattle.bench_model.specs.Table.{Table, stamp_queues}
 use Rattle.bench_model.specs.Lists.{list_queues, view_of}
@@ -18,7 +18,7 @@ NotifySimulates =
 abbrev pub NotifyKeepsConsistent : Type 0
 NotifyKeepsConsistent =
     (table : Table) (acting : ℕ) (note : Note) → IsConsistent table
-    → note.task < table.settings.tasks → IsActionOfWord note.action →
+    → note.task < table.settings.tasks → IsNotifyActionOfWord note.action →
     IsConsistent (notify stamp_queues acting note table)
 
 -- other notifications are seen as they are, and change nothing else that is seen

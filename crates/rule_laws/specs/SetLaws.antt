@@ -1,18 +1,12 @@
 -- The laws of the calls that set a task's priority, core affinity mask and preemption. Each is the
 -- contract of a public function.
-use Rattle.std.specs.Prelude.{◌≡◌, ℕ, ◌<◌, Bool, is_some}
-use Rattle.bench_model.specs.Control.{Control, runs_on, ask_its_core}
+use Rattle.std.specs.Prelude.{◌≡◌, ℕ, ◌<◌, Bool}
+use Rattle.bench_model.specs.Control.{Control, ask_its_core}
 use Rattle.bench_model.specs.State.{State}
 use Rattle.bench_model.specs.Table.{Table, stamp_queues}
 use Rattle.bench_model.specs.Lists.{list_queues, view_of}
-use Rattle.bench_model.specs.Seek.{is_running}
 use Rattle.bench_model.specs.PriorityAffinity.{yields_after_priority_set, yields_after_affinity_set, priority_set, affinity_set, preemption_off, preemption_on}
 use Rattle.bench_model.specs.Sound.{IsConsistent}
-
--- a task runs where there is a core that it runs on
-abbrev pub RunsOnSomeCore : Type 0
-RunsOnSomeCore =
-    (control : Control) (task : ℕ) → is_some (runs_on control task) ≡ is_running control task
 
 -- a state with other cores or control blocks
 abbrev pub on_control : {Orders : Type 0} → (Control → Control) → State Orders → State Orders

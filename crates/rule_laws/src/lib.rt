@@ -6,7 +6,7 @@ ghost use Rattle.rule_laws.specs.CoresLaws.{ChangeIsApart, ChangeKeepsConsistent
 ghost use Rattle.rule_laws.specs.MutexLaws.{FirstWaiterSimulates, DeadlineSimulates, ForgettingSimulates, InheritSimulates, InheritKeepsConsistent, TakeSimulates, TakeKeepsConsistent, FinishSimulates, FinishKeepsConsistent, GiveSimulates, GiveKeepsConsistent, LowerSimulates, LowerKeepsConsistent, InheritOnCores, LowerOnCores};
 ghost use Rattle.rule_laws.specs.NoteLaws.{NotifySimulates, NotifyKeepsConsistent, NotesKeepOrders, NotesKeepConsistent};
 ghost use Rattle.rule_laws.specs.SeekLaws.{BestCoreIsAsked, SeekSimulates, WakeSimulates, AfterSwitchSimulates, SlicesAreSeen, AskKeepsConsistent, SeekKeepsConsistent, WakeKeepsConsistent, AfterSwitchKeepsConsistent, SlicesKeepConsistent};
-ghost use Rattle.rule_laws.specs.SetLaws.{RunsOnSomeCore, AskItsCoreSimulates, YieldsAfterPrioritySetSimulates, YieldsAfterAffinitySetSimulates, PrioritySetSimulates, AffinitySetSimulates, PreemptionOffSimulates, PreemptionOnSimulates, AskItsCoreKeepsConsistent, YieldsAfterPrioritySetKeepsConsistent, YieldsAfterAffinitySetKeepsConsistent, PrioritySetKeepsConsistent, AffinitySetKeepsConsistent, PreemptionOffKeepsConsistent, PreemptionOnKeepsConsistent};
+ghost use Rattle.rule_laws.specs.SetLaws.{AskItsCoreSimulates, YieldsAfterPrioritySetSimulates, YieldsAfterAffinitySetSimulates, PrioritySetSimulates, AffinitySetSimulates, PreemptionOffSimulates, PreemptionOnSimulates, AskItsCoreKeepsConsistent, YieldsAfterPrioritySetKeepsConsistent, YieldsAfterAffinitySetKeepsConsistent, PrioritySetKeepsConsistent, AffinitySetKeepsConsistent, PreemptionOffKeepsConsistent, PreemptionOnKeepsConsistent};
 
 /// Seeking a core for a task, waking one, switches and time slices. Each rule is the same over
 /// stamps and over lists, and keeps a table consistent (FreeRTOS SMP, `prvYieldForTask`).
@@ -37,8 +37,6 @@ pub fn laws_of_seeking()
 /// The calls that set a task's priority, core affinity mask and preemption, and who is asked then.
 /// Each rule is the same over stamps and over lists, and keeps a table consistent.
 pub fn laws_of_priority_and_affinity()
-    // A task runs where there is a core that it runs on.
-    ensures runs_on_some_core { RunsOnSomeCore }
     // Asking the core of a task changes no order of tasks, so it is the same over lists.
     ensures ask_its_core_simulates { AskItsCoreSimulates }
     // Who is asked after a new base priority changes no order of tasks, so it is the same over

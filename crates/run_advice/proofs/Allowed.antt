@@ -1,5 +1,6 @@
 -- The changes of a family may be made.
-use Rattle.std.proofs.Common.{◌≡◌, ℕ, zero, suc, ◌+◌, ◌-◌, ◌%◌, ◌^◌, ◌<◌, ◌≤◌, Bool, true, false, cond, List, [], ◌∷◌, ◌++◌, length, map, flat_map, Option, Some, None, refl, sym, subst, arith}
+use Rattle.std.proofs.Common.{◌≡◌, ℕ, zero, suc, ◌+◌, ◌-◌, ◌%◌, ◌^◌, ◌<◌, ◌≤◌, Bool, true, false, cond, List, [], ◌∷◌, ◌++◌, length, map, flat_map, Option}
+use Rattle.std.proofs.Common.{Some, None, refl, sym, subst, arith}
 use Rattle.std.specs.Prelude.{All, nat_le, slice_get, option_and_then}
 use Rattle.std.specs.List.{cons_option, filter_map, range_with_len, AllByRecursion}
 use Rattle.std.proofs.Math.Nat.{mod-eq_of_lt}
@@ -19,15 +20,18 @@ use Rattle.run_advice.specs.declared.change.Change.{Change}
 use Rattle.run_advice.specs.declared.change.Change.TheVariants as change
 use Rattle.run_advice.specs.declared.change.Family.{Family}
 use Rattle.run_advice.specs.Changed.{IsChangeOf, IsUserTask}
-use Rattle.run_advice.specs.Changes.{all_cores, are_two_tasks, caller, caller_at, changes_of, exchange_at, exchange_with, mask_changes, masks_of, next_event, order_changes, other_masks, other_priorities, priority_changes, user_tasks}
+use Rattle.run_advice.specs.Changes.{all_cores, are_two_tasks, caller, caller_at, changes_of, exchange_at, exchange_with, mask_changes, masks_of, next_event}
+use Rattle.run_advice.specs.Changes.{order_changes, other_masks, other_priorities, priority_changes, user_tasks}
 
 -- ---- lists
 
-all_flat_map : {X Y : Type 0} (P : Y → Type 0) (f : X → List Y) (xs : List X) → AllByRecursion (λ x. AllByRecursion P (f x)) xs → AllByRecursion P (flat_map f xs)
+all_flat_map : {X Y : Type 0} (P : Y → Type 0) (f : X → List Y) (xs : List X) → AllByRecursion (λ x. AllByRecursion P (f x)) xs → AllByRecursion P
+    (flat_map f xs)
 all_flat_map P f [] all = tt
 all_flat_map P f (x ∷ xs) all = All-append P (f x) (flat_map f xs) all.0 (all_flat_map P f xs all.1)
 
-all_filter_map : {X Y : Type 0} (P : Y → Type 0) (h : X → Option Y) (xs : List X) → AllByRecursion (λ x. (y : Y) → h x ≡ Some y → P y) xs → AllByRecursion P (filter_map h xs)
+all_filter_map : {X Y : Type 0} (P : Y → Type 0) (h : X → Option Y) (xs : List X) → AllByRecursion (λ x. (y : Y) → h x ≡ Some y → P y) xs → AllByRecursion P
+    (filter_map h xs)
 all_filter_map P h [] all = tt
 all_filter_map P h (x ∷ xs) all = here (h x) refl (all_filter_map P h xs all.1)
   where
@@ -39,12 +43,16 @@ all_filter_map P h (x ∷ xs) all = here (h x) refl (all_filter_map P h xs all.1
 
 module _ (session : Session) (is : IsSession session) where
   allowed_priorities : AllByRecursion (IsChangeOf session) (priority_changes session.header)
-  allowed_priorities = all_flat_map _ _ _ (All-weaker (λ task. IsUserTask session.header task) _ each (user_tasks session.header) (range_all session.header.config.cores (length session.header.tasks)))
+  allowed_priorities = all_flat_map _ _ _ (All-weaker (λ task. IsUserTask session.header task) _ each (user_tasks session.header)
+      (range_all session.header.config.cores (length session.header.tasks)))
     where
-      each : (task : ℕ) → IsUserTask session.header task → AllByRecursion (IsChangeOf session) (map (change.Priority task) (other_priorities session.header task))
+      each : (task : ℕ) → IsUserTask session.header task → AllByRecursion (IsChangeOf session)
+          (map (change.Priority task) (other_priorities session.header task))
       each task user =
           All-map (IsChangeOf session) (change.Priority task) (other_priorities session.header task)
-          (All-filter _ _ (numbers session.header.config.priorities) (All-weaker (λ priority. priority < session.header.config.priorities) (λ priority. IsChangeOf session (change.Priority task priority)) (λ priority low. ((user, low), tt)) (numbers session.header.config.priorities) (numbers_below session.header.config.priorities)))
+          (All-filter _ _ (numbers session.header.config.priorities) (All-weaker (λ priority. priority < session.header.config.priorities)
+          (λ priority. IsChangeOf session (change.Priority task priority)) (λ priority low. ((user, low), tt)) (numbers session.header.config.priorities)
+          (numbers_below session.header.config.priorities)))
 
   -- a mask below the power of a number of cores means some core of them
   abbrev pub Fits : ℕ → ℕ → Type 0
@@ -70,7 +78,8 @@ module _ (session : Session) (is : IsSession session) where
           let more : 2 ^ 0 < 2 ^ cores = pow-lt some in
           fits cores (all_cores cores) few (omega (arith, more)) (omega (arith, more))
 
-      at : (small : Bool) → nat_le cores 4 ≡ small → AllByRecursion (Fits cores) (cond small (range_with_len 1 (all_cores cores)) (map (λ core. 2 ^ core) (numbers cores) ++ all_cores cores ∷ []))
+      at : (small : Bool) → nat_le cores 4 ≡ small → AllByRecursion (Fits cores)
+          (cond small (range_with_len 1 (all_cores cores)) (map (λ core. 2 ^ core) (numbers cores) ++ all_cores cores ∷ []))
       at true is_small =
           All-weaker (λ mask. (1 ≤ mask) × (mask < 1 + all_cores cores)) (Fits cores)
           (λ mask within. fits cores mask few (omega (arith, within.0)) (omega (arith, within.1, pow_pos cores)))
@@ -78,17 +87,21 @@ module _ (session : Session) (is : IsSession session) where
       at false is_large =
           let many : 4 < cores = grind (arith, nat_tests, is_large) in
           All-append (Fits cores) (map (λ core. 2 ^ core) (numbers cores)) (all_cores cores ∷ [])
-          (All-map (Fits cores) (λ core. 2 ^ core) (numbers cores) (All-weaker (λ core. core < cores) (λ core. Fits cores (2 ^ core)) (λ core low. fits cores (2 ^ core) few (pow_pos core) (pow-lt low)) (numbers cores) (numbers_below cores)))
+          (All-map (Fits cores) (λ core. 2 ^ core) (numbers cores) (All-weaker (λ core. core < cores) (λ core. Fits cores (2 ^ core))
+          (λ core low. fits cores (2 ^ core) few (pow_pos core) (pow-lt low)) (numbers cores) (numbers_below cores)))
           (all (omega (arith, many)), tt)
 
   allowed_masks : AllByRecursion (IsChangeOf session) (mask_changes session.header)
-  allowed_masks = all_flat_map _ _ _ (All-weaker (λ task. IsUserTask session.header task) _ each (user_tasks session.header) (range_all session.header.config.cores (length session.header.tasks)))
+  allowed_masks = all_flat_map _ _ _ (All-weaker (λ task. IsUserTask session.header task) _ each (user_tasks session.header)
+      (range_all session.header.config.cores (length session.header.tasks)))
     where
       each : (task : ℕ) → IsUserTask session.header task → AllByRecursion (IsChangeOf session) (map (change.Mask task) (other_masks session.header task))
       each task user =
           let few = (checked_header session.header is.header.passes).few_cores in
           All-map (IsChangeOf session) (change.Mask task) (other_masks session.header task)
-          (All-filter _ _ (masks_of session.header.config.cores) (All-weaker (Fits session.header.config.cores) (λ mask. IsChangeOf session (change.Mask task mask)) (λ mask fit. ((user, fit.0, fit.1), tt)) (masks_of session.header.config.cores) (masks_fit session.header.config.cores few)))
+          (All-filter _ _ (masks_of session.header.config.cores) (All-weaker (Fits session.header.config.cores)
+          (λ mask. IsChangeOf session (change.Mask task mask)) (λ mask fit. ((user, fit.0, fit.1), tt)) (masks_of session.header.config.cores)
+          (masks_fit session.header.config.cores few)))
 
   -- ---- order
 
@@ -123,7 +136,8 @@ module _ (session : Session) (is : IsSession session) where
   allowed_orders : AllByRecursion (IsChangeOf session) (order_changes session.steps)
   allowed_orders =
       all_filter_map (IsChangeOf session) (exchange_at session.steps) (numbers (length session.steps))
-      (All-weaker (λ place. place < length session.steps) _ (λ place low made found. exchange_allowed place made found) (numbers (length session.steps)) (numbers_below (length session.steps)))
+      (All-weaker (λ place. place < length session.steps) _ (λ place low made found. exchange_allowed place made found) (numbers (length session.steps))
+      (numbers_below (length session.steps)))
 
   all_if : (wanted : Bool) (changes : List Change) → AllByRecursion (IsChangeOf session) changes → AllByRecursion (IsChangeOf session) (cond wanted changes [])
   all_if true changes all = all

@@ -36,7 +36,8 @@ verdict : Result (Unit {0}) Fault → Bool → Bool → Result (Unit {0}) EditFa
 verdict fits place room =
     result_map_both (λ _. tt) Bench fits >> (cond place (Ok tt) (Err NoPlace)) >> (cond room (Ok tt) (Err TooLong))
 
-accepts : (session : Session) (edit : Edit) → edit_check session.header edit ≡ Ok tt → has_place session.steps edit ≡ true → has_room session.steps edit ≡ true → accepted session edit ≡ Ok tt
+accepts : (session : Session) (edit : Edit) → edit_check session.header edit ≡ Ok tt → has_place session.steps edit ≡ true → has_room session.steps edit ≡ true
+    → accepted session edit ≡ Ok tt
 unfolding verdict
 accepts session edit fits place room =
     ap (λ (fits : Result (Unit {0}) Fault). verdict fits (has_place session.steps edit) (has_room session.steps edit)) fits
@@ -51,10 +52,12 @@ after session edit is = ap (λ (r : Result (Unit {0}) EditFault). cond (is_ok r)
 user_checked : (header : Header) (task : ℕ) → IsUserTask header task → task_check (settings_of header) task ≡ Ok tt
 user_checked header task user = grind (arith, nat_tests, user.0, user.1)
 
-numbers_checked : (header : Header) (priority mask : ℕ) → priority < header.config.priorities → 0 < cores_of_mask header.config.cores mask → has_valid_numbers header.config priority mask ≡ true
+numbers_checked : (header : Header) (priority mask : ℕ) → priority < header.config.priorities → 0 < cores_of_mask header.config.cores mask → has_valid_numbers
+    header.config priority mask ≡ true
 numbers_checked header priority mask low some = grind (arith, nat_tests, low, some)
 
-task_fits : (header : Header) (task priority mask : ℕ) → IsUserTask header task → priority < header.config.priorities → 0 < cores_of_mask header.config.cores mask
+task_fits : (header : Header) (task priority mask : ℕ) → IsUserTask header task → priority < header.config.priorities → 0 < cores_of_mask header.config.cores
+    mask
     → edit_check header (ChangeTask task priority mask) ≡ Ok tt
 task_fits header task priority mask user low some =
     ap (λ (checked : Result (Unit {0}) Fault). checked >> numbers_check header.config priority mask) (user_checked header task user)
@@ -71,10 +74,13 @@ module _ (session : Session) (is : IsSession session) (task : ℕ) (user : IsUse
   own =
       let limits = checked_header session.header is.header.passes in
       All-from_recursion (λ args. has_valid_args session.header.config args ≡ true) session.header.tasks
-      (list_all_each (has_valid_args session.header.config) session.header.tasks limits.args) (task - session.header.config.cores) (record { name = []; priority = 0; mask = 0 }) place
+      (list_all_each (has_valid_args session.header.config) session.header.tasks limits.args) (task - session.header.config.cores)
+      (record { name = []; priority = 0; mask = 0 }) place
 
-  own_parts : (nat_lt (args_of session.header task).priority session.header.config.priorities ≡ true) × (nat_lt 0 (cores_of_mask session.header.config.cores (args_of session.header task).mask) ≡ true)
-  own_parts = and_parts (nat_lt (args_of session.header task).priority session.header.config.priorities) (nat_lt 0 (cores_of_mask session.header.config.cores (args_of session.header task).mask)) own
+  own_parts : (nat_lt (args_of session.header task).priority session.header.config.priorities ≡ true) ×
+      (nat_lt 0 (cores_of_mask session.header.config.cores (args_of session.header task).mask) ≡ true)
+  own_parts = and_parts (nat_lt (args_of session.header task).priority session.header.config.priorities)
+      (nat_lt 0 (cores_of_mask session.header.config.cores (args_of session.header task).mask)) own
 
   pub own_priority : (args_of session.header task).priority < session.header.config.priorities
   own_priority = grind (arith, nat_tests, own_parts.0)
@@ -96,9 +102,11 @@ set_twice : (steps : List Step) (first second : ℕ) → first < length steps �
 set_twice [] first second one two = absurd (omega arith)
 set_twice (step ∷ steps) first second one two =
     let all : List Step = step ∷ steps in
-    ap₂ (λ (at_first at_second : Step). set (set all first at_first) second at_second) (get_or_default all second Tick step two) (get_or_default all first Tick step one)
+    ap₂ (λ (at_first at_second : Step). set (set all first at_first) second at_second) (get_or_default all second Tick step two)
+    (get_or_default all first Tick step one)
 
-replaced : (session : Session) (at : ℕ) (step : Step) → IsCheckedStep (settings_of session.header) step → at < length session.steps → after_edit session (Replace at step) ≡ edited (Replace at step) session
+replaced : (session : Session) (at : ℕ) (step : Step) → IsCheckedStep (settings_of session.header) step → at < length session.steps → after_edit session
+    (Replace at step) ≡ edited (Replace at step) session
 replaced session at step checked within =
     after session (Replace at step) (accepts session (Replace at step) checked.passes (grind (arith, nat_tests, within)) refl)
 
@@ -117,28 +125,35 @@ exchanged session first second is one two =
 
 pub changes_are_edits : ChangesAreEdits
 changes_are_edits session (change.Priority task priority) is (allowed, _) =
-    after session (ChangeTask task priority (args_of session.header task).mask) (task_accepted session is task allowed.0 priority (args_of session.header task).mask allowed.1 (own_mask session is task allowed.0))
+    after session (ChangeTask task priority (args_of session.header task).mask)
+    (task_accepted session is task allowed.0 priority (args_of session.header task).mask allowed.1 (own_mask session is task allowed.0))
 changes_are_edits session (change.Mask task mask) is (allowed, _) =
-    after session (ChangeTask task (args_of session.header task).priority mask) (task_accepted session is task allowed.0 (args_of session.header task).priority mask (own_priority session is task allowed.0) allowed.1)
+    after session (ChangeTask task (args_of session.header task).priority mask)
+    (task_accepted session is task allowed.0 (args_of session.header task).priority mask (own_priority session is task allowed.0) allowed.1)
 changes_are_edits session (change.Order first second) is (_, places) = exchanged session first second is places.0 places.1
 
 pub changed_session : ChangesKeepSessions
 changed_session session (change.Priority task priority) is (allowed, _) =
-    edited_session session (ChangeTask task priority (args_of session.header task).mask) is (own_word session is task allowed.0) (task_accepted session is task allowed.0 priority (args_of session.header task).mask allowed.1 (own_mask session is task allowed.0))
+    edited_session session (ChangeTask task priority (args_of session.header task).mask) is (own_word session is task allowed.0)
+    (task_accepted session is task allowed.0 priority (args_of session.header task).mask allowed.1 (own_mask session is task allowed.0))
 changed_session session (change.Mask task mask) is (allowed, _) =
-    edited_session session (ChangeTask task (args_of session.header task).priority mask) is allowed.2 (task_accepted session is task allowed.0 (args_of session.header task).priority mask (own_priority session is task allowed.0) allowed.1)
+    edited_session session (ChangeTask task (args_of session.header task).priority mask) is allowed.2
+    (task_accepted session is task allowed.0 (args_of session.header task).priority mask (own_priority session is task allowed.0) allowed.1)
 changed_session session (change.Order first second) is (_, places) = record {
   header = is.header;
-  steps = All-permutation (IsCheckedStep (settings_of session.header)) session.steps (swap session.steps first second) (IsPermutation-swap session.steps (swap session.steps first second) first second places.0 places.1 refl) is.steps;
+  steps = All-permutation (IsCheckedStep (settings_of session.header)) session.steps (swap session.steps first second)
+      (IsPermutation-swap session.steps (swap session.steps first second) first second places.0 places.1 refl) is.steps;
 }
 
 -- ---- what stays
 
 pub settings_kept : (header : Header) (made : Change) → settings_of (changed_header header made) ≡ settings_of header
 settings_kept header (change.Priority task priority) =
-    ap (λ (count : ℕ). record (settings_of header) { tasks = header.config.cores + count }) (length-set header.tasks (task - header.config.cores) (record (args_of header task) { priority = priority }))
+    ap (λ (count : ℕ). record (settings_of header) { tasks = header.config.cores + count })
+    (length-set header.tasks (task - header.config.cores) (record (args_of header task) { priority = priority }))
 settings_kept header (change.Mask task mask) =
-    ap (λ (count : ℕ). record (settings_of header) { tasks = header.config.cores + count }) (length-set header.tasks (task - header.config.cores) (record (args_of header task) { mask = mask }))
+    ap (λ (count : ℕ). record (settings_of header) { tasks = header.config.cores + count })
+    (length-set header.tasks (task - header.config.cores) (record (args_of header task) { mask = mask }))
 settings_kept header (change.Order first second) = refl
 
 pub steps_kept : (steps : List Step) (made : Change) → length (changed_steps steps made) ≡ length steps

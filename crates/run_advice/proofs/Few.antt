@@ -1,5 +1,6 @@
 -- A family has no more changes than a number of 32 bits counts.
-use Rattle.std.proofs.Common.{◌≡◌, ℕ, zero, suc, ◌*◌, ◌^◌, ◌<◌, ◌≤◌, Bool, true, false, cond, not, ◌==◌, List, [], ◌∷◌, ◌++◌, length, map, flat_map, Option, Some, None, refl, arith, length-append}
+use Rattle.std.proofs.Common.{◌≡◌, ℕ, zero, suc, ◌*◌, ◌^◌, ◌<◌, ◌≤◌, Bool, true, false, cond, not, ◌==◌, List, [], ◌∷◌, ◌++◌, length, map, flat_map, Option}
+use Rattle.std.proofs.Common.{Some, None, refl, arith, length-append}
 use Rattle.std.specs.Prelude.{nat_le}
 use Rattle.std.specs.List.{cons_option, filter_map, range_with_len}
 use Rattle.std.proofs.Math.Nat.{pow-le-pow_right}
@@ -16,7 +17,8 @@ use Rattle.list_orders.proofs.Stamped.{length_filter}
 use Rattle.run_advice.specs.declared.change.Change.{Change}
 use Rattle.run_advice.specs.declared.change.Change.TheVariants as change
 use Rattle.run_advice.specs.declared.change.Family.{Family}
-use Rattle.run_advice.specs.Changes.{all_cores, changes_of, exchange_at, mask_changes, masks_of, order_changes, other_masks, other_priorities, priority_changes, user_tasks}
+use Rattle.run_advice.specs.Changes.{all_cores, changes_of, exchange_at, mask_changes, masks_of, order_changes, other_masks, other_priorities, priority_changes}
+use Rattle.run_advice.specs.Changes.{user_tasks}
 
 -- each of some numbers has so many at most
 flat_few : {X : Type 0} (f : ℕ → List X) (most : ℕ) → ((n : ℕ) → length (f n) ≤ most) → (ns : List ℕ) → length (flat_map f ns) ≤ most * length ns
@@ -34,14 +36,21 @@ filtered_few h (x ∷ xs) =
 masks_few : (cores : ℕ) → cores ≤ 32 → length (masks_of cores) ≤ 33
 masks_few cores few = at (nat_le cores 4) refl
   where
-    at : (small : Bool) → nat_le cores 4 ≡ small → length (cond small (range_with_len 1 (all_cores cores)) (map (λ core. 2 ^ core) (numbers cores) ++ all_cores cores ∷ [])) ≤ 33
+    at : (small : Bool) → nat_le cores 4 ≡ small → length (cond small (range_with_len 1 (all_cores cores))
+        (map (λ core. 2 ^ core) (numbers cores) ++ all_cores cores ∷ [])) ≤ 33
     at true is_small =
         let low : cores ≤ 4 = grind (arith, nat_tests, is_small) in
         let some : zero < 2 = omega arith in
         let most : 2 ^ cores ≤ 2 ^ 4 = pow-le-pow_right some low in
         omega (arith, length-range_with_len 1 (all_cores cores), most)
     at false is_large =
-        omega (arith, length-append (map (λ core. 2 ^ core) (numbers cores)) (all_cores cores ∷ []), length-map (numbers cores) (λ core. 2 ^ core), length-range_with_len 0 cores, few)
+        omega (
+          arith,
+          length-append (map (λ core. 2 ^ core) (numbers cores)) (all_cores cores ∷ []),
+          length-map (numbers cores) (λ core. 2 ^ core),
+          length-range_with_len 0 cores,
+          few,
+        )
 
 if_few : (wanted : Bool) (changes : List Change) (most : ℕ) → length changes ≤ most → length (cond wanted changes []) ≤ most
 if_few true changes most few = few
@@ -49,7 +58,11 @@ if_few false changes most few = omega arith
 
 module _ (session : Session) (is : IsSession session) (few : length session.steps ≤ max_steps) where
   tasks_few : length (user_tasks session.header) ≤ 512
-  tasks_few = omega (arith, length-range_with_len session.header.config.cores (length session.header.tasks), (checked_header session.header is.header.passes).few_tasks)
+  tasks_few = omega (
+    arith,
+    length-range_with_len session.header.config.cores (length session.header.tasks),
+    (checked_header session.header is.header.passes).few_tasks,
+  )
 
   priorities_few : length (priority_changes session.header) ≤ 32 * 512
   priorities_few =
@@ -73,7 +86,8 @@ module _ (session : Session) (is : IsSession session) (few : length session.step
           omega (
             arith,
             length-map (other_masks session.header task) (change.Mask task),
-            length_filter (λ mask. not (cores_of_mask session.header.config.cores mask == cores_of_mask session.header.config.cores (args_of session.header task).mask)) (masks_of session.header.config.cores),
+            length_filter (λ mask. not (cores_of_mask session.header.config.cores mask == cores_of_mask session.header.config.cores
+                (args_of session.header task).mask)) (masks_of session.header.config.cores),
             masks_few session.header.config.cores (checked_header session.header is.header.passes).few_cores,
           )
 

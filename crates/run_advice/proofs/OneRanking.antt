@@ -58,7 +58,8 @@ module _ {X : Type 0} (lt : X → X → Bool) (none : (x : X) → lt x x ≡ fal
       let rest : sum_by (one_if (λ z. lt z y)) ys ≡ 0 = none_ahead y ys (λ k d within. up zero (suc k) d (omega arith) (omega arith)) in
       omega (arith, first, rest, sum_by-cons (one_if (λ z. lt z y)) y ys)
 
-  not_before : (x y : X) (xs ys : List X) → sum_by (one_if (λ z. lt z y)) (x ∷ xs) ≡ sum_by (one_if (λ z. lt z y)) (y ∷ ys) → IsInOrder (y ∷ ys) → lt x y ≡ false
+  not_before : (x y : X) (xs ys : List X) → sum_by (one_if (λ z. lt z y)) (x ∷ xs) ≡ sum_by (one_if (λ z. lt z y)) (y ∷ ys) → IsInOrder (y ∷ ys) → lt x y ≡
+      false
   not_before x y xs ys count up =
       not_one (lt x y) (omega (arith, count, least y ys up, sum_by-cons (one_if (λ z. lt z y)) x xs))
 
@@ -126,7 +127,8 @@ neither_before one other low high = tied_entries one other (no_order (ranked_cmp
 
 -- ---- verdicts
 
-settled_one : (judge : Judge) (session : Session) (one other : Verdict) → IsSettledVerdict judge session one → IsSettledVerdict judge session other → one ≡ other
+settled_one : (judge : Judge) (session : Session) (one other : Verdict) → IsSettledVerdict judge session one → IsSettledVerdict judge session other → one ≡
+    other
 settled_one judge session (Number one) (Number other) is too =
     let same = settled_run_is_one session.header session.steps is.0 too.0 is.1 too.1 is.2 too.2 in
     ap Number (is.4 ∙ ap₂ (λ (run : List Step) (left : List WaitingCall). number_in judge session.header run left) same.0 same.1 ∙ sym too.4)
@@ -137,25 +139,29 @@ settled_one judge session TooLong TooLong long too = refl
 pub verdict_one : (judge : Judge) (session : Session) (one other : Verdict) → IsVerdict judge session one → IsVerdict judge session other → one ≡ other
 verdict_one judge session one other = at judge.settled
   where
-    at : (settled : Bool) → MatchBool settled (IsSettledVerdict judge session one) (IsPlainVerdict judge session one) → MatchBool settled (IsSettledVerdict judge session other) (IsPlainVerdict judge session other) → one ≡ other
+    at : (settled : Bool) → MatchBool settled (IsSettledVerdict judge session one) (IsPlainVerdict judge session one) → MatchBool settled
+        (IsSettledVerdict judge session other) (IsPlainVerdict judge session other) → one ≡ other
     at true is too = settled_one judge session one other is too
     at false is too = is ∙ sym too
 
 -- ---- rankings
 
-entry_one : (judge : Judge) (session : Session) (place : ℕ) (made : Change) (one other : Ranked) → IsEntry judge session place made one → IsEntry judge session place made other → one ≡ other
+entry_one : (judge : Judge) (session : Session) (place : ℕ) (made : Change) (one other : Ranked) → IsEntry judge session place made one → IsEntry judge session
+    place made other → one ≡ other
 entry_one judge session place made one other is too =
     let verdict = verdict_one judge (changed session made) one.verdict other.verdict is.verdict too.verdict in
     let size = is.size ∙ sym too.size in
     let index = is.index ∙ sym too.index in
     λ i. record { verdict = verdict i; size = size i; index = index i }
 
-entries_one : (judge : Judge) (session : Session) (changes : List Change) (entries others : List Ranked) → AreEntries judge session changes entries → AreEntries judge session changes others → entries ≡ others
+entries_one : (judge : Judge) (session : Session) (changes : List Change) (entries others : List Ranked) → AreEntries judge session changes entries → AreEntries
+    judge session changes others → entries ≡ others
 entries_one judge session changes entries others are too =
     same_lists entries others (are.count ∙ sym too.count)
     (λ place d within.
     let there : place < length changes = omega (arith, are.count) in
-    entry_one judge session place (get_or changes place some) (get_or entries place d) (get_or others place d) (are.each place some d there) (too.each place some d there))
+    entry_one judge session place (get_or changes place some) (get_or entries place d) (get_or others place d) (are.each place some d there)
+    (too.each place some d there))
   where
     some : Change
     some = Order 0 0

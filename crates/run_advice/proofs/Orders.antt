@@ -35,7 +35,8 @@ sizes_same Order (Mask other) = refl
 sizes_same Order Order = refl
 
 pub entries_same : (one other : Ranked) → ranked_ord.ghosts.cmp one other ≡ ranked_cmp one other
-entries_same one other = ap₂ (λ (verdicts sizes : Ordering). ordering_then verdicts (ordering_then sizes (nat_cmp one.index other.index))) (verdicts_same one.verdict other.verdict) (sizes_same one.size other.size)
+entries_same one other = ap₂ (λ (verdicts sizes : Ordering). ordering_then verdicts (ordering_then sizes (nat_cmp one.index other.index)))
+    (verdicts_same one.verdict other.verdict) (sizes_same one.size other.size)
 
 pub best_first : (xs : List Ranked) → IsSorted ranked_ord.ghosts.cmp xs → AreBestFirst xs
 best_first xs up i j d earlier within =

@@ -15,7 +15,8 @@ range_more first next above =
 pub map_more : {A : Type 0} (f : ℕ → A) (n : ℕ) → map f (numbers (n + 1)) ≡ map f (numbers n) ++ f n ∷ []
 map_more f n = ap (map f) (numbers_more n) ∙ map-append f (numbers n) (n ∷ [])
 
-pub flat_map_more : {A : Type 0} (f : ℕ → List A) (first next : ℕ) → first ≤ next → flat_map f (range_with_len first (next + 1 - first)) ≡ flat_map f (range_with_len first (next - first)) ++ f next
+pub flat_map_more : {A : Type 0} (f : ℕ → List A) (first next : ℕ) → first ≤ next → flat_map f (range_with_len first (next + 1 - first)) ≡ flat_map f
+    (range_with_len first (next - first)) ++ f next
 flat_map_more f first next above =
     ap (flat_map f) (range_more first next above) ∙ flat_map-append f (range_with_len first (next - first)) (next ∷ [])
     ∙ ap (λ last. flat_map f (range_with_len first (next - first)) ++ last) (append-nil (f next))

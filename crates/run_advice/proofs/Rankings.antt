@@ -14,7 +14,8 @@ use Rattle.run_advice.specs.Changed.{changed}
 use Rattle.run_advice.specs.Ranking.{AreBestFirst, AreEntries, AreRead, AreVerdicts, IsRanking}
 use Rattle.run_advice.specs.Verdicts.{IsVerdict}
 
-zip_at : {A B : Type 0} (R : A → B → Type 0) (xs : List A) (ys : List B) → AllZip R xs ys → (k : ℕ) (a : A) (b : B) → k < length xs → R (get_or xs k a) (get_or ys k b)
+zip_at : {A B : Type 0} (R : A → B → Type 0) (xs : List A) (ys : List B) → AllZip R xs ys → (k : ℕ) (a : A) (b : B) → k < length xs → R (get_or xs k a)
+    (get_or ys k b)
 zip_at R [] [] all k a b within = absurd (omega arith)
 zip_at R [] (y ∷ ys) all k a b within = absurd all
 zip_at R (x ∷ xs) [] all k a b within = absurd all
@@ -28,21 +29,24 @@ zip_length R (x ∷ xs) [] all = absurd all
 zip_length R (x ∷ xs) (y ∷ ys) all = ap suc (zip_length R xs ys all.1)
 
 module _ (judge : Judge) (session : Session) (changes : List Change) (verdicts : List (Result Verdict AllocError)) where
-  entries_are : (entries : List Ranked) → AreVerdicts judge session changes verdicts → AreRead session.header changes verdicts entries → length entries ≡ length changes
+  entries_are : (entries : List Ranked) → AreVerdicts judge session changes verdicts → AreRead session.header changes verdicts entries → length entries ≡ length
+      changes
       → AreEntries judge session changes entries
   entries_are entries judged read count = record {
     count = count;
     each = λ place made entry within.
         let there : place < length entries = omega arith in
         record {
-          verdict = subst (λ (verdict : Result Verdict AllocError). IfOk verdict (IsVerdict judge (changed session (get_or changes place made)))) (read.judged place (Ok entry.verdict) entry there)
+          verdict = subst (λ (verdict : Result Verdict AllocError). IfOk verdict (IsVerdict judge (changed session (get_or changes place made))))
+              (read.judged place (Ok entry.verdict) entry there)
               (zip_at _ changes verdicts judged place made (Ok entry.verdict) within);
           size = read.sizes place made entry there;
           index = read.indexes place entry there;
         };
   }
 
-  pub ranking : (entries ranked : List Ranked) → AreVerdicts judge session changes verdicts → AreRead session.header changes verdicts entries → length entries ≡ length changes
+  pub ranking : (entries ranked : List Ranked) → AreVerdicts judge session changes verdicts → AreRead session.header changes verdicts entries → length entries ≡
+      length changes
       → IsPermutation entries ranked → AreBestFirst ranked → IsRanking judge session changes ranked
   ranking entries ranked judged read count moved ordered = record {
     entries = entries;
@@ -52,7 +56,8 @@ module _ (judge : Judge) (session : Session) (changes : List Change) (verdicts :
   }
 
 -- each entry has its change
-pub places_there : (judge : Judge) (session : Session) (changes : List Change) (ranked : List Ranked) → IsRanking judge session changes ranked → All (λ entry. entry.index < length changes) ranked
+pub places_there : (judge : Judge) (session : Session) (changes : List Change) (ranked : List Ranked) → IsRanking judge session changes ranked → All
+    (λ entry. entry.index < length changes) ranked
 places_there judge session changes ranked is =
     All-permutation (λ (entry : Ranked). entry.index < length changes) is.entries ranked is.moved
     (λ place entry within.

@@ -1,5 +1,6 @@
 -- Origins of steps, and the rows that they give.
-use Rattle.std.proofs.Common.{◌≡◌, ℕ, suc, ◌+◌, ◌<◌, Bool, true, false, List, ◌∷◌, ◌++◌, length, drop, get_or, Result, Ok, Err, refl, ap, sym, ◌∙◌, append_assoc, add-one, arith}
+use Rattle.std.proofs.Common.{◌≡◌, ℕ, suc, ◌+◌, ◌<◌, Bool, true, false, List, ◌∷◌, ◌++◌, length, drop, get_or, Result, Ok, Err, refl, ap, sym, ◌∙◌}
+use Rattle.std.proofs.Common.{append_assoc, add-one, arith}
 use Rattle.std.specs.Prelude.{is_ok, if◌then◌else◌}
 use Rattle.std.specs.Result.{result_map_both}
 use Rattle.std.proofs.Math.Seq.{drop-cons}
@@ -24,7 +25,8 @@ place_there : (session : Session) (edit : Edit) → accepted session edit ≡ Ok
 place_there session edit accepts = at (edit_check session.header edit) (has_place session.steps edit) (has_room session.steps edit) refl accepts
   where
     at : (fits : Result (Unit {0}) Fault) (there room : Bool) → has_place session.steps edit ≡ there
-        → (result_map_both (λ _. tt) Bench fits >> (if there then Ok tt else Err NoPlace) >> (if room then Ok tt else Err TooLong)) ≡ Ok tt → has_place session.steps edit ≡ true
+        → (result_map_both (λ _. tt) Bench fits >> (if there then Ok tt else Err NoPlace) >> (if room then Ok tt else Err TooLong)) ≡ Ok tt → has_place
+        session.steps edit ≡ true
     at fits true room is passes = is
     at (Err why) false room is passes = absurd (cc passes)
     at (Ok done) false room is passes = absurd (cc passes)
@@ -36,7 +38,8 @@ among session (Replace at step) count accepts many = tt
 among session (ChangeTask task priority mask) count accepts many = tt
 
 -- there are as many origins as steps
-pub still_many : (session : Session) (edit : Edit) (origins : List Origin) → length origins ≡ length session.steps → HasPlaceAmong (length origins) edit → length (origins_after edit origins) ≡ length (edited edit session).steps
+pub still_many : (session : Session) (edit : Edit) (origins : List Origin) → length origins ≡ length session.steps → HasPlaceAmong (length origins) edit →
+    length (origins_after edit origins) ≡ length (edited edit session).steps
 still_many session (Insert at step) origins many there =
     length-insert origins at _ there ∙ ap (λ n. n + 1) many ∙ sym (length-insert session.steps at step (omega (arith, many, there)))
 still_many session (Remove at) origins many there =
@@ -46,10 +49,12 @@ still_many session (Remove at) origins many there =
 still_many session (Replace at step) origins many there = many ∙ sym (length-set session.steps at step)
 still_many session (ChangeTask task priority mask) origins many there = many
 
-pub made_is : (session : Session) (edit : Edit) (origins : List Origin) → accepted session edit ≡ Ok tt → origins_made session edit origins ≡ origins_after edit origins
+pub made_is : (session : Session) (edit : Edit) (origins : List Origin) → accepted session edit ≡ Ok tt → origins_made session edit origins ≡ origins_after edit
+    origins
 made_is session edit origins accepts = ap (λ (check : Result (Unit {0}) EditFault). if is_ok check then origins_after edit origins else origins) accepts
 
-pub made_not : (session : Session) (edit : Edit) (origins : List Origin) (why : EditFault) → accepted session edit ≡ Err why → origins_made session edit origins ≡ origins
+pub made_not : (session : Session) (edit : Edit) (origins : List Origin) (why : EditFault) → accepted session edit ≡ Err why → origins_made session edit origins
+    ≡ origins
 made_not session edit origins why refuses = ap (λ (check : Result (Unit {0}) EditFault). if is_ok check then origins_after edit origins else origins) refuses
 
 pub session_is : (session : Session) (edit : Edit) → accepted session edit ≡ Ok tt → after_edit session edit ≡ edited edit session
@@ -59,30 +64,38 @@ pub session_not : (session : Session) (edit : Edit) (why : EditFault) → accept
 session_not session edit why refuses = ap (λ (check : Result (Unit {0}) EditFault). if is_ok check then edited edit session else session) refuses
 
 -- What is left of the edits leads to what all of them lead to.
-pub record IsOnTheWay (first : Session) (begun : List Origin) (edits : List Edit) (session : Session) (origins : List Origin) (index : ℕ) : Type 0 where
+pub record IsOnTheWay (first : Session) (initial : List Origin) (edits : List Edit) (session : Session) (origins : List Origin) (index : ℕ) : Type 0 where
   pub session_to : after_edits session (drop index edits) ≡ after_edits first edits
-  pub origins_to : origins_of session (drop index edits) origins ≡ origins_of first edits begun
+  pub origins_to : origins_of session (drop index edits) origins ≡ origins_of first edits initial
   pub many : length origins ≡ length session.steps
 
 -- one edit more was made
-pub way_on : {first : Session} {begun : List Origin} {edits : List Edit} {session : Session} {origins : List Origin} {index : ℕ} (later : Session) (moved : List Origin) (none : Edit) → IsOnTheWay first begun edits session origins index → index < length edits
-    → later ≡ after_edit session (get_or edits index none) → moved ≡ origins_made session (get_or edits index none) origins → length moved ≡ length later.steps → IsOnTheWay first begun edits later moved (index + 1)
-way_on {first} {begun} {edits} {session} {origins} {index} later moved none way within session_is origins_are many =
+pub way_on : {first : Session} {initial : List Origin} {edits : List Edit} {session : Session} {origins : List Origin} {index : ℕ} (later : Session)
+    (moved : List Origin) (none : Edit) → IsOnTheWay first initial edits session origins index → index < length edits
+    → later ≡ after_edit session (get_or edits index none) → moved ≡ origins_made session (get_or edits index none) origins → length moved ≡ length later.steps
+    → IsOnTheWay first initial edits later moved (index + 1)
+way_on {first} {initial} {edits} {session} {origins} {index} later moved none way within session_is origins_are many =
     let edit = get_or edits index none in
     let rest : drop index edits ≡ edit ∷ drop (suc index) edits = drop-cons edits index none within in
     record {
-      session_to = rw add-one (ap (λ (one : Session). after_edits one (drop (suc index) edits)) session_is ∙ sym (ap (λ (list : List Edit). after_edits session list) rest) ∙ way.session_to);
-      origins_to = rw add-one (ap (λ (one : Session). origins_of one (drop (suc index) edits) moved) session_is ∙ ap (λ (some : List Origin). origins_of (after_edit session edit) (drop (suc index) edits) some) origins_are ∙ sym (ap (λ (list : List Edit). origins_of session list origins) rest) ∙ way.origins_to);
+      session_to = rw add-one (ap (λ (one : Session). after_edits one (drop (suc index) edits)) session_is ∙ sym
+          (ap (λ (list : List Edit). after_edits session list) rest) ∙ way.session_to);
+      origins_to = rw add-one (ap (λ (one : Session). origins_of one (drop (suc index) edits) moved) session_is ∙ ap
+          (λ (some : List Origin). origins_of (after_edit session edit) (drop (suc index) edits) some) origins_are ∙ sym
+          (ap (λ (list : List Edit). origins_of session list origins) rest) ∙ way.origins_to);
       many = many;
     }
 
 -- the rows of one origin more
-pub rows_on : (count next later place : ℕ) (origins : List Origin) (d : Origin) (begun rows more : List Row) → place < length origins → more ≡ rows ++ rows_at next place (get_or origins place d) → later ≡ next_after next (get_or origins place d)
-    → rows ++ rows_from count next place (drop place origins) ≡ begun ++ rows_from count 0 0 origins → more ++ rows_from count later (place + 1) (drop (place + 1) origins) ≡ begun ++ rows_from count 0 0 origins
-rows_on count next later place origins d begun rows more within pushed next_is were =
+pub rows_on : (count next later place : ℕ) (origins : List Origin) (d : Origin) (initial rows more : List Row) → place < length origins → more ≡ rows ++ rows_at
+    next place (get_or origins place d) → later ≡ next_after next (get_or origins place d)
+    → rows ++ rows_from count next place (drop place origins) ≡ initial ++ rows_from count 0 0 origins → more ++ rows_from count later (place + 1)
+    (drop (place + 1) origins) ≡ initial ++ rows_from count 0 0 origins
+rows_on count next later place origins d initial rows more within pushed next_is were =
     let origin = get_or origins place d in
     let rest = rows_from count (next_after next origin) (suc place) (drop (suc place) origins) in
-    let here : rows_from count next place (drop place origins) ≡ rows_at next place origin ++ rest = ap (rows_from count next place) (drop-cons origins place d within) in
+    let here : rows_from count next place (drop place origins) ≡ rows_at next place origin ++ rest = ap (rows_from count next place)
+    (drop-cons origins place d within) in
     rw add-one
     (ap (λ (n : ℕ). more ++ rows_from count n (suc place) (drop (suc place) origins)) next_is
     ∙ ap (λ some. some ++ rest) pushed
@@ -90,8 +103,8 @@ rows_on count next later place origins d begun rows more within pushed next_is w
     ∙ ap (λ some. rows ++ some) (sym here) ∙ were)
 
 -- an edit is accepted where it is refused for nothing
-pub accepted_told : (session : Session) (edit : Edit) → ((why : EditFault) → accepted session edit ≡ Err why → ⊥) → accepted session edit ≡ Ok tt
-accepted_told session edit none = at (accepted session edit) refl
+pub accepted_printed : (session : Session) (edit : Edit) → ((why : EditFault) → accepted session edit ≡ Err why → ⊥) → accepted session edit ≡ Ok tt
+accepted_printed session edit none = at (accepted session edit) refl
   where
     at : (check : Result (Unit {0}) EditFault) → accepted session edit ≡ check → accepted session edit ≡ Ok tt
     at (Ok done) is = is

@@ -1,5 +1,6 @@
 -- Each step of two settled runs stands in one row, in its order, and each shared event in a row of both.
-use Rattle.std.proofs.Common.{◌≡◌, ℕ, zero, suc, ◌+◌, ◌-◌, ◌≤◌, ◌<◌, Bool, true, false, cond, List, [], ◌∷◌, ◌++◌, length, take, get_or, flat_map, Option, Some, None, refl, ap, ap₂, sym, subst, ◌∙◌, add-one, arith, inl, inr}
+use Rattle.std.proofs.Common.{◌≡◌, ℕ, zero, suc, ◌+◌, ◌-◌, ◌≤◌, ◌<◌, Bool, true, false, cond, List, [], ◌∷◌, ◌++◌, length, take, get_or, flat_map, Option, Some}
+use Rattle.std.proofs.Common.{None, refl, ap, ap₂, sym, subst, ◌∙◌, add-one, arith, inl, inr}
 use Rattle.std.specs.Prelude.{◌⊎◌, All, Contains, slice_get}
 use Rattle.std.specs.List.{cons_option, filter_map, range_with_len}
 use Rattle.std.proofs.lemmas.Bool.{and_from}
@@ -40,7 +41,8 @@ past_end steps place none = elim ((slice_get_cases steps place).1) [
   | inr away ↦ away.0
 ]
 
-pub before_moves : (before after : List Step) (at : PlacePair) (row : Row) → next_row before after at ≡ Some row → Moves place_before (λ pair. pair.before) before at row
+pub before_moves : (before after : List Step) (at : PlacePair) (row : Row) → next_row before after at ≡ Some row → Moves place_before (λ pair. pair.before)
+    before at row
 before_moves before after at row next = of_those (slice_get before at.before) (slice_get after at.after) refl next
   where
     it : Row → Type 0
@@ -49,7 +51,8 @@ before_moves before after at row next = of_those (slice_get before at.before) (s
     it_by : (one : Row) → one ≡ row → it one → it row
     it_by one is = subst it is
 
-    of_two : at.before < length before → (alike near : Bool) → cond alike (Both at.before at.after) (cond near (Inserted at.after) (Removed at.before)) ≡ row → it row
+    of_two : at.before < length before → (alike near : Bool) → cond alike (Both at.before at.after) (cond near (Inserted at.after) (Removed at.before)) ≡ row →
+        it row
     of_two low true near is = subst it is (inl (refl, refl, low))
     of_two low false true is = subst it is (inr (refl, refl))
     of_two low false false is = subst it is (inl (refl, refl, low))
@@ -59,9 +62,11 @@ before_moves before after at row next = of_those (slice_get before at.before) (s
     of_those (Some old) None found is = it_by (Removed at.before) (cc is) (inl (refl, refl, slice_get_within before at.before old found))
     of_those None (Some new) found is = it_by (Inserted at.after) (cc is) (inr (refl, refl))
     of_those (Some old) (Some new) found is =
-        of_two (slice_get_within before at.before old found) (are_alike old new) (is_nearer (found_after old after at.after) (found_after new before at.before)) (cc is)
+        of_two (slice_get_within before at.before old found) (are_alike old new) (is_nearer (found_after old after at.after) (found_after new before at.before))
+        (cc is)
 
-pub after_moves : (before after : List Step) (at : PlacePair) (row : Row) → next_row before after at ≡ Some row → Moves place_after (λ pair. pair.after) after at row
+pub after_moves : (before after : List Step) (at : PlacePair) (row : Row) → next_row before after at ≡ Some row → Moves place_after (λ pair. pair.after) after
+    at row
 after_moves before after at row next = of_those (slice_get before at.before) (slice_get after at.after) refl next
   where
     it : Row → Type 0
@@ -70,7 +75,8 @@ after_moves before after at row next = of_those (slice_get before at.before) (sl
     it_by : (one : Row) → one ≡ row → it one → it row
     it_by one is = subst it is
 
-    of_two : at.after < length after → (alike near : Bool) → cond alike (Both at.before at.after) (cond near (Inserted at.after) (Removed at.before)) ≡ row → it row
+    of_two : at.after < length after → (alike near : Bool) → cond alike (Both at.before at.after) (cond near (Inserted at.after) (Removed at.before)) ≡ row → it
+        row
     of_two low true near is = subst it is (inl (refl, refl, low))
     of_two low false true is = subst it is (inl (refl, refl, low))
     of_two low false false is = subst it is (inr (refl, refl))
@@ -80,13 +86,16 @@ after_moves before after at row next = of_those (slice_get before at.before) (sl
     of_those (Some old) None found is = it_by (Removed at.before) (cc is) (inr (refl, refl))
     of_those None (Some new) found is = it_by (Inserted at.after) (cc is) (inl (refl, refl, slice_get_within after at.after new found))
     of_those (Some old) (Some new) found is =
-        of_two (slice_get_within after at.after new found) (are_alike old new) (is_nearer (found_after old after at.after) (found_after new before at.before)) (cc is)
+        of_two (slice_get_within after at.after new found) (are_alike old new) (is_nearer (found_after old after at.after) (found_after new before at.before))
+        (cc is)
 
 -- there is none where no step is left
-none_left : (before after : List Step) (at : PlacePair) → next_row before after at ≡ None → (slice_get before at.before ≡ None) × (slice_get after at.after ≡ None)
+none_left : (before after : List Step) (at : PlacePair) → next_row before after at ≡ None → (slice_get before at.before ≡ None) ×
+    (slice_get after at.after ≡ None)
 none_left before after at none = of_those (slice_get before at.before) (slice_get after at.after) refl refl none
   where
-    of_those : (old new : Option Step) → slice_get before at.before ≡ old → slice_get after at.after ≡ new → row_of_those before after at old new ≡ None → (slice_get before at.before ≡ None) × (slice_get after at.after ≡ None)
+    of_those : (old new : Option Step) → slice_get before at.before ≡ old → slice_get after at.after ≡ new → row_of_those before after at old new ≡ None →
+        (slice_get before at.before ≡ None) × (slice_get after at.after ≡ None)
     of_those None None found met is = (found, met)
     of_those (Some old) None found met is = absurd (cc is)
     of_those None (Some new) found met is = absurd (cc is)
@@ -99,47 +108,63 @@ module _ (side : Row → List ℕ) (pick : PlacePair → ℕ) (which : List Step
     (ends : (before after : List Step) (at : PlacePair) → next_row before after at ≡ None → length (which before after) ≤ pick at)
     (alone : (event : PlacePair) → side (row_of event) ≡ pick event ∷ [])
     (behind : (event at : PlacePair) → pick (past (row_of event) at) ≡ suc (pick event))
-    (cut : (event : PlacePair) (before after : List Step) → which (take event.before before) (take event.after after) ≡ take (pick event) (which before after)) where
-  -- the steps of a run from a place on
-  abbrev from : List Step → List Step → ℕ → List ℕ
-  from before after place = range_with_len place (length (which before after) - place)
+    (cut : (event : PlacePair) (before after : List Step) → which (take event.before before) (take event.after after) ≡ take (pick event) (which before after))
+  where
+    -- the steps of a run from a place on
+    abbrev from : List Step → List Step → ℕ → List ℕ
+    from before after place = range_with_len place (length (which before after) - place)
 
-  window_tiles : (before after : List Step) (at : PlacePair) (rows : List Row) → AreAligned before after at rows → pick at ≤ length (which before after) → flat_map side rows ≡ from before after (pick at)
-  window_tiles before after at [] none low =
-      let all : length (which before after) - pick at ≡ 0 = omega (arith, ends before after at none) in
-      sym (ap (range_with_len (pick at)) all)
-  window_tiles before after at (row ∷ rows) aligned low = elim (moves before after at row aligned.0) [
-    | inl moved ↦
-        let rest = window_tiles before after (past row at) rows aligned.1 (omega (arith, moved.1, moved.2)) in
-        let one_less : length (which before after) - pick at ≡ suc (length (which before after) - suc (pick at)) = omega (arith, moved.2) in
-        ap (λ list. list ++ flat_map side rows) moved.0
-        ∙ ap (λ list. pick at ∷ list) (rest ∙ ap (from before after) moved.1 ∙ ap (λ place. range_with_len place (length (which before after) - suc (pick at))) (sym (add-one (pick at))))
-        ∙ sym (ap (range_with_len (pick at)) one_less)
-    | inr stayed ↦
-        ap (λ list. list ++ flat_map side rows) stayed.0
-        ∙ window_tiles before after (past row at) rows aligned.1 (omega (arith, low, stayed.1))
-        ∙ ap (from before after) stayed.1
-  ]
+    window_tiles : (before after : List Step) (at : PlacePair) (rows : List Row) → AreAligned before after at rows → pick at ≤ length (which before after) →
+        flat_map side rows ≡ from before after (pick at)
+    window_tiles before after at [] none low =
+        let all : length (which before after) - pick at ≡ 0 = omega (arith, ends before after at none) in
+        sym (ap (range_with_len (pick at)) all)
+    window_tiles before after at (row ∷ rows) aligned low = elim (moves before after at row aligned.0) [
+      | inl moved ↦
+          let rest = window_tiles before after (past row at) rows aligned.1 (omega (arith, moved.1, moved.2)) in
+          let one_less : length (which before after) - pick at ≡ suc (length (which before after) - suc (pick at)) = omega (arith, moved.2) in
+          ap (λ list. list ++ flat_map side rows) moved.0
+          ∙ ap (λ list. pick at ∷ list) (rest ∙ ap (from before after) moved.1 ∙ ap
+          (λ place. range_with_len place (length (which before after) - suc (pick at)))
+          (sym (add-one (pick at))))
+          ∙ sym (ap (range_with_len (pick at)) one_less)
+      | inr stayed ↦
+          ap (λ list. list ++ flat_map side rows) stayed.0
+          ∙ window_tiles before after (past row at) rows aligned.1 (omega (arith, low, stayed.1))
+          ∙ ap (from before after) stayed.1
+    ]
 
-  run_tiles : (before after : List Step) (events : List PlacePair) (at : PlacePair) (rows : List Row) → AreSideBySide before after events at rows → Ascend pick (length (which before after)) (pick at) events → pick at ≤ length (which before after) → flat_map side rows ≡ from before after (pick at)
-  run_tiles before after [] at rows aligned up low = window_tiles before after at rows aligned low
-  run_tiles before after (event ∷ events) at rows aligned up low =
-      let window = aligned.0 in
-      let rest = aligned.1 in
-      let size : length (which (take event.before before) (take event.after after)) ≡ pick event = ap (λ (list : List Step). length list) (cut event before after) ∙ length-take-le (pick event) (which before after) (omega (arith, up.1)) in
-      let early = window_tiles (take event.before before) (take event.after after) at window aligned.3 (omega (arith, size, up.0)) in
-      let late = run_tiles before after events (past (row_of event) at) rest aligned.4 (subst (λ place. Ascend pick (length (which before after)) place events) (sym (behind event at)) up.2) (omega (arith, behind event at, up.1)) in
-      let many = length (which before after) in
-      ap (flat_map side) aligned.2 ∙ flat_map-append side window (row_of event ∷ rest)
-      ∙ ap₂ (λ (xs ys : List ℕ). xs ++ ys) (early ∙ ap (λ n. range_with_len (pick at) (n - pick at)) size)
-      (ap (λ list. list ++ flat_map side rest) (alone event) ∙ ap (λ list. pick event ∷ list) (late ∙ ap (from before after) (behind event at) ∙ ap (λ place. range_with_len place (many - suc (pick event))) (sym (add-one (pick event)))))
-      ∙ joined (pick at) (pick event - pick at) (suc (many - suc (pick event))) (pick event) (many - pick at) (omega (arith, up.0)) (omega (arith, up.0, up.1))
+    run_tiles : (before after : List Step) (events : List PlacePair) (at : PlacePair) (rows : List Row) → AreSideBySide before after events at rows → Ascend
+        pick
+        (length (which before after)) (pick at) events → pick at ≤ length (which before after) → flat_map side rows ≡ from before after (pick at)
+    run_tiles before after [] at rows aligned up low = window_tiles before after at rows aligned low
+    run_tiles before after (event ∷ events) at rows aligned up low =
+        let window = aligned.0 in
+        let rest = aligned.1 in
+        let size : length (which (take event.before before) (take event.after after)) ≡ pick event = ap (λ (list : List Step). length list)
+        (cut event before after) ∙ length-take-le (pick event) (which before after) (omega (arith, up.1)) in
+        let early = window_tiles (take event.before before) (take event.after after) at window aligned.3 (omega (arith, size, up.0)) in
+        let late = run_tiles before after events (past (row_of event) at) rest aligned.4
+        (subst (λ place. Ascend pick (length (which before after)) place events) (sym (behind event at)) up.2) (omega (arith, behind event at, up.1)) in
+        let many = length (which before after) in
+        ap (flat_map side) aligned.2 ∙ flat_map-append side window (row_of event ∷ rest)
+        ∙ ap₂ (λ (xs ys : List ℕ). xs ++ ys) (early ∙ ap (λ n. range_with_len (pick at) (n - pick at)) size)
+        (ap (λ list. list ++ flat_map side rest) (alone event) ∙ ap (λ list. pick event ∷ list)
+        (late ∙ ap (from before after) (behind event at) ∙ ap (λ place. range_with_len place (many - suc (pick event))) (sym (add-one (pick event)))))
+        ∙ joined (pick at) (pick event - pick at) (suc (many - suc (pick event))) (pick event) (many - pick at) (omega (arith, up.0))
+        (omega (arith, up.0, up.1))
 
-before_tiles : (before after : List Step) (events : List PlacePair) (at : PlacePair) (rows : List Row) → AreSideBySide before after events at rows → Ascend (λ pair. pair.before) (length before) at.before events → at.before ≤ length before → flat_map place_before rows ≡ range_with_len at.before (length before - at.before)
-before_tiles = run_tiles place_before (λ pair. pair.before) (λ before after. before) before_moves (λ before after at none. past_end before at.before (none_left before after at none).0) (λ event. refl) (λ event at. refl) (λ event before after. refl)
+before_tiles : (before after : List Step) (events : List PlacePair) (at : PlacePair) (rows : List Row) → AreSideBySide before after events at rows → Ascend
+    (λ pair. pair.before) (length before) at.before events → at.before ≤ length before → flat_map place_before rows ≡ range_with_len at.before
+    (length before - at.before)
+before_tiles = run_tiles place_before (λ pair. pair.before) (λ before after. before) before_moves
+    (λ before after at none. past_end before at.before (none_left before after at none).0) (λ event. refl) (λ event at. refl) (λ event before after. refl)
 
-after_tiles : (before after : List Step) (events : List PlacePair) (at : PlacePair) (rows : List Row) → AreSideBySide before after events at rows → Ascend (λ pair. pair.after) (length after) at.after events → at.after ≤ length after → flat_map place_after rows ≡ range_with_len at.after (length after - at.after)
-after_tiles = run_tiles place_after (λ pair. pair.after) (λ before after. after) after_moves (λ before after at none. past_end after at.after (none_left before after at none).1) (λ event. refl) (λ event at. refl) (λ event before after. refl)
+after_tiles : (before after : List Step) (events : List PlacePair) (at : PlacePair) (rows : List Row) → AreSideBySide before after events at rows → Ascend
+    (λ pair. pair.after) (length after) at.after events → at.after ≤ length after → flat_map place_after rows ≡ range_with_len at.after
+    (length after - at.after)
+after_tiles = run_tiles place_after (λ pair. pair.after) (λ before after. after) after_moves
+    (λ before after at none. past_end after at.after (none_left before after at none).1) (λ event. refl) (λ event at. refl) (λ event before after. refl)
 
 -- ---- the laws
 
@@ -149,19 +174,22 @@ events_before_kept session before = settling_keeps_events session.header session
 pub each_settled_before : EachSettledBefore
 each_settled_before session edits before after rows aligned =
     let edited = after_edits session edits in
-    let up = ascend_before session.steps edited.steps before.run after.run (events_before_kept session before) (events_before_kept edited after) (rows_of session edits) (length session.steps) (each_before session edits) in
+    let up = ascend_before session.steps edited.steps before.run after.run (events_before_kept session before) (events_before_kept edited after)
+    (rows_of session edits) (length session.steps) (each_before session edits) in
     let all : length before.run - 0 ≡ length before.run = omega arith in
     before_tiles before.run after.run (shared_events session edits before.run after.run) first_places rows aligned up (omega arith) ∙ ap (range_with_len 0) all
 
 pub each_settled_after : EachSettledAfter
 each_settled_after session edits before after rows aligned =
     let edited = after_edits session edits in
-    let up = ascend_after session.steps edited.steps before.run after.run (events_before_kept session before) (events_before_kept edited after) (rows_of session edits) (length edited.steps) (each_after session edits) in
+    let up = ascend_after session.steps edited.steps before.run after.run (events_before_kept session before) (events_before_kept edited after)
+    (rows_of session edits) (length edited.steps) (each_after session edits) in
     let all : length after.run - 0 ≡ length after.run = omega arith in
     after_tiles before.run after.run (shared_events session edits before.run after.run) first_places rows aligned up (omega arith) ∙ ap (range_with_len 0) all
 
 -- what a row gives is among what all give
-given_there : {X Y : Type 0} (h : X → Option Y) (xs : List X) (k : ℕ) (x : X) (y : Y) → k < length xs → get_or xs k x ≡ x → h x ≡ Some y → Contains (filter_map h xs) y
+given_there : {X Y : Type 0} (h : X → Option Y) (xs : List X) (k : ℕ) (x : X) (y : Y) → k < length xs → get_or xs k x ≡ x → h x ≡ Some y → Contains
+    (filter_map h xs) y
 given_there h [] k x y low is gives = absurd (omega (arith, low))
 given_there {X} {Y} h (first ∷ xs) zero x y low is gives =
     let all : filter_map h (first ∷ xs) ≡ y ∷ filter_map h xs = ap (λ (o : Option Y). cons_option o (filter_map h xs)) (ap h is ∙ gives) in
@@ -173,7 +201,8 @@ given_there {X} {Y} h (first ∷ xs) (suc k) x y low is gives = at (given_there 
     at there (Some other) = Contains-append_right (other ∷ []) (filter_map h xs) y there
 
 -- each shared event stands in a row
-event_there : (before after : List Step) (events : List PlacePair) (at : PlacePair) (rows : List Row) → AreSideBySide before after events at rows → (k : ℕ) (pair : PlacePair) → k < length events → get_or events k pair ≡ pair → Contains rows (row_of pair)
+event_there : (before after : List Step) (events : List PlacePair) (at : PlacePair) (rows : List Row) → AreSideBySide before after events at rows → (k : ℕ)
+    (pair : PlacePair) → k < length events → get_or events k pair ≡ pair → Contains rows (row_of pair)
 event_there before after [] at rows aligned k pair low is = absurd (omega (arith, low))
 event_there before after (event ∷ events) at rows aligned zero pair low is =
     subst (λ (list : List Row). Contains list (row_of pair)) (sym aligned.2)
@@ -192,7 +221,8 @@ shared_stand_together session edits before after rows old new event aligned list
     let same : is_same_event (slice_get session.steps old) (slice_get edited.steps new) ≡ true =
     ap₂ is_same_event found met ∙ and_from (comes_from_outside event) (are_alike event event) is (alike_itself event is) in
     let gives = ap (λ (b : Bool). cond b (Some pair) None) same in
-    let given = given_there (shared_at session.steps edited.steps (places_in before.run session.steps) (places_in after.run edited.steps)) (rows_of session edits) listed.0 (Both old new) pair listed.1 listed.2 gives in
+    let given = given_there (shared_at session.steps edited.steps (places_in before.run session.steps) (places_in after.run edited.steps))
+    (rows_of session edits) listed.0 (Both old new) pair listed.1 listed.2 gives in
     let there = event_there before.run after.run (shared_events session edits before.run after.run) first_places rows aligned given.0 pair given.1 given.2 in
     let place = place_listed before.run session.steps old (slice_get_within session.steps old event found) in
     let later = place_listed after.run edited.steps new (slice_get_within edited.steps new event met) in (
@@ -218,25 +248,34 @@ below_one : (most place : ℕ) → place < most → AreBelow most (place ∷ [])
 below_one most place low = All-cons (λ n. n < most) place [] low (none_below most)
 
 -- those of the next row are places of steps
-moved_below : (side : Row → List ℕ) (pick : PlacePair → ℕ) (steps : List Step) (at : PlacePair) (row : Row) (most : ℕ) → length steps ≤ most → Moves side pick steps at row → AreBelow most (side row)
+moved_below : (side : Row → List ℕ) (pick : PlacePair → ℕ) (steps : List Step) (at : PlacePair) (row : Row) (most : ℕ) → length steps ≤ most → Moves side pick
+    steps at row → AreBelow most (side row)
 moved_below side pick steps at row most few (inl moved) = subst (AreBelow most) (sym moved.0) (below_one most (pick at) (omega (arith, few, moved.2)))
 moved_below side pick steps at row most few (inr stayed) = subst (AreBelow most) (sym stayed.0) (none_below most)
 
-pub next_before : (before after : List Step) (at : PlacePair) (row : Row) (most : ℕ) → length before ≤ most → next_row before after at ≡ Some row → AreBelow most (place_before row)
+pub next_before : (before after : List Step) (at : PlacePair) (row : Row) (most : ℕ) → length before ≤ most → next_row before after at ≡ Some row → AreBelow
+    most (place_before row)
 next_before before after at row most few next = moved_below place_before (λ pair. pair.before) before at row most few (before_moves before after at row next)
 
-pub next_after : (before after : List Step) (at : PlacePair) (row : Row) (most : ℕ) → length after ≤ most → next_row before after at ≡ Some row → AreBelow most (place_after row)
+pub next_after : (before after : List Step) (at : PlacePair) (row : Row) (most : ℕ) → length after ≤ most → next_row before after at ≡ Some row → AreBelow most
+    (place_after row)
 next_after before after at row most few next = moved_below place_after (λ pair. pair.after) after at row most few (after_moves before after at row next)
 
 -- and so are those of an event
-pub event_before : (before after : List Step) (event : PlacePair) (row : Row) (most : ℕ) → length before ≤ most → IsWithin before after event → row ≡ row_of event → AreBelow most (place_before row)
-event_before before after event row most few within is = subst (λ (one : Row). AreBelow most (place_before one)) (sym is) (below_one most event.before (omega (arith, few, within.0)))
+pub event_before : (before after : List Step) (event : PlacePair) (row : Row) (most : ℕ) → length before ≤ most → IsWithin before after event → row ≡ row_of
+    event → AreBelow most (place_before row)
+event_before before after event row most few within is = subst (λ (one : Row). AreBelow most (place_before one)) (sym is)
+    (below_one most event.before (omega (arith, few, within.0)))
 
-pub event_after : (before after : List Step) (event : PlacePair) (row : Row) (most : ℕ) → length after ≤ most → IsWithin before after event → row ≡ row_of event → AreBelow most (place_after row)
-event_after before after event row most few within is = subst (λ (one : Row). AreBelow most (place_after one)) (sym is) (below_one most event.after (omega (arith, few, within.1)))
+pub event_after : (before after : List Step) (event : PlacePair) (row : Row) (most : ℕ) → length after ≤ most → IsWithin before after event → row ≡ row_of event
+    → AreBelow most (place_after row)
+event_after before after event row most few within is = subst (λ (one : Row). AreBelow most (place_after one)) (sym is)
+    (below_one most event.after (omega (arith, few, within.1)))
 
 -- fewer steps are left behind a row
-moved_on : (side : Row → List ℕ) (pick : PlacePair → ℕ) (steps : List Step) (at : PlacePair) (row : Row) → Moves side pick steps at row → (pick at ≤ pick (past row at)) × (length (side row) ≡ 0 → pick (past row at) ≡ pick at) × (1 ≤ length (side row) → (pick at < pick (past row at)) × (pick at < length steps))
+moved_on : (side : Row → List ℕ) (pick : PlacePair → ℕ) (steps : List Step) (at : PlacePair) (row : Row) → Moves side pick steps at row →
+    (pick at ≤ pick (past row at)) × (length (side row) ≡ 0 → pick (past row at) ≡ pick at) ×
+    (1 ≤ length (side row) → (pick at < pick (past row at)) × (pick at < length steps))
 moved_on side pick steps at row (inl moved) =
     let one : length (side row) ≡ 1 = ap (λ (list : List ℕ). length list) moved.0 in (
       omega (arith, moved.1),
@@ -250,15 +289,18 @@ moved_on side pick steps at row (inr stayed) =
       λ some. absurd (omega (arith, none, some)),
     )
 
-pub fewer_left : (before after : List Step) (at : PlacePair) (row : Row) → next_row before after at ≡ Some row → length before - (past row at).before + (length after - (past row at).after) < length before - at.before + (length after - at.after)
+pub fewer_left : (before after : List Step) (at : PlacePair) (row : Row) → next_row before after at ≡ Some row → length before - (past row at).before +
+    (length after - (past row at).after) < length before - at.before + (length after - at.after)
 fewer_left before after at row next =
     let old = moved_on place_before (λ pair. pair.before) before at row (before_moves before after at row next) in
     let new = moved_on place_after (λ pair. pair.after) after at row (after_moves before after at row next) in
     at_row row old new
   where
     at_row : (one : Row)
-        → (at.before ≤ (past row at).before) × (length (place_before one) ≡ 0 → (past row at).before ≡ at.before) × (1 ≤ length (place_before one) → (at.before < (past row at).before) × (at.before < length before))
-        → (at.after ≤ (past row at).after) × (length (place_after one) ≡ 0 → (past row at).after ≡ at.after) × (1 ≤ length (place_after one) → (at.after < (past row at).after) × (at.after < length after))
+        → (at.before ≤ (past row at).before) × (length (place_before one) ≡ 0 → (past row at).before ≡ at.before) ×
+        (1 ≤ length (place_before one) → (at.before < (past row at).before) × (at.before < length before))
+        → (at.after ≤ (past row at).after) × (length (place_after one) ≡ 0 → (past row at).after ≡ at.after) ×
+        (1 ≤ length (place_after one) → (at.after < (past row at).after) × (at.after < length after))
         → length before - (past row at).before + (length after - (past row at).after) < length before - at.before + (length after - at.after)
     at_row (Both i j) old new = let one = old.2 (omega arith) in omega (arith, one, new.0)
     at_row (Removed i) old new = let one = old.2 (omega arith) in omega (arith, one, new.0)

@@ -1,5 +1,6 @@
 -- Columns, row by row.
-use Rattle.std.proofs.Common.{◌≡◌, ℕ, zero, suc, ◌+◌, ◌-◌, ◌<◌, ◌≤◌, List, [], ◌∷◌, ◌++◌, length, map, flat_map, drop, get_or, Some, sym, ap, subst, ◌∙◌, append_assoc, arith}
+use Rattle.std.proofs.Common.{◌≡◌, ℕ, zero, suc, ◌+◌, ◌-◌, ◌<◌, ◌≤◌, List, [], ◌∷◌, ◌++◌, length, map, flat_map, drop, get_or, Some, sym, ap, subst, ◌∙◌}
+use Rattle.std.proofs.Common.{append_assoc, arith}
 use Rattle.std.specs.Prelude.{slice_get}
 use Rattle.std.specs.List.{range_with_len}
 use Rattle.std.proofs.Math.Seq.{drop-cons}
@@ -11,8 +12,10 @@ use Rattle.run_comparisons.specs.declared.rows.Row.TheVariants.{Both, Removed, I
 use Rattle.run_comparisons.specs.Columns.{columns_from, columns_of, place_in, ColumnIsRow}
 
 -- the row was given its column
-pub column_on : (side : Side) (rows : List Row) (column : ℕ) (row : Row) (columns next : List ℕ) → column < length rows → row ≡ get_or rows column row → next ≡ columns ++ map (λ place. column) (place_in side row)
-    → columns ++ columns_from side column (drop column rows) ≡ columns_of side rows → next ++ columns_from side (column + 1) (drop (column + 1) rows) ≡ columns_of side rows
+pub column_on : (side : Side) (rows : List Row) (column : ℕ) (row : Row) (columns next : List ℕ) → column < length rows → row ≡ get_or rows column row → next ≡
+    columns ++ map (λ place. column) (place_in side row)
+    → columns ++ columns_from side column (drop column rows) ≡ columns_of side rows → next ++ columns_from side (column + 1) (drop (column + 1) rows) ≡
+    columns_of side rows
 column_on side rows column row columns next within is pushed before =
     let more : column + 1 ≡ suc column = omega arith in
     let rest : drop column rows ≡ row ∷ drop (suc column) rows = drop-cons rows column row within ∙ ap (λ (r : Row). r ∷ drop (suc column) rows) (sym is) in
@@ -23,7 +26,8 @@ column_on side rows column row columns next within is pushed before =
     ∙ before
 
 -- behind all rows
-pub columns_end : (side : Side) (rows : List Row) (column : ℕ) (columns one two : List ℕ) → length rows ≤ column → column ≤ length rows → one ≡ columns ++ length rows ∷ [] → two ≡ one ++ (length rows + 1) ∷ []
+pub columns_end : (side : Side) (rows : List Row) (column : ℕ) (columns one two : List ℕ) → length rows ≤ column → column ≤ length rows → one ≡ columns ++
+    length rows ∷ [] → two ≡ one ++ (length rows + 1) ∷ []
     → columns ++ columns_from side column (drop column rows) ≡ columns_of side rows → two ≡ columns_of side rows
 columns_end side rows column columns one two all within first second before =
     let here : length rows ≡ column = omega (arith, all, within) in
@@ -47,25 +51,32 @@ head_is first (suc count) place rest same = cc same
 
 tail_is : (first count place : ℕ) (rest : List ℕ) → place ∷ rest ≡ range_with_len first count → rest ≡ range_with_len (first + 1) (count - 1)
 tail_is first zero place rest same = absurd (cc same)
-tail_is first (suc count) place rest same = (let tail : rest ≡ range_with_len (first + 1) count = cc same in tail) ∙ ap (λ n. range_with_len (first + 1) n) (let n : count ≡ suc count - 1 = omega arith in n)
+tail_is first (suc count) place rest same = (let tail : rest ≡ range_with_len (first + 1) count = cc same in tail) ∙ ap (λ n. range_with_len (first + 1) n)
+    (let n : count ≡ suc count - 1 = omega arith in n)
 
 -- the first row has the place
-here : (from first count place : ℕ) (places rest columns : List ℕ) → places ≡ place ∷ [] → places ++ rest ≡ range_with_len first count → Begins first place (map (λ p. from) places ++ columns) (from + 0)
+here : (from first count place : ℕ) (places rest columns : List ℕ) → places ≡ place ∷ [] → places ++ rest ≡ range_with_len first count → Begins first place
+    (map (λ p. from) places ++ columns) (from + 0)
 here from first count place places rest columns is counts =
     let same : place ≡ first = head_is first count place rest (sym (ap (λ ps. ps ++ rest) is) ∙ counts) in
     let none : place - first ≡ 0 = omega (arith, same) in
-    let column : from ≡ from + 0 = omega arith in
-    (omega (arith, same), ap (λ n. slice_get (map (λ p. from) places ++ columns) n) none ∙ ap (λ ps. slice_get (map (λ p. from) ps ++ columns) 0) is ∙ ap (λ n. Some n) column)
+    let column : from ≡ from + 0 = omega arith in (
+      omega (arith, same),
+      ap (λ n. slice_get (map (λ p. from) places ++ columns) n) none ∙ ap (λ ps. slice_get (map (λ p. from) ps ++ columns) 0) is ∙ ap
+          (λ n. Some n) column,
+    )
 
 -- a later row has it
-later : (from first column place : ℕ) (columns : List ℕ) → Begins (first + 1) place columns (suc from + column) → Begins first place (from ∷ columns) (from + suc column)
+later : (from first column place : ℕ) (columns : List ℕ) → Begins (first + 1) place columns (suc from + column) → Begins first place (from ∷ columns)
+    (from + suc column)
 later from first column place columns begins =
     let behind : place - first ≡ suc (place - (first + 1)) = omega (arith, begins.0) in
     let same : suc from + column ≡ from + suc column = omega arith in
     (omega (arith, begins.0), ap (λ n. slice_get (from ∷ columns) n) behind ∙ begins.1 ∙ ap (λ n. Some n) same)
 
 -- a row before the one that has it
-split : (from first count column place : ℕ) (places columns : List ℕ) → ((first count : ℕ) → places ≡ range_with_len first count → Begins first place columns (suc from + column)) → (side : Side) (row : Row) → place_in side row ++ places ≡ range_with_len first count
+split : (from first count column place : ℕ) (places columns : List ℕ) → ((first count : ℕ) → places ≡ range_with_len first count → Begins first place columns
+    (suc from + column)) → (side : Side) (row : Row) → place_in side row ++ places ≡ range_with_len first count
     → Begins first place (map (λ p. from) (place_in side row) ++ columns) (from + suc column)
 split from first count column place places columns rest side row = at side row
   where
@@ -75,7 +86,8 @@ split from first count column place places columns rest side row = at side row
     none : places ≡ range_with_len first count → Begins first place columns (from + suc column)
     none counts = let same : suc from + column ≡ from + suc column = omega arith in subst (λ n. Begins first place columns n) same (rest first count counts)
 
-    at : (s : Side) (r : Row) → place_in s r ++ places ≡ range_with_len first count → Begins first place (map (λ p. from) (place_in s r) ++ columns) (from + suc column)
+    at : (s : Side) (r : Row) → place_in s r ++ places ≡ range_with_len first count → Begins first place (map (λ p. from) (place_in s r) ++ columns)
+        (from + suc column)
     at Before (Both before after) counts = own before counts
     at Before (Removed before) counts = own before counts
     at Before (Inserted after) counts = none counts
@@ -84,13 +96,16 @@ split from first count column place places columns rest side row = at side row
     at After (Inserted after) counts = own after counts
 
 -- the places of the rows from a column on begin at these columns
-rows_begin : (side : Side) (rows : List Row) (from first count column place : ℕ) (row : Row) → flat_map (place_in side) rows ≡ range_with_len first count → slice_get rows column ≡ Some row → place_in side row ≡ place ∷ []
+rows_begin : (side : Side) (rows : List Row) (from first count column place : ℕ) (row : Row) → flat_map (place_in side) rows ≡ range_with_len first count →
+    slice_get rows column ≡ Some row → place_in side row ≡ place ∷ []
     → Begins first place (columns_from side from rows) (from + column)
 rows_begin side [] from first count column place row counts is at = absurd (cc is)
 rows_begin side (one ∷ rows) from first count zero place row counts is at =
-    here from first count place (place_in side one) (flat_map (place_in side) rows) (columns_from side (suc from) rows) (ap (place_in side) (let first_row : one ≡ row = cc is in first_row) ∙ at) counts
+    here from first count place (place_in side one) (flat_map (place_in side) rows) (columns_from side (suc from) rows)
+    (ap (place_in side) (let first_row : one ≡ row = cc is in first_row) ∙ at) counts
 rows_begin side (one ∷ rows) from first count (suc column) place row counts is at =
-    split from first count column place (flat_map (place_in side) rows) (columns_from side (suc from) rows) (λ f n told. rows_begin side rows (suc from) f n column place row told is at) side one counts
+    split from first count column place (flat_map (place_in side) rows) (columns_from side (suc from) rows)
+    (λ f n printed. rows_begin side rows (suc from) f n column place row printed is at) side one counts
 
 pub column_is_row : ColumnIsRow
 column_is_row side rows count column place row counts is at =

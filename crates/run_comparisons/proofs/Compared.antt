@@ -20,20 +20,24 @@ use Rattle.run_comparisons.specs.Shared.{shared_among, shared_events, AreEventsO
 use Rattle.run_comparisons.specs.SideBySide.{first_places, AreSideBySide}
 
 -- the fault that is handed on is the one that was told
-pub fault_told : {T : Type 0} (result : Result T SettleFault) (fault : SettleFault) → IsErrAnd result (λ told. told ≡ fault)
+pub fault_printed : {T : Type 0} (result : Result T SettleFault) (fault : SettleFault) → IsErrAnd result (λ printed. printed ≡ fault)
     → {U : Type 0} {why : SettleFault} → result ≡ Err why → ◌≡◌ {A = Result U SettleFault} (Err fault) (Err why)
-fault_told (Ok value) fault told is = absurd told
-fault_told (Err other) fault told {U} is = ap Err (sym told ∙ cc is)
+fault_printed (Ok value) fault printed is = absurd printed
+fault_printed (Err other) fault printed {U} is = ap Err (sym printed ∙ cc is)
 
 -- the events of the steps of a session are those of its settled run
-pub events_kept : (session : Session) (steps run : List Step) (left : List WaitingCall) → steps ≡ session.steps → IsSettled session.header session.steps run left → AreEventsOf steps run
+pub events_kept : (session : Session) (steps run : List Step) (left : List WaitingCall) → steps ≡ session.steps → IsSettled session.header session.steps run
+    left → AreEventsOf steps run
 events_kept session steps run left are settled = ap (filter comes_from_outside) are ∙ settling_keeps_events session.header session.steps run left settled
 
 -- both runs and their rows
 pub pair_settled : (session : Session) (edits : List Edit) (edited : Session) (rows : List Row) (steps others : List Step) (pair : SettledPair)
-    → edited ≡ after_edits session edits → rows ≡ rows_of session edits → steps ≡ session.steps → IsSettled session.header session.steps pair.before.run.items pair.before.left.items → others ≡ edited.steps
-    → IsSettled edited.header edited.steps pair.after.run.items pair.after.left.items → length pair.before.run.items ≤ max_steps → length pair.after.run.items ≤ max_steps
-    → AreSideBySide pair.before.run.items pair.after.run.items (shared_among steps others pair.before.run.items pair.after.run.items rows) first_places pair.rows.items → pair.refused.items ≡ refused_places session edits → IsSettledPair session edits pair
+    → edited ≡ after_edits session edits → rows ≡ rows_of session edits → steps ≡ session.steps → IsSettled session.header session.steps pair.before.run.items
+    pair.before.left.items → others ≡ edited.steps
+    → IsSettled edited.header edited.steps pair.after.run.items pair.after.left.items → length pair.before.run.items ≤ max_steps → length pair.after.run.items ≤
+    max_steps
+    → AreSideBySide pair.before.run.items pair.after.run.items (shared_among steps others pair.before.run.items pair.after.run.items rows) first_places
+    pair.rows.items → pair.refused.items ≡ refused_places session edits → IsSettledPair session edits pair
 pair_settled session edits edited rows steps others pair is_edited are_rows are_steps settled are_others settled_too few few_too aligned not_made =
     let run = pair.before.run.items in
     let later = pair.after.run.items in
@@ -58,16 +62,20 @@ abbrev pub run_after : (session : Session) (edits : List Edit) (pair : SettledPa
 run_after session edits pair settled = record { run = pair.after.run.items; left = pair.after.left.items; settled = settled.after }
 
 -- the text of them
-pub comparison_told : (session : Session) (edits : List Edit) (edited : Session) (pair : SettledPair) (text : List ℕ) → edited ≡ after_edits session edits → IsSettledPair session edits pair
-    → text ≡ settled_text (with_steps session pair.before.run.items) (with_steps edited pair.after.run.items) pair.refused.items pair.rows.items pair.before.left.items pair.after.left.items → IsSettledComparison session edits text
-comparison_told session edits edited pair text is_edited settled told = (
+pub comparison_printed : (session : Session) (edits : List Edit) (edited : Session) (pair : SettledPair) (text : List ℕ) → edited ≡ after_edits session edits →
+    IsSettledPair session edits pair
+    → text ≡ settled_text (with_steps session pair.before.run.items) (with_steps edited pair.after.run.items) pair.refused.items pair.rows.items
+    pair.before.left.items pair.after.left.items → IsSettledComparison session edits text
+comparison_printed session edits edited pair text is_edited settled printed = (
   run_before session edits pair settled,
   run_after session edits pair settled,
   pair.rows.items,
   settled.rows,
-  told
-      ∙ ap (λ (one : Session). settled_text (with_steps session pair.before.run.items) (with_steps one pair.after.run.items) pair.refused.items pair.rows.items pair.before.left.items pair.after.left.items) is_edited
-      ∙ ap (λ (places : List ℕ). settled_text (with_steps session pair.before.run.items) (with_steps (after_edits session edits) pair.after.run.items) places pair.rows.items pair.before.left.items pair.after.left.items) settled.refused,
+  printed
+      ∙ ap (λ (one : Session). settled_text (with_steps session pair.before.run.items) (with_steps one pair.after.run.items) pair.refused.items pair.rows.items
+      pair.before.left.items pair.after.left.items) is_edited
+      ∙ ap (λ (places : List ℕ). settled_text (with_steps session pair.before.run.items) (with_steps (after_edits session edits) pair.after.run.items) places
+      pair.rows.items pair.before.left.items pair.after.left.items) settled.refused,
 )
 
 -- neither run is too long

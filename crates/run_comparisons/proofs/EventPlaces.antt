@@ -1,5 +1,6 @@
 -- Where the ticks and interrupts of a session stand in its settled run.
-use Rattle.std.proofs.Common.{◌≡◌, ℕ, zero, suc, ◌+◌, ◌≤◌, ◌<◌, Bool, true, false, cond, List, [], ◌∷◌, length, take, get_or, map, filter, Some, refl, ap, sym, ◌∙◌, arith, inl, inr}
+use Rattle.std.proofs.Common.{◌≡◌, ℕ, zero, suc, ◌+◌, ◌≤◌, ◌<◌, Bool, true, false, cond, List, [], ◌∷◌, length, take, get_or, map, filter, Some, refl, ap, sym}
+use Rattle.std.proofs.Common.{◌∙◌, arith, inl, inr}
 use Rattle.std.specs.Prelude.{slice_get}
 use Rattle.std.specs.List.{range_with_len}
 use Rattle.std.proofs.lemmas.Bool.{cases_lt}
@@ -12,14 +13,17 @@ use Rattle.run_comparisons.specs.Shared.{event_places, events_before, place_in, 
 -- ---- how many come before a place
 
 -- one more behind a tick or an interrupt
-pub one_more : (steps : List Step) (place : ℕ) (event : Step) → slice_get steps place ≡ Some event → comes_from_outside event ≡ true → events_before steps (suc place) ≡ suc (events_before steps place)
+pub one_more : (steps : List Step) (place : ℕ) (event : Step) → slice_get steps place ≡ Some event → comes_from_outside event ≡ true → events_before steps
+    (suc place) ≡ suc (events_before steps place)
 one_more [] place event found is = absurd (cc found)
 one_more (step ∷ steps) zero event found is =
     let same : step ≡ event = cc found in
     ap (λ (one : Step). length (cond (comes_from_outside one) (one ∷ []) [])) same ∙ ap (λ (b : Bool). length (cond b (event ∷ []) [])) is
 one_more (step ∷ steps) (suc place) event found is = at (comes_from_outside step) (one_more steps place event found is)
   where
-    at : (b : Bool) → events_before steps (suc place) ≡ suc (events_before steps place) → length (cond b (step ∷ filter comes_from_outside (take (suc place) steps)) (filter comes_from_outside (take (suc place) steps))) ≡ suc (length (cond b (step ∷ filter comes_from_outside (take place steps)) (filter comes_from_outside (take place steps))))
+    at : (b : Bool) → events_before steps (suc place) ≡ suc (events_before steps place) → length
+        (cond b (step ∷ filter comes_from_outside (take (suc place) steps)) (filter comes_from_outside (take (suc place) steps))) ≡ suc
+        (length (cond b (step ∷ filter comes_from_outside (take place steps)) (filter comes_from_outside (take place steps))))
     at true more = ap suc more
     at false more = more
 
@@ -33,14 +37,17 @@ no_fewer (step ∷ steps) zero j order = omega arith
 no_fewer (step ∷ steps) (suc i) zero order = absurd (omega (arith, order))
 no_fewer (step ∷ steps) (suc i) (suc j) order = at (comes_from_outside step) (no_fewer steps i j (omega (arith, order)))
   where
-    at : (b : Bool) → events_before steps i ≤ events_before steps j → length (cond b (step ∷ filter comes_from_outside (take i steps)) (filter comes_from_outside (take i steps))) ≤ length (cond b (step ∷ filter comes_from_outside (take j steps)) (filter comes_from_outside (take j steps)))
+    at : (b : Bool) → events_before steps i ≤ events_before steps j → length
+        (cond b (step ∷ filter comes_from_outside (take i steps)) (filter comes_from_outside (take i steps))) ≤ length
+        (cond b (step ∷ filter comes_from_outside (take j steps)) (filter comes_from_outside (take j steps)))
     at true rest = omega (arith, rest)
     at false rest = rest
 
 -- ---- the event that has a number
 
 -- the event at a place has the number of those before it
-numbered : (steps : List Step) (place : ℕ) (event : Step) → slice_get steps place ≡ Some event → comes_from_outside event ≡ true → slice_get (filter comes_from_outside steps) (events_before steps place) ≡ Some event
+numbered : (steps : List Step) (place : ℕ) (event : Step) → slice_get steps place ≡ Some event → comes_from_outside event ≡ true → slice_get
+    (filter comes_from_outside steps) (events_before steps place) ≡ Some event
 numbered [] place event found is = absurd (cc found)
 numbered (step ∷ steps) zero event found is =
     let same : step ≡ event = cc found in
@@ -48,7 +55,9 @@ numbered (step ∷ steps) zero event found is =
     ∙ ap (λ (b : Bool). slice_get (cond b (event ∷ filter comes_from_outside steps) (filter comes_from_outside steps)) 0) is
 numbered (step ∷ steps) (suc place) event found is = at (comes_from_outside step) (numbered steps place event found is)
   where
-    at : (b : Bool) → slice_get (filter comes_from_outside steps) (events_before steps place) ≡ Some event → slice_get (cond b (step ∷ filter comes_from_outside steps) (filter comes_from_outside steps)) (length (cond b (step ∷ filter comes_from_outside (take place steps)) (filter comes_from_outside (take place steps)))) ≡ Some event
+    at : (b : Bool) → slice_get (filter comes_from_outside steps) (events_before steps place) ≡ Some event → slice_get
+        (cond b (step ∷ filter comes_from_outside steps) (filter comes_from_outside steps))
+        (length (cond b (step ∷ filter comes_from_outside (take place steps)) (filter comes_from_outside (take place steps)))) ≡ Some event
     at true rest = rest
     at false rest = rest
 
@@ -59,14 +68,17 @@ record IsNumbered (run : List Step) (first number : ℕ) (event : Step) : Type 0
   pub stands : slice_get run place ≡ Some event
   pub as_many : events_before run place ≡ number
 
-event_numbered : (run : List Step) (first number : ℕ) (event : Step) → slice_get (filter comes_from_outside run) number ≡ Some event → IsNumbered run first number event
+event_numbered : (run : List Step) (first number : ℕ) (event : Step) → slice_get (filter comes_from_outside run) number ≡ Some event → IsNumbered run first
+    number event
 event_numbered [] first number event found = absurd (cc found)
 event_numbered (step ∷ run) first number event found = at (event_numbered run (suc first)) (comes_from_outside step) refl number found
   where
     shifted : (place : ℕ) → suc first + place ≡ first + suc place
     shifted place = omega arith
 
-    at : ((k : ℕ) (one : Step) → slice_get (filter comes_from_outside run) k ≡ Some one → IsNumbered run (suc first) k one) → (b : Bool) → comes_from_outside step ≡ b → (k : ℕ) → slice_get (cond b (step ∷ filter comes_from_outside run) (filter comes_from_outside run)) k ≡ Some event → IsNumbered (step ∷ run) first k event
+    at : ((k : ℕ) (one : Step) → slice_get (filter comes_from_outside run) k ≡ Some one → IsNumbered run (suc first) k one) → (b : Bool) → comes_from_outside
+        step ≡ b → (k : ℕ) → slice_get (cond b (step ∷ filter comes_from_outside run) (filter comes_from_outside run)) k ≡ Some event → IsNumbered (step ∷ run)
+        first k event
     at next true is zero one = record {
       place = 0;
       listed = ap (λ (b : Bool). slice_get (cond b (first ∷ event_places (suc first) run) (event_places (suc first) run)) 0) is ∙ ap Some (omega arith);
@@ -77,23 +89,28 @@ event_numbered (step ∷ run) first number event found = at (event_numbered run 
         let rest = next k event one in
         record {
           place = suc rest.place;
-          listed = ap (λ (b : Bool). slice_get (cond b (first ∷ event_places (suc first) run) (event_places (suc first) run)) (suc k)) is ∙ rest.listed ∙ ap Some (shifted rest.place);
+          listed = ap (λ (b : Bool). slice_get (cond b (first ∷ event_places (suc first) run) (event_places (suc first) run)) (suc k)) is ∙ rest.listed ∙ ap
+              Some (shifted rest.place);
           stands = rest.stands;
-          as_many = ap (λ (b : Bool). length (cond b (step ∷ filter comes_from_outside (take rest.place run)) (filter comes_from_outside (take rest.place run)))) is ∙ ap suc rest.as_many;
+          as_many = ap (λ (b : Bool). length (cond b (step ∷ filter comes_from_outside (take rest.place run))
+              (filter comes_from_outside (take rest.place run)))) is ∙ ap suc rest.as_many;
         }
     at next false is k one =
         let rest = next k event one in
         record {
           place = suc rest.place;
-          listed = ap (λ (b : Bool). slice_get (cond b (first ∷ event_places (suc first) run) (event_places (suc first) run)) k) is ∙ rest.listed ∙ ap Some (shifted rest.place);
+          listed = ap (λ (b : Bool). slice_get (cond b (first ∷ event_places (suc first) run) (event_places (suc first) run)) k) is ∙ rest.listed ∙ ap Some
+              (shifted rest.place);
           stands = rest.stands;
-          as_many = ap (λ (b : Bool). length (cond b (step ∷ filter comes_from_outside (take rest.place run)) (filter comes_from_outside (take rest.place run)))) is ∙ rest.as_many;
+          as_many = ap (λ (b : Bool). length (cond b (step ∷ filter comes_from_outside (take rest.place run))
+              (filter comes_from_outside (take rest.place run)))) is ∙ rest.as_many;
         }
 
 -- ---- where an event of the session stands
 
 -- it stands in the run, and as many come before it
-pub stands_there : (session run : List Step) (place : ℕ) (event : Step) → AreEventsOf session run → slice_get session place ≡ Some event → comes_from_outside event ≡ true → StandsAs session place event run (place_in run session place)
+pub stands_there : (session run : List Step) (place : ℕ) (event : Step) → AreEventsOf session run → slice_get session place ≡ Some event → comes_from_outside
+    event ≡ true → StandsAs session place event run (place_in run session place)
 stands_there session run place event events found is =
     let number = events_before session place in
     let there = event_numbered run 0 number event (ap (λ (list : List Step). slice_get list number) (sym events) ∙ numbered session place event found is) in
@@ -105,11 +122,14 @@ stands_there session run place event events found is =
     }
 
 -- among the steps of the run
-pub stands_within : (session run : List Step) (place : ℕ) (event : Step) → AreEventsOf session run → slice_get session place ≡ Some event → comes_from_outside event ≡ true → place_in run session place < length run
-stands_within session run place event events found is = slice_get_within run (place_in run session place) event (stands_there session run place event events found is).stands
+pub stands_within : (session run : List Step) (place : ℕ) (event : Step) → AreEventsOf session run → slice_get session place ≡ Some event → comes_from_outside
+    event ≡ true → place_in run session place < length run
+stands_within session run place event events found is = slice_get_within run (place_in run session place) event
+    (stands_there session run place event events found is).stands
 
 -- and behind each that comes before it in the session
-pub stands_behind : (session run : List Step) (sooner later : ℕ) (event other : Step) → AreEventsOf session run → slice_get session sooner ≡ Some event → comes_from_outside event ≡ true → slice_get session later ≡ Some other → comes_from_outside other ≡ true → sooner < later
+pub stands_behind : (session run : List Step) (sooner later : ℕ) (event other : Step) → AreEventsOf session run → slice_get session sooner ≡ Some event →
+    comes_from_outside event ≡ true → slice_get session later ≡ Some other → comes_from_outside other ≡ true → sooner < later
     → place_in run session sooner < place_in run session later
 stands_behind session run sooner later event other events found is next too order =
     elim (cases_lt (place_in run session sooner) (place_in run session later)) [
@@ -125,7 +145,8 @@ stands_behind session run sooner later event other events found is next too orde
 
 -- ---- what stands in the list of the places
 
-places_from : (run session : List Step) (first n place : ℕ) (d : ℕ) → place < n → get_or (map (place_in run session) (range_with_len first n)) place d ≡ place_in run session (first + place)
+places_from : (run session : List Step) (first n place : ℕ) (d : ℕ) → place < n → get_or (map (place_in run session) (range_with_len first n)) place d ≡
+    place_in run session (first + place)
 places_from run session first zero place d low = absurd (omega (arith, low))
 places_from run session first (suc n) zero d low = ap (place_in run session) (omega arith)
 places_from run session first (suc n) (suc place) d low =

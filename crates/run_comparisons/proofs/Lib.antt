@@ -3,7 +3,7 @@ mod BothRuns
 mod ColumnsOf
 pub mod Compared
 mod EventPlaces
-mod GainsTold
+mod GainsPrinted
 mod LastRows
 pub mod OneText
 mod Outcomes

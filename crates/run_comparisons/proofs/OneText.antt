@@ -15,16 +15,19 @@ use Rattle.run_comparisons.specs.SideBySide.{first_places, next_row, past, row_o
 one_row : (row other : Row) (next : Option Row) → next ≡ Some row → next ≡ Some other → row ≡ other
 one_row row other next is too = let same : Some row ≡ Some other = sym is ∙ too in cc same
 
-one_aligned : (before after : List Step) (at : PlacePair) (rows others : List Row) → AreAligned before after at rows → AreAligned before after at others → rows ≡ others
+one_aligned : (before after : List Step) (at : PlacePair) (rows others : List Row) → AreAligned before after at rows → AreAligned before after at others → rows
+    ≡ others
 one_aligned before after at [] [] none too = refl
 one_aligned before after at [] (other ∷ others) none too = absurd (cc (none, too.0))
 one_aligned before after at (row ∷ rows) [] some none = absurd (cc (some.0, none))
 one_aligned before after at (row ∷ rows) (other ∷ others) some too =
     let same = one_row row other (next_row before after at) some.0 too.0 in
-    let rest = one_aligned before after (past row at) rows others some.1 (subst (λ (one : Row). AreAligned before after (past one at) others) (sym same) too.1) in
+    let rest = one_aligned before after (past row at) rows others some.1 (subst (λ (one : Row). AreAligned before after (past one at) others) (sym same) too.1)
+    in
     ap₂ (λ (one : Row) (list : List Row). one ∷ list) same rest
 
-pub one_list : (before after : List Step) (events : List PlacePair) (at : PlacePair) (rows others : List Row) → AreSideBySide before after events at rows → AreSideBySide before after events at others → rows ≡ others
+pub one_list : (before after : List Step) (events : List PlacePair) (at : PlacePair) (rows others : List Row) → AreSideBySide before after events at rows →
+    AreSideBySide before after events at others → rows ≡ others
 one_list before after [] at rows others aligned too = one_aligned before after at rows others aligned too
 one_list before after (event ∷ events) at rows others aligned too =
     let window = one_aligned (take event.before before) (take event.after after) at aligned.0 too.0 aligned.3 too.3 in
@@ -32,15 +35,16 @@ one_list before after (event ∷ events) at rows others aligned too =
     aligned.2 ∙ ap₂ (λ (list later : List Row). list ++ row_of event ∷ later) window rest ∙ sym too.2
 
 pub one_text : SettledComparisonIsOne
-one_text session edits text other told too =
+one_text session edits text other printed too =
     let edited = after_edits session edits in
-    let first = settled_run_is_one session.header session.steps told.0.run too.0.run told.0.left too.0.left told.0.settled too.0.settled in
-    let second = settled_run_is_one edited.header edited.steps told.1.run too.1.run told.1.left too.1.left told.1.settled too.1.settled in
-    let aligned = subst (λ (run : List Step). AreSettledRows session edits told.0.run run too.2) (sym second.0) (subst (λ (run : List Step). AreSettledRows session edits run too.1.run too.2) (sym first.0) too.3) in
-    let rows = one_list told.0.run told.1.run (shared_events session edits told.0.run told.1.run) first_places told.2 too.2 told.3 aligned in
+    let first = settled_run_is_one session.header session.steps printed.0.run too.0.run printed.0.left too.0.left printed.0.settled too.0.settled in
+    let second = settled_run_is_one edited.header edited.steps printed.1.run too.1.run printed.1.left too.1.left printed.1.settled too.1.settled in
+    let aligned = subst (λ (run : List Step). AreSettledRows session edits printed.0.run run too.2) (sym second.0)
+    (subst (λ (run : List Step). AreSettledRows session edits run too.1.run too.2) (sym first.0) too.3) in
+    let rows = one_list printed.0.run printed.1.run (shared_events session edits printed.0.run printed.1.run) first_places printed.2 too.2 printed.3 aligned in
     let of_run = λ (run later : List Step). settled_text (with_steps session run) (with_steps edited later) (refused_places session edits) in
-    told.4
-    ∙ ap₂ (λ (run later : List Step). of_run run later told.2 told.0.left told.1.left) first.0 second.0
-    ∙ ap (λ (shown : List Row). of_run too.0.run too.1.run shown told.0.left told.1.left) rows
+    printed.4
+    ∙ ap₂ (λ (run later : List Step). of_run run later printed.2 printed.0.left printed.1.left) first.0 second.0
+    ∙ ap (λ (shown : List Row). of_run too.0.run too.1.run shown printed.0.left printed.1.left) rows
     ∙ ap₂ (λ (left rest : List WaitingCall). of_run too.0.run too.1.run too.2 left rest) first.1 second.1
     ∙ sym too.4

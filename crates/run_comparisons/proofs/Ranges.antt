@@ -9,7 +9,8 @@ flat_map_more f [] x = append-nil (f x)
 flat_map_more f (y ∷ ys) x = ap (λ rest. f y ++ rest) (flat_map_more f ys x) ∙ sym (append_assoc (f y) (flat_map f ys) (f x))
 
 -- the text of one number more
-pub next_text : (f : ℕ → List ℕ) (before text after : List ℕ) (n : ℕ) → text ≡ before ++ flat_map f (numbers n) → after ≡ text ++ f n → after ≡ before ++ flat_map f (numbers (n + 1))
+pub next_text : (f : ℕ → List ℕ) (before text after : List ℕ) (n : ℕ) → text ≡ before ++ flat_map f (numbers n) → after ≡ text ++ f n → after ≡ before ++
+    flat_map f (numbers (n + 1))
 next_text f before text after n so_far pushed =
     pushed ∙ ap (λ all. all ++ f n) so_far ∙ append_assoc before (flat_map f (numbers n)) (f n)
     ∙ ap (λ all. before ++ all) (sym (ap (flat_map f) (numbers_more n) ∙ flat_map_more f (numbers n) n))

@@ -17,10 +17,13 @@ counted (Both before after ∷ rows) = omega (arith, counted rows)
 counted (Removed before ∷ rows) = omega (arith, counted rows)
 counted (Inserted after ∷ rows) = omega (arith, counted rows)
 
-pub few_rows : (session : Session) (edits : List Edit) (pair : SettledPair) → IsSettledPair session edits pair → length pair.rows.items ≤ length pair.before.run.items + length pair.after.run.items
+pub few_rows : (session : Session) (edits : List Edit) (pair : SettledPair) → IsSettledPair session edits pair → length pair.rows.items ≤ length
+    pair.before.run.items + length pair.after.run.items
 few_rows session edits pair settled =
     let before = run_before session edits pair settled in
     let after = run_after session edits pair settled in
-    let old = ap (λ places. length places) (each_settled_before session edits before after pair.rows.items settled.rows) ∙ length-range_with_len 0 (length pair.before.run.items) in
-    let new = ap (λ places. length places) (each_settled_after session edits before after pair.rows.items settled.rows) ∙ length-range_with_len 0 (length pair.after.run.items) in
+    let old = ap (λ places. length places) (each_settled_before session edits before after pair.rows.items settled.rows) ∙ length-range_with_len 0
+    (length pair.before.run.items) in
+    let new = ap (λ places. length places) (each_settled_after session edits before after pair.rows.items settled.rows) ∙ length-range_with_len 0
+    (length pair.after.run.items) in
     omega (arith, counted pair.rows.items, old, new)

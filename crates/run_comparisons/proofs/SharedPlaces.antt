@@ -1,13 +1,14 @@
 -- What is known of the events that two sessions share: each stands in both runs, and they ascend.
-use Rattle.std.proofs.Common.{◌≡◌, ℕ, zero, suc, ◌+◌, ◌≤◌, ◌<◌, Bool, true, false, cond, ◌&&◌, List, [], ◌∷◌, ◌++◌, length, get_or, flat_map, Option, Some, None, refl, ap, sym, subst, ◌∙◌, arith}
+use Rattle.std.proofs.Common.{◌≡◌, ℕ, zero, suc, ◌+◌, ◌≤◌, ◌<◌, Bool, true, false, cond, ◌&&◌, List, [], ◌∷◌, ◌++◌, length, get_or, flat_map, Option, Some}
+use Rattle.std.proofs.Common.{None, refl, ap, sym, subst, ◌∙◌, arith}
 use Rattle.std.specs.Prelude.{All, slice_get}
 use Rattle.std.specs.List.{cons_option, filter_map, range_with_len}
 use Rattle.std.proofs.lemmas.Bool.{and_parts}
 use Rattle.std.proofs.lemmas.Bool.Decides.{nat_tests}
 use Rattle.std.proofs.lemmas.List.Elements.{All-cons}
 use Rattle.std.proofs.lemmas.Option.{slice_get_within}
-use Rattle.bench_types.specs.declared.note.Action.{Action}
-use Rattle.bench_types.specs.declared.note.Action.TheVariants.{Nothing, SetBits, Increment, Set, SetNew}
+use Rattle.bench_types.specs.declared.note.NotifyAction.{NotifyAction}
+use Rattle.bench_types.specs.declared.note.NotifyAction.TheVariants.{Nothing, SetBits, Increment, Set, SetNew}
 use Rattle.bench_types.specs.declared.note.Note.{Note}
 use Rattle.bench_types.specs.declared.step.Step.{Step}
 use Rattle.bench_types.specs.declared.step.Step.TheVariants.{Tick, Interrupt}
@@ -29,7 +30,7 @@ alike_outside Tick Tick is alike = refl
 alike_outside (Interrupt core note) (Interrupt other sent) is alike = refl
 alike_outside step other is alike = absurd (cc (is, alike))
 
-action_itself : (action : Action) → are_same_actions action action ≡ true
+action_itself : (action : NotifyAction) → are_same_actions action action ≡ true
 action_itself Nothing = refl
 action_itself (SetBits bits) = grind (arith, nat_tests)
 action_itself Increment = refl
@@ -59,13 +60,16 @@ record IsSharedRow (session edited : List Step) (places later : List ℕ) (row :
   pub before : pair.before ≡ get_or places old 0
   pub after : pair.after ≡ get_or later new 0
 
-shared_row : (session edited : List Step) (places later : List ℕ) (row : Row) (pair : PlacePair) → shared_at session edited places later row ≡ Some pair → IsSharedRow session edited places later row pair
+shared_row : (session edited : List Step) (places later : List ℕ) (row : Row) (pair : PlacePair) → shared_at session edited places later row ≡ Some pair →
+    IsSharedRow session edited places later row pair
 shared_row session edited places later (Removed old) pair is = absurd (cc is)
 shared_row session edited places later (Inserted new) pair is = absurd (cc is)
 shared_row session edited places later (Both old new) pair is = at (slice_get session old) refl (slice_get edited new) refl is
   where
-    of_both : (step other : Step) → slice_get session old ≡ Some step → slice_get edited new ≡ Some other → (same : Bool) → (comes_from_outside step && are_alike step other) ≡ same
-        → cond same (Some (record { before = get_or places old 0; after = get_or later new 0 })) None ≡ Some pair → IsSharedRow session edited places later (Both old new) pair
+    of_both : (step other : Step) → slice_get session old ≡ Some step → slice_get edited new ≡ Some other → (same : Bool) →
+        (comes_from_outside step && are_alike step other) ≡ same
+        → cond same (Some (record { before = get_or places old 0; after = get_or later new 0 })) None ≡ Some pair → IsSharedRow session edited places later
+        (Both old new) pair
     of_both step other found met false tells one = absurd (cc one)
     of_both step other found met true tells one =
         let both = and_parts (comes_from_outside step) (are_alike step other) tells in
@@ -85,7 +89,8 @@ shared_row session edited places later (Both old new) pair is = at (slice_get se
         }
 
     at : (step : Option Step) → slice_get session old ≡ step → (other : Option Step) → slice_get edited new ≡ other
-        → cond (is_same_event step other) (Some (record { before = get_or places old 0; after = get_or later new 0 })) None ≡ Some pair → IsSharedRow session edited places later (Both old new) pair
+        → cond (is_same_event step other) (Some (record { before = get_or places old 0; after = get_or later new 0 })) None ≡ Some pair → IsSharedRow session
+        edited places later (Both old new) pair
     at (Some step) found (Some other) met one = of_both step other found met (comes_from_outside step && are_alike step other) refl one
     at (Some step) found None met one = absurd (cc one)
     at None found other met one = absurd (cc one)
@@ -123,14 +128,18 @@ first_of x ys m (suc n) is =
 
 -- events of the session from a place on stand in the run from another on
 abbrev StandFrom : List Step → List Step → ℕ → ℕ → Type 0
-StandFrom session run from m = (place : ℕ) (event : Step) → m ≤ place → slice_get session place ≡ Some event → comes_from_outside event ≡ true → from ≤ place_in run session place
+StandFrom session run from m = (place : ℕ) (event : Step) → m ≤ place → slice_get session place ≡ Some event → comes_from_outside event ≡ true → from ≤ place_in
+    run session place
 
-module _ (side : Row → List ℕ) (pick : PlacePair → ℕ) (session run : List Step) (events : AreEventsOf session run) (shared : Row → Option PlacePair) (given : (row : Row) (pair : PlacePair) → shared row ≡ Some pair → IsPlaced side pick session run row pair) where
-  ascend_from : (rows : List Row) (m n from : ℕ) → flat_map side rows ≡ range_with_len m n → StandFrom session run from m → Ascend pick (length run) from (filter_map shared rows)
+module _ (side : Row → List ℕ) (pick : PlacePair → ℕ) (session run : List Step) (events : AreEventsOf session run) (shared : Row → Option PlacePair)
+    (given : (row : Row) (pair : PlacePair) → shared row ≡ Some pair → IsPlaced side pick session run row pair) where
+  ascend_from : (rows : List Row) (m n from : ℕ) → flat_map side rows ≡ range_with_len m n → StandFrom session run from m → Ascend pick (length run) from
+      (filter_map shared rows)
   ascend_from [] m n from tiles low = tt
   ascend_from (row ∷ rows) m n from tiles low = at (λ i j k t l. ascend_from rows i j k t l) (shared row) refl
     where
-      at : ((i j k : ℕ) → flat_map side rows ≡ range_with_len i j → StandFrom session run k i → Ascend pick (length run) k (filter_map shared rows)) → (found : Option PlacePair) → shared row ≡ found → Ascend pick (length run) from (cons_option found (filter_map shared rows))
+      at : ((i j k : ℕ) → flat_map side rows ≡ range_with_len i j → StandFrom session run k i → Ascend pick (length run) k (filter_map shared rows)) →
+          (found : Option PlacePair) → shared row ≡ found → Ascend pick (length run) from (cons_option found (filter_map shared rows))
       at next None is =
           let rest = rest_of (side row) (flat_map side rows) m n tiles in
           next rest.0 rest.1 from rest.3 (λ place event order. low place event (omega (arith, order, rest.2)))
@@ -142,7 +151,8 @@ module _ (side : Row → List ℕ) (pick : PlacePair → ℕ) (session run : Lis
             omega (arith, one.picked, here),
             omega (arith, one.picked, within),
             next (suc m) split.1 (suc (pick pair)) split.2 (λ place event order found outside.
-                let behind = stands_behind session run one.place place one.event event events one.found one.outside found outside (omega (arith, order, split.0)) in
+                let behind = stands_behind session run one.place place one.event event events one.found one.outside found outside
+                (omega (arith, order, split.0)) in
                 omega (arith, one.picked, behind)),
           )
 
@@ -179,10 +189,12 @@ module _ (session edited before after : List Step) (first : AreEventsOf session 
         picked = one.after ∙ place_listed after edited one.new (slice_get_within edited one.new one.other one.met);
       }
 
-  pub ascend_before : (rows : List Row) (n : ℕ) → flat_map place_before rows ≡ range_with_len 0 n → Ascend (λ one. one.before) (length before) 0 (shared_among session edited before after rows)
+  pub ascend_before : (rows : List Row) (n : ℕ) → flat_map place_before rows ≡ range_with_len 0 n → Ascend (λ one. one.before) (length before) 0
+      (shared_among session edited before after rows)
   ascend_before = ascend place_before (λ one. one.before) session before first at_row placed_before
 
-  pub ascend_after : (rows : List Row) (n : ℕ) → flat_map place_after rows ≡ range_with_len 0 n → Ascend (λ one. one.after) (length after) 0 (shared_among session edited before after rows)
+  pub ascend_after : (rows : List Row) (n : ℕ) → flat_map place_after rows ≡ range_with_len 0 n → Ascend (λ one. one.after) (length after) 0
+      (shared_among session edited before after rows)
   ascend_after = ascend place_after (λ one. one.after) edited after second at_row placed_after
 
   -- each stands in both runs
@@ -198,12 +210,14 @@ module _ (session edited before after : List Step) (first : AreEventsOf session 
   all_within [] = λ k d short. absurd (omega (arith, short))
   all_within (row ∷ rows) = at (all_within rows) (at_row row) refl
     where
-      at : All (IsWithin before after) (filter_map at_row rows) → (found : Option PlacePair) → at_row row ≡ found → All (IsWithin before after) (cons_option found (filter_map at_row rows))
+      at : All (IsWithin before after) (filter_map at_row rows) → (found : Option PlacePair) → at_row row ≡ found → All (IsWithin before after)
+          (cons_option found (filter_map at_row rows))
       at rest None is = rest
       at rest (Some pair) is = All-cons (IsWithin before after) pair (filter_map at_row rows) (one_within row pair is) rest
 
 -- so it is with what equals them
-pub each_within : (session edited before after s e b a : List Step) (rows : List Row) (events : List PlacePair) → AreEventsOf session before → AreEventsOf edited after → s ≡ session → e ≡ edited → b ≡ before → a ≡ after → events ≡ shared_among s e b a rows → All (IsWithin b a) events
+pub each_within : (session edited before after s e b a : List Step) (rows : List Row) (events : List PlacePair) → AreEventsOf session before → AreEventsOf
+    edited after → s ≡ session → e ≡ edited → b ≡ before → a ≡ after → events ≡ shared_among s e b a rows → All (IsWithin b a) events
 each_within session edited before after s e b a rows events first second is_session is_edited is_before is_after are =
     subst (λ (list : List PlacePair). All (IsWithin b a) list) (sym are)
     (all_within s e b a

@@ -1,5 +1,6 @@
 -- Each step of either run stands in one row, in its order.
-use Rattle.std.proofs.Common.{◌≡◌, ℕ, zero, suc, ◌+◌, ◌-◌, ◌≤◌, List, [], ◌∷◌, ◌++◌, length, take, drop, map, flat_map, Some, None, Result, Ok, Err, refl, ap, sym, subst, ◌∙◌, append_assoc, add-one, arith}
+use Rattle.std.proofs.Common.{◌≡◌, ℕ, zero, suc, ◌+◌, ◌-◌, ◌≤◌, List, [], ◌∷◌, ◌++◌, length, take, drop, map, flat_map, Some, None, Result, Ok, Err, refl, ap}
+use Rattle.std.proofs.Common.{sym, subst, ◌∙◌, append_assoc, add-one, arith}
 use Rattle.std.specs.List.{range_with_len}
 use Rattle.std.proofs.lemmas.Grind.{flat_map-append}
 use Rattle.std.proofs.lemmas.List.FromFn.{length-map-range_with_len}
@@ -26,13 +27,17 @@ rows_after count next place (None ∷ origins) =
     ap (λ list. place ∷ list) (rows_after count next (suc place) origins ∙ ap (λ from. range_with_len from (length origins)) (sym (add-one place)))
 rows_after count next place (Some before ∷ origins) =
     flat_map-append place_after (removed next before ++ Both before place ∷ []) (rows_from count (suc before) (suc place) origins)
-    ∙ ap (λ list. list ++ flat_map place_after (rows_from count (suc before) (suc place) origins)) (flat_map-append place_after (removed next before) (Both before place ∷ []) ∙ ap (λ list. list ++ place ∷ []) (none_after (range_with_len next (before - next))))
+    ∙ ap (λ list. list ++ flat_map place_after (rows_from count (suc before) (suc place) origins))
+    (flat_map-append place_after (removed next before) (Both before place ∷ []) ∙ ap (λ list. list ++ place ∷ [])
+    (none_after (range_with_len next (before - next))))
     ∙ ap (λ list. place ∷ list) (rows_after count (suc before) (suc place) origins ∙ ap (λ from. range_with_len from (length origins)) (sym (add-one place)))
 
-many_made : (session : Session) (edit : Edit) (origins : List Origin) → length origins ≡ length session.steps → length (origins_made session edit origins) ≡ length (after_edit session edit).steps
+many_made : (session : Session) (edit : Edit) (origins : List Origin) → length origins ≡ length session.steps → length (origins_made session edit origins) ≡
+    length (after_edit session edit).steps
 many_made session edit origins many = at (accepted session edit) refl
   where
-    at : (check : Result (Unit {0}) EditFault) → accepted session edit ≡ check → length (origins_made session edit origins) ≡ length (after_edit session edit).steps
+    at : (check : Result (Unit {0}) EditFault) → accepted session edit ≡ check → length (origins_made session edit origins) ≡ length
+        (after_edit session edit).steps
     at (Ok done) accepts =
         ap (λ (list : List Origin). length list) (made_is session edit origins accepts)
         ∙ still_many session edit origins many (among session edit (length origins) accepts many)
@@ -41,9 +46,11 @@ many_made session edit origins many = at (accepted session edit) refl
         ap (λ (list : List Origin). length list) (made_not session edit origins why refuses) ∙ many
         ∙ sym (ap (λ (s : Session). length s.steps) (session_not session edit why refuses))
 
-many_origins : (session : Session) (edits : List Edit) (origins : List Origin) → length origins ≡ length session.steps → length (origins_of session edits origins) ≡ length (after_edits session edits).steps
+many_origins : (session : Session) (edits : List Edit) (origins : List Origin) → length origins ≡ length session.steps → length
+    (origins_of session edits origins) ≡ length (after_edits session edits).steps
 many_origins session [] origins many = many
-many_origins session (edit ∷ edits) origins many = many_origins (after_edit session edit) edits (origins_made session edit origins) (many_made session edit origins many)
+many_origins session (edit ∷ edits) origins many = many_origins (after_edit session edit) edits (origins_made session edit origins)
+    (many_made session edit origins many)
 
 pub each_after : EachAfter
 each_after session edits =
@@ -66,14 +73,19 @@ earlier count next sooner (Some before ∷ origins) early up = (omega (arith, ea
 
 kept_up : (count next n : ℕ) → next + n ≤ count → Ascend count next (map Some (range_with_len next n))
 kept_up count next zero fits = omega (arith, fits)
-kept_up count next (suc n) fits = (omega arith, earlier count (next + 1) (suc next) (map Some (range_with_len (next + 1) n)) (omega arith) (kept_up count (next + 1) n (omega (arith, fits))))
+kept_up count next (suc n) fits = (
+  omega arith,
+  earlier count (next + 1) (suc next) (map Some (range_with_len (next + 1) n)) (omega arith)
+      (kept_up count (next + 1) n (omega (arith, fits))),
+)
 
 put_in : (count next : ℕ) (front rest : List Origin) → Ascend count next (front ++ rest) → Ascend count next (front ++ None ∷ rest)
 put_in count next [] rest up = up
 put_in count next (None ∷ front) rest up = put_in count next front rest up
 put_in count next (Some before ∷ front) rest up = (up.0, put_in count (suc before) front rest up.1)
 
-take_out : (count next : ℕ) (front : List Origin) (one : Origin) (rest : List Origin) → Ascend count next (front ++ one ∷ rest) → Ascend count next (front ++ rest)
+take_out : (count next : ℕ) (front : List Origin) (one : Origin) (rest : List Origin) → Ascend count next (front ++ one ∷ rest) → Ascend count next
+    (front ++ rest)
 take_out count next [] None rest up = up
 take_out count next [] (Some before) rest up = earlier count (suc before) next rest (omega (arith, up.0)) up.1
 take_out count next (None ∷ front) one rest up = take_out count next front one rest up
@@ -92,7 +104,8 @@ out_at count next (suc i) (None ∷ origins) up = out_at count next i origins up
 out_at count next (suc i) (Some before ∷ origins) up = (up.0, out_at count (suc before) i origins up.1)
 
 up_after : (count : ℕ) (edit : Edit) (origins : List Origin) → Ascend count 0 origins → Ascend count 0 (origins_after edit origins)
-up_after count (Insert at step) origins up = put_in count 0 (take at origins) (drop at origins) (subst (λ (list : List Origin). Ascend count 0 list) (sym (parts at origins)) up)
+up_after count (Insert at step) origins up = put_in count 0 (take at origins) (drop at origins)
+    (subst (λ (list : List Origin). Ascend count 0 list) (sym (parts at origins)) up)
 up_after count (Remove at) origins up = out_at count 0 at origins up
 up_after count (Replace at step) origins up = up
 up_after count (ChangeTask task priority mask) origins up = up
@@ -106,7 +119,8 @@ up_made count session edit origins up = at (accepted session edit) refl
 
 up_of : (count : ℕ) (session : Session) (edits : List Edit) (origins : List Origin) → Ascend count 0 origins → Ascend count 0 (origins_of session edits origins)
 up_of count session [] origins up = up
-up_of count session (edit ∷ edits) origins up = up_of count (after_edit session edit) edits (origins_made session edit origins) (up_made count session edit origins up)
+up_of count session (edit ∷ edits) origins up = up_of count (after_edit session edit) edits (origins_made session edit origins)
+    (up_made count session edit origins up)
 
 below : (count next : ℕ) (origins : List Origin) → Ascend count next origins → next ≤ count
 below count next [] up = up
@@ -125,7 +139,8 @@ joined a zero n b k to all =
 joined a (suc m) n b zero to all = absurd (omega (arith, all))
 joined a (suc m) n b (suc k) to all = ap (λ list. a ∷ list) (joined (a + 1) m n b k (omega (arith, to)) (omega (arith, all)))
 
-rows_before : (count next place : ℕ) (origins : List Origin) → Ascend count next origins → flat_map place_before (rows_from count next place origins) ≡ range_with_len next (count - next)
+rows_before : (count next place : ℕ) (origins : List Origin) → Ascend count next origins → flat_map place_before (rows_from count next place origins) ≡
+    range_with_len next (count - next)
 rows_before count next place [] up = all_before (range_with_len next (count - next))
 rows_before count next place (None ∷ origins) up = rows_before count next (suc place) origins up
 rows_before count next place (Some before ∷ origins) up =
@@ -134,9 +149,11 @@ rows_before count next place (Some before ∷ origins) up =
     let order : next ≤ before = up.0 in
     let early = range_with_len next (before - next) in
     flat_map-append place_before (removed next before ++ Both before place ∷ []) rest
-    ∙ ap (λ list. list ++ flat_map place_before rest) (flat_map-append place_before (removed next before) (Both before place ∷ []) ∙ ap (λ list. list ++ before ∷ []) (all_before early))
+    ∙ ap (λ list. list ++ flat_map place_before rest) (flat_map-append place_before (removed next before) (Both before place ∷ []) ∙ ap
+    (λ list. list ++ before ∷ []) (all_before early))
     ∙ append_assoc early (before ∷ []) (flat_map place_before rest)
-    ∙ ap (λ list. early ++ before ∷ list) (rows_before count (suc before) (suc place) origins up.1 ∙ ap (λ from. range_with_len from (count - suc before)) (sym (add-one before)))
+    ∙ ap (λ list. early ++ before ∷ list) (rows_before count (suc before) (suc place) origins up.1 ∙ ap (λ from. range_with_len from (count - suc before))
+    (sym (add-one before)))
     ∙ joined next (before - next) (suc (count - suc before)) before (count - next) (omega (arith, order)) (omega (arith, order, within))
 
 pub each_before : EachBefore

@@ -11,4 +11,4 @@ pub mod Settled
 pub mod SettledRowLaws
 pub mod Shared
 pub mod SideBySide
-pub mod Told
+pub mod Printed

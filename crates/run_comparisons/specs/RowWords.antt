@@ -4,7 +4,7 @@ use Rattle.std.specs.Str.{bytes_eq}
 use Rattle.bench_types.specs.Session.{Session}
 use Rattle.run_comparisons.specs.declared.rows.Row.{Row}
 use Rattle.run_comparisons.specs.declared.rows.Row.TheVariants.{Both, Removed, Inserted}
-use Rattle.run_comparisons.specs.Told.{Words, told_at}
+use Rattle.run_comparisons.specs.Printed.{Words, printed_at}
 
 abbrev pub place_text : Option ℕ → List ℕ
 place_text None = codes " -"
@@ -14,7 +14,7 @@ abbrev pub head_text : List ℕ → Option ℕ → Option ℕ → List ℕ
 head_text mark before after = mark ++ place_text before ++ place_text after
 
 abbrev pub line_of : Words → List ℕ
-line_of told = codes " " ++ told.words ++ codes ": " ++ told.outcome
+line_of printed = codes " " ++ printed.words ++ codes ": " ++ printed.outcome
 
 -- the words and what they led to are the same
 abbrev pub are_same : Words → Words → Bool
@@ -40,19 +40,19 @@ both_line before after old new =
     ++ codes "\n"
 
 abbrev pub alone_line : List ℕ → Option ℕ → Option ℕ → Words → List ℕ
-alone_line mark before after told = head_text mark before after ++ line_of told ++ codes "\n"
+alone_line mark before after printed = head_text mark before after ++ line_of printed ++ codes "\n"
 
 -- the line of a row of the session before the edits and that after them
 abbrev pub row_line : Session → Session → Row → List ℕ
 row_line before after (Both old new) =
-    both_line old new (told_at before old) (told_at after new)
+    both_line old new (printed_at before old) (printed_at after new)
 row_line before after (Removed old) =
-    alone_line (codes "-") (Some old) None (told_at before old)
+    alone_line (codes "-") (Some old) None (printed_at before old)
 row_line before after (Inserted new) =
-    alone_line (codes "+") None (Some new) (told_at after new)
+    alone_line (codes "+") None (Some new) (printed_at after new)
 
 -- whether the runs differ there
 abbrev pub differs : Session → Session → Row → Bool
-differs before after (Both old new) = not (are_same (told_at before old) (told_at after new))
+differs before after (Both old new) = not (are_same (printed_at before old) (printed_at after new))
 differs before after (Removed old) = true
 differs before after (Inserted new) = true

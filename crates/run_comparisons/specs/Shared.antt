@@ -1,5 +1,6 @@
 -- The ticks and the interrupts that two sessions share, and where they stand in the settled runs.
-use Rattle.std.specs.Prelude.{◌≡◌, ℕ, suc, List, [], ◌∷◌, length, map, take, filter, Bool, false, ◌&&◌, Option, Some, None, slice_get, slice_index_or, if◌then◌else◌}
+use Rattle.std.specs.Prelude.{◌≡◌, ℕ, suc, List, [], ◌∷◌, length, map, take, filter, Bool, false, ◌&&◌, Option, Some, None, slice_get, slice_index_or}
+use Rattle.std.specs.Prelude.{if◌then◌else◌}
 use Rattle.std.specs.List.{filter_map}
 use Rattle.list_orders.specs.Search.{numbers}
 use Rattle.bench_types.specs.declared.edit.Edit.{Edit}

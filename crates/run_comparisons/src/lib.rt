@@ -9,6 +9,7 @@ pub mod laws;
 mod making;
 mod origins;
 mod place_pair;
+mod printed;
 mod refusals;
 mod row_words;
 mod rows;
@@ -16,7 +17,6 @@ mod settled;
 mod shared;
 mod side_by_side;
 mod steps;
-mod told;
 
 pub use columns::{Side, columns_of, law_of_columns};
 pub use comparison::compare;

@@ -2,8 +2,8 @@
 ghost use Rattle.std.specs.Prelude.{◌≡◌, ◌++◌, IfOk, OnOk, not, string_bytes};
 ghost use Rattle.run_comparisons.specs.RowWords.{alone_line, are_same, both_line, both_text, differs, head_text, later_text, line_of, place_text, row_line, same_mark};
 
+use crate::printed::Printed;
 use crate::rows::Row;
-use crate::told::Told;
 use session_store::Store;
 use std::alloc::{AllocError, Global};
 
@@ -32,16 +32,16 @@ fn push_head(
     push_place(text, after)
 }
 
-fn push_line(text: &mut String, told: &Told) -> Result<(), AllocError>
-    ensures { OnOk result (string_bytes text.new ≡ string_bytes text.old ++ line_of told.now) }
+fn push_line(text: &mut String, printed: &Printed) -> Result<(), AllocError>
+    ensures { OnOk result (string_bytes text.new ≡ string_bytes text.old ++ line_of printed.now) }
 {
     text.push_str(" ")?;
-    text.push_str(told.words.as_str())?;
+    text.push_str(printed.words.as_str())?;
     text.push_str(": ")?;
-    text.push_str(told.outcome.as_str())
+    text.push_str(printed.outcome.as_str())
 }
 
-fn are_same(before: &Told, after: &Told) -> bool
+fn are_same(before: &Printed, after: &Printed) -> bool
     ensures { result ≡ are_same before.now after.now }
 {
     before.words.as_str() == after.words.as_str()
@@ -49,7 +49,7 @@ fn are_same(before: &Told, after: &Told) -> bool
 }
 
 // What the run after the edits tells of a step of both: its words only where they are others.
-fn push_later(text: &mut String, before: &Told, after: &Told) -> Result<(), AllocError>
+fn push_later(text: &mut String, before: &Printed, after: &Printed) -> Result<(), AllocError>
     ensures { OnOk result
         (string_bytes text.new ≡ string_bytes text.old ++ later_text before.now after.now) }
 {
@@ -60,7 +60,7 @@ fn push_later(text: &mut String, before: &Told, after: &Told) -> Result<(), Allo
     push_line(text, after)
 }
 
-fn push_both(text: &mut String, before: &Told, after: &Told) -> Result<(), AllocError>
+fn push_both(text: &mut String, before: &Printed, after: &Printed) -> Result<(), AllocError>
     ensures { OnOk result
         (string_bytes text.new ≡ string_bytes text.old ++ both_text before.now after.now) }
 {
@@ -83,8 +83,8 @@ fn push_both_line(
     text: &mut String,
     before: u32,
     after: u32,
-    old: &Told,
-    new: &Told,
+    old: &Printed,
+    new: &Printed,
 ) -> Result<bool, AllocError>
     ensures line { OnOk result
         (string_bytes text.new
@@ -104,14 +104,14 @@ fn push_alone_line(
     mark: &str,
     before: Option<u32>,
     after: Option<u32>,
-    told: &Told,
+    printed: &Printed,
 ) -> Result<(), AllocError>
     ensures { OnOk result
         (string_bytes text.new
-        ≡ string_bytes text.old ++ alone_line mark.now before after told.now) }
+        ≡ string_bytes text.old ++ alone_line mark.now before after printed.now) }
 {
     push_head(text, mark, before, after)?;
-    push_line(text, told)?;
+    push_line(text, printed)?;
     text.push_str("\n")
 }
 
@@ -134,18 +134,18 @@ pub(crate) fn push_row(
             before: old,
             after: new,
         } => {
-            let earlier = Told::at(alloc, before, old)?;
-            let later = Told::at(alloc, after, new)?;
+            let earlier = Printed::at(alloc, before, old)?;
+            let later = Printed::at(alloc, after, new)?;
             push_both_line(text, old, new, &earlier, &later)
         }
         Row::Removed(old) => {
-            let told = Told::at(alloc, before, old)?;
-            push_alone_line(text, "-", Some(old), None, &told)?;
+            let printed = Printed::at(alloc, before, old)?;
+            push_alone_line(text, "-", Some(old), None, &printed)?;
             Ok(true)
         }
         Row::Inserted(new) => {
-            let told = Told::at(alloc, after, new)?;
-            push_alone_line(text, "+", None, Some(new), &told)?;
+            let printed = Printed::at(alloc, after, new)?;
+            push_alone_line(text, "+", None, Some(new), &printed)?;
             Ok(true)
         }
     }

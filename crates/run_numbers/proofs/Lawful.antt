@@ -1,5 +1,6 @@
 -- The laws of the numbers of a run.
-use Rattle.std.proofs.Common.{◌≡◌, ℕ, zero, suc, ◌+◌, ◌-◌, ◌<◌, ◌≤◌, max, Bool, true, false, cond, not, ◌&&◌, nat_lt, List, [], ◌∷◌, ◌++◌, length, map, refl, sym, ap, subst, ◌∙◌, arith, add-one, inl, inr}
+use Rattle.std.proofs.Common.{◌≡◌, ℕ, zero, suc, ◌+◌, ◌-◌, ◌<◌, ◌≤◌, max, Bool, true, false, cond, not, ◌&&◌, nat_lt, List, [], ◌∷◌, ◌++◌, length, map, refl}
+use Rattle.std.proofs.Common.{sym, ap, subst, ◌∙◌, arith, add-one, inl, inr}
 use Rattle.std.specs.Prelude.{count_by, if◌then◌else◌}
 use Rattle.std.specs.List.{range_with_len}
 use Rattle.std.proofs.Math.Bool.{and_assoc}
@@ -46,7 +47,8 @@ inverted_is : (header : Header) (steps : List Step) (task : ℕ) → ticks_found
 inverted_is header steps task =
     sym
     (λ i. steps_that header steps (λ moment.
-    and_assoc (is_tick moment.step) (stamp_queues.is_ready task moment.before.orders && not (is_current moment.before.control task)) (outranks_some moment.before.control task) i))
+    and_assoc (is_tick moment.step) (stamp_queues.is_ready task moment.before.orders && not (is_current moment.before.control task))
+    (outranks_some moment.before.control task) i))
 
 pub numbers_are_tallies : NumbersAreTallies
 numbers_are_tallies = record {
@@ -71,7 +73,8 @@ module _ (header : Header) (steps : List Step) where
   between_none : (first : ℕ) → ticks_between header steps first first ≡ 0
   between_none first = let none : first - first ≡ 0 = omega arith in ap (λ n. count_by (is_tick_at header steps) (range_with_len first n)) none
 
-  between_more : (first last : ℕ) → first ≤ last → ticks_between header steps first (suc last) ≡ ticks_between header steps first last + one_if (is_tick_at header steps last)
+  between_more : (first last : ℕ) → first ≤ last → ticks_between header steps first (suc last) ≡ ticks_between header steps first last + one_if
+      (is_tick_at header steps last)
   between_more first last order =
       let longer : suc last - first ≡ suc (last - first) = omega (arith, order) in
       let there : first + (last - first) ≡ last = omega (arith, order) in
@@ -80,7 +83,8 @@ module _ (header : Header) (steps : List Step) where
 
   module _ (condition : Condition) where
     -- where the condition holds throughout, the stretch at the end has all these ticks
-    stretch_holds : (first last : ℕ) → first ≤ last → ((place : ℕ) → first ≤ place → place < last → holds_at header steps condition place ≡ true) → ticks_between header steps first last ≤ stretch_at header steps condition last
+    stretch_holds : (first last : ℕ) → first ≤ last → ((place : ℕ) → first ≤ place → place < last → holds_at header steps condition place ≡ true) →
+        ticks_between header steps first last ≤ stretch_at header steps condition last
     stretch_holds first zero order throughout = omega (arith, order, ap (λ k. ticks_between header steps k zero) (starts first order), between_none zero)
       where
         starts : (k : ℕ) → k ≤ 0 → k ≡ 0
@@ -90,7 +94,8 @@ module _ (header : Header) (steps : List Step) where
           let same : first ≡ suc last = omega (arith, under, order) in
           omega (arith, ap (λ k. ticks_between header steps k (suc last)) same, between_none (suc last))
       | inr over ↦
-          let grown : stretch_at header steps condition (suc last) ≡ stretch_at header steps condition last + one_if (is_tick_at header steps last) = rw (throughout last over (omega arith)) refl in
+          let grown : stretch_at header steps condition (suc last) ≡ stretch_at header steps condition last + one_if (is_tick_at header steps last) = rw
+          (throughout last over (omega arith)) refl in
           omega (arith, grown, between_more first last over, stretch_holds first last over (λ place above below. throughout place above (omega (arith, below))))
     ]
 
@@ -111,7 +116,8 @@ module _ (header : Header) (steps : List Step) where
     begins_holding zero place above below = absurd (omega (arith, below))
     begins_holding (suc last) place above below = at (holds_at header steps condition last) refl (begins_holding last place)
       where
-        at : (b : Bool) → holds_at header steps condition last ≡ b → (begins last ≤ place → place < last → holds_at header steps condition place ≡ true) → holds_at header steps condition place ≡ true
+        at : (b : Bool) → holds_at header steps condition last ≡ b → (begins last ≤ place → place < last → holds_at header steps condition place ≡ true) →
+            holds_at header steps condition place ≡ true
         at true holding before = elim (cases_lt place last) [
           | inl early ↦ before (subst (λ b. (if b then begins last else suc last) ≤ place) holding above) early
           | inr late ↦ let same : place ≡ last = omega (arith, late, below) in ap (holds_at header steps condition) same ∙ holding
@@ -122,8 +128,10 @@ module _ (header : Header) (steps : List Step) where
     begins_ticks zero = between_none zero
     begins_ticks (suc place) = at (holds_at header steps condition place) refl (begins_ticks place)
       where
-        at : (b : Bool) → holds_at header steps condition place ≡ b → ticks_between header steps (begins place) place ≡ stretch_at header steps condition place → ticks_between header steps (begins (suc place)) (suc place) ≡ stretch_at header steps condition (suc place)
-        at true holding before = rw holding (between_more (begins place) place (begins_before place) ∙ ap (λ n. n + one_if (is_tick_at header steps place)) before)
+        at : (b : Bool) → holds_at header steps condition place ≡ b → ticks_between header steps (begins place) place ≡ stretch_at header steps condition place
+            → ticks_between header steps (begins (suc place)) (suc place) ≡ stretch_at header steps condition (suc place)
+        at true holding before = rw holding (between_more (begins place) place (begins_before place) ∙ ap (λ n. n + one_if (is_tick_at header steps place))
+            before)
         at false holding before = rw holding (between_none (suc place))
 
 first_top_within : (f : ℕ → ℕ) (n : ℕ) → first_top f n ≤ n
@@ -150,7 +158,12 @@ top_there f (suc n) = at (nat_lt (top f n) (f (suc n))) refl (top_there f n)
 
 pub none_is_longer : NoneIsLonger
 none_is_longer header steps condition first last holds =
-    omega (arith, stretch_holds header steps condition first last holds.order holds.throughout, below_top (stretch_at header steps condition) (length steps) last holds.within)
+    omega (
+      arith,
+      stretch_holds header steps condition first last holds.order holds.throughout,
+      below_top (stretch_at header steps condition) (length steps)
+          last holds.within,
+    )
 
 pub one_is_as_long : OneIsAsLong
 one_is_as_long header steps condition =

@@ -1,5 +1,6 @@
 -- Counts, greatest numbers and first places, one place further.
-use Rattle.std.proofs.Common.{◌≡◌, ℕ, zero, suc, ◌+◌, ◌<◌, ◌≤◌, max, Bool, true, false, cond, eqb, ltb, ◌==◌, nat_lt, List, [], ◌∷◌, ◌++◌, length, map, take, get_or, Option, Some, None, All, refl, sym, ap, subst, ◌∙◌, arith, add-one, inl, inr}
+use Rattle.std.proofs.Common.{◌≡◌, ℕ, zero, suc, ◌+◌, ◌<◌, ◌≤◌, max, Bool, true, false, cond, eqb, ltb, ◌==◌, nat_lt, List, [], ◌∷◌, ◌++◌, length, map, take}
+use Rattle.std.proofs.Common.{get_or, Option, Some, None, All, refl, sym, ap, subst, ◌∙◌, arith, add-one, inl, inr}
 use Rattle.std.specs.Prelude.{count_by, find, if◌then◌else◌, slice_get}
 use Rattle.std.specs.List.{range_with_len}
 use Rattle.std.specs.Option.{option_or}
@@ -52,7 +53,8 @@ greatest_more f n =
 
 find_more : (p : ℕ → Bool) (n : ℕ) → find p (numbers (suc n)) ≡ option_or (find p (numbers n)) (if p n then Some n else None)
 find_more p n =
-    ap (λ k. find p (numbers k)) (sym (add-one n)) ∙ ap (find p) (numbers_more n) ∙ find-append p (numbers n) (n ∷ []) ∙ ap (option_or (find p (numbers n))) (at (p n))
+    ap (λ k. find p (numbers k)) (sym (add-one n)) ∙ ap (find p) (numbers_more n) ∙ find-append p (numbers n) (n ∷ []) ∙ ap (option_or (find p (numbers n)))
+    (at (p n))
   where
     at : (b : Bool) → (if b then Some n else None) ≡ (if b then Some n else None)
     at b = refl
@@ -107,6 +109,8 @@ after_more table [] step = refl
 after_more table (one ∷ steps) step = after_more (step_of one table).1 steps step
 
 -- the state one place further
-pub next_state : (header : Header) (steps : List Step) (place : ℕ) (d : Step) → place < length steps → state_at header steps (suc place) ≡ (step_of (get_or steps place d) (state_at header steps place)).1
+pub next_state : (header : Header) (steps : List Step) (place : ℕ) (d : Step) → place < length steps → state_at header steps (suc place) ≡
+    (step_of (get_or steps place d) (state_at header steps place)).1
 unfolding state_at
-next_state header steps place d early = ap (state_after (start header)) (take-suc steps place d early) ∙ after_more (start header) (take place steps) (get_or steps place d)
+next_state header steps place d early = ap (state_after (start header)) (take-suc steps place d early) ∙ after_more (start header) (take place steps)
+    (get_or steps place d)

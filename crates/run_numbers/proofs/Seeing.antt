@@ -1,5 +1,6 @@
 -- A condition and an event, as they are seen of a kernel and as they stand in a table.
-use Rattle.std.proofs.Common.{◌≡◌, ℕ, suc, ◌<◌, Bool, true, false, not, ◌&&◌, ◌==◌, nat_lt, length, Option, Some, None, refl, sym, ap, subst, ◌∙◌, arith, inl, inr}
+use Rattle.std.proofs.Common.{◌≡◌, ℕ, suc, ◌<◌, Bool, true, false, not, ◌&&◌, ◌==◌, nat_lt, length, Option, Some, None, refl, sym, ap, subst, ◌∙◌, arith, inl}
+use Rattle.std.proofs.Common.{inr}
 use Rattle.std.specs.Prelude.{option_map}
 use Rattle.std.specs.Option.{option_map_or}
 use Rattle.std.proofs.Math.Bool.{and-false}
@@ -20,16 +21,18 @@ use Rattle.run_numbers.specs.declared.subject.Condition.{Condition}
 use Rattle.run_numbers.specs.declared.subject.Condition.TheVariants.{Running, RunningOn, Waiting, Inverted, Blocked, HeldUp, Busy, Idle, Due, Held}
 use Rattle.run_numbers.specs.declared.subject.Event.{Event}
 use Rattle.run_numbers.specs.declared.subject.Event.TheVariants.{SwitchedIn, Inherits, TimesOut, Refused, Awaited}
-use Rattle.run_numbers.specs.AfterStep.{happens_after, inherited, left_by, risen, told_before}
+use Rattle.run_numbers.specs.AfterStep.{happens_after, inherited, left_by, risen, known_before}
 use Rattle.run_numbers.specs.Conditions.{holder_before, holds, holds_up, is_cause}
 use Rattle.run_numbers.specs.Events.{happens, inherits}
 use Rattle.run_numbers.specs.Readings.{IsConditionOf}
 
-ready_seen : (table : Table) (task : ℕ) → IsConsistent table → task < table.settings.tasks → list_queues.is_ready task (view_of table).orders ≡ stamp_queues.is_ready task table.orders
+ready_seen : (table : Table) (task : ℕ) → IsConsistent table → task < table.settings.tasks → list_queues.is_ready task (view_of table).orders ≡
+    stamp_queues.is_ready task table.orders
 ready_seen table task sound low = is_ready_seen table.control table.orders task sound.stamped.given (omega (arith, low, sound.sized.rows))
 
 -- a condition holds in the table just where it is seen to hold
-pub holds_seen : (table : Table) (condition : Condition) → IsConsistent table → IsConditionOf table.settings condition → holds list_queues condition (view_of table) ≡ holds stamp_queues condition table
+pub holds_seen : (table : Table) (condition : Condition) → IsConsistent table → IsConditionOf table.settings condition → holds list_queues condition
+    (view_of table) ≡ holds stamp_queues condition table
 holds_seen table (Running task) sound low = refl
 holds_seen table (RunningOn task core) sound low = refl
 holds_seen table (Waiting task) sound low = rw (ready_seen table task sound low) refl
@@ -51,7 +54,8 @@ not_less n b = at (nat_lt n n) (grind (arith, nat_tests))
 -- no task inherits but the one that the step may raise
 inherited_seen : (raised : Option ℕ) (before after : Control) (task : ℕ) → KeepsOthers raised before after →
     inherited (option_map (λ task. (task, (task_at before task).in_use)) raised) after task ≡ inherits task before after
-inherited_seen None before after task kept = sym (rw (kept task (λ same. absurd (cc same))) (not_less (task_at before task).in_use (nat_lt (task_at after task).base (task_at before task).in_use)))
+inherited_seen None before after task kept = sym (rw (kept task (λ same. absurd (cc same)))
+    (not_less (task_at before task).in_use (nat_lt (task_at after task).base (task_at before task).in_use)))
 inherited_seen (Some other) before after task kept = elim (cases_eq other task) [
   | inl same ↦ at (other == task) (grind (arith, nat_tests, same)) (ap (λ t. risen after task (task_at before t).in_use) same)
   | inr away ↦ off (other == task) (grind (arith, nat_tests, away)) (kept task (λ is. away (some_is is)))
@@ -60,18 +64,21 @@ inherited_seen (Some other) before after task kept = elim (cases_eq other task) 
     some_is : Some other ≡ Some task → other ≡ task
     some_is is = cc is
 
-    at : (b : Bool) → b ≡ true → risen after task (task_at before other).in_use ≡ inherits task before after → (b && risen after task (task_at before other).in_use) ≡ inherits task before after
+    at : (b : Bool) → b ≡ true → risen after task (task_at before other).in_use ≡ inherits task before after →
+        (b && risen after task (task_at before other).in_use) ≡ inherits task before after
     at true is same = same
     at false is same = absurd (cc is)
 
-    off : (b : Bool) → b ≡ false → (task_at after task).in_use ≡ (task_at before task).in_use → (b && risen after task (task_at before other).in_use) ≡ inherits task before after
+    off : (b : Bool) → b ≡ false → (task_at after task).in_use ≡ (task_at before task).in_use → (b && risen after task (task_at before other).in_use) ≡ inherits
+        task before after
     off true is same = absurd (cc is)
     off false is same = sym (rw same (not_less (task_at before task).in_use (nat_lt (task_at after task).base (task_at before task).in_use)))
 
 -- a step is an event just where it is told to be
-pub happens_seen : (event : Event) (table next : Table) (step : Step) (reply : Reply) → KeepsOthers (raised_by (view_of table) step) table.control next.control →
+pub happens_seen : (event : Event) (table next : Table) (step : Step) (reply : Reply) → KeepsOthers (raised_by (view_of table) step) table.control next.control
+    →
     let moment : Moment Stamps = record { before = table; step = step; reply = reply; after = next } in
-    happens_after event (told_before (view_of table) step) step reply next.control ≡ happens event moment
+    happens_after event (known_before (view_of table) step) step reply next.control ≡ happens event moment
 happens_seen (SwitchedIn task) table next (Switch core) reply kept = refl
 happens_seen (SwitchedIn task) table next Tick reply kept = refl
 happens_seen (SwitchedIn task) table next (steps.Call core caller call) reply kept = refl

@@ -11,13 +11,15 @@ use Rattle.bench_model.specs.Table.{Table}
 use Rattle.smp_kernel.specs.Kernel.{StandsForSome}
 
 -- the base priority that a look tells
-pub base_seen : (view : View) (task : ℕ) (look : TaskLook) → StandsForSome view → ((table : Table) → StandsFor view table → look ≡ task_look table task) → look.base ≡ (task_at view.control task).base
+pub base_seen : (view : View) (task : ℕ) (look : TaskLook) → StandsForSome view → ((table : Table) → StandsFor view table → look ≡ task_look table task) →
+    look.base ≡ (task_at view.control task).base
 unfolding task_look
-base_seen view task look some told = ap (λ (l : TaskLook). l.base) (told some.0 some.1) ∙ ap (λ (v : View). (task_at v.control task).base) some.1.shows
+base_seen view task look some known = ap (λ (l : TaskLook). l.base) (known some.0 some.1) ∙ ap (λ (v : View). (task_at v.control task).base) some.1.shows
 
 -- the core as it is told
-pub core_seen : (view : View) (core : ℕ) (look : CoreLook) → StandsForSome view → ((table : Table) → StandsFor view table → look ≡ core_at table.control core) → look ≡ core_at view.control core
-core_seen view core look some told = told some.0 some.1 ∙ ap (λ (v : View). core_at v.control core) some.1.shows
+pub core_seen : (view : View) (core : ℕ) (look : CoreLook) → StandsForSome view → ((table : Table) → StandsFor view table → look ≡ core_at table.control core) →
+    look ≡ core_at view.control core
+core_seen view core look some known = known some.0 some.1 ∙ ap (λ (v : View). core_at v.control core) some.1.shows
 
 -- there are as many cores and holders as the settings say
 pub cores_seen : (view : View) → StandsForSome view → length view.control.cores ≡ view.settings.cores

@@ -1,5 +1,6 @@
 -- The numbers of a subject at a place, and one place further.
-use Rattle.std.proofs.Common.{◌≡◌, ℕ, zero, suc, ◌+◌, ◌<◌, ◌≤◌, max, Bool, true, false, cond, ◌&&◌, ◌==◌, nat_lt, List, length, map, get_or, Option, Some, None, refl, sym, ap, subst, ◌∙◌, arith}
+use Rattle.std.proofs.Common.{◌≡◌, ℕ, zero, suc, ◌+◌, ◌<◌, ◌≤◌, max, Bool, true, false, cond, ◌&&◌, ◌==◌, nat_lt, List, length, map, get_or, Option, Some, None}
+use Rattle.std.proofs.Common.{refl, sym, ap, subst, ◌∙◌, arith}
 use Rattle.std.specs.Prelude.{count_by, if◌then◌else◌, slice_get}
 use Rattle.std.specs.Option.{option_map_or}
 use Rattle.std.proofs.lemmas.Option.{slice_get-get_or}
@@ -21,10 +22,10 @@ use Rattle.run_numbers.specs.declared.subject.Condition.{Condition}
 use Rattle.run_numbers.specs.declared.subject.Event.{Event}
 use Rattle.run_numbers.specs.declared.subject.Subject.{Subject}
 use Rattle.run_numbers.specs.declared.subject.Subject.TheVariants.{Ticks, Steps, TopPriority, NotMade}
-use Rattle.run_numbers.specs.AfterStep.{happens_after, told_before}
+use Rattle.run_numbers.specs.AfterStep.{happens_after, known_before}
 use Rattle.run_numbers.specs.Conditions.{holds}
 use Rattle.run_numbers.specs.Events.{happens}
-use Rattle.run_numbers.specs.Gauges.{begun, spell_after}
+use Rattle.run_numbers.specs.Gauges.{initial_gauge, spell_after}
 use Rattle.run_numbers.specs.Progress.{stepped}
 use Rattle.run_numbers.specs.Readings.{IsConditionOf, IsSubjectOf}
 use Rattle.run_numbers.specs.Stretches.{holds_at, is_found, is_tick_at, start_at, stretch_at}
@@ -39,7 +40,8 @@ same_gauge : {a a' b b' c c' d d' e e' : ℕ} → a ≡ a' → b ≡ b' → c �
 same_gauge a b c d e = cc
 
 -- One place further, with the step that stands there.
-module _ (header : Header) (steps : List Step) (place : ℕ) (step : Step) (there : slice_get steps place ≡ Some step) (sound : IsConsistent (state_at header steps place)) (next : (step_of step (state_at header steps place)).1 ≡ state_at header steps (suc place)) where
+module _ (header : Header) (steps : List Step) (place : ℕ) (step : Step) (there : slice_get steps place ≡ Some step)
+    (sound : IsConsistent (state_at header steps place)) (next : (step_of step (state_at header steps place)).1 ≡ state_at header steps (suc place)) where
   abbrev here : Table
   here = state_at header steps place
 
@@ -65,11 +67,13 @@ module _ (header : Header) (steps : List Step) (place : ℕ) (step : Step) (ther
   kept : KeepsOthers (raised_by (view_of here) step) here.control later.control
   kept = subst (λ (table : Table). KeepsOthers (raised_by (view_of here) step) here.control table.control) next (step_others stamp_queues step here)
 
-  spell_more : (condition : Condition) (b t : Bool) → holds_at header steps condition place ≡ b → is_tick step ≡ t → spell_after b t place (gauge_at header steps place (Ticks condition)) ≡ gauge_at header steps (suc place) (Ticks condition)
+  spell_more : (condition : Condition) (b t : Bool) → holds_at header steps condition place ≡ b → is_tick step ≡ t → spell_after b t place
+      (gauge_at header steps place (Ticks condition)) ≡ gauge_at header steps (suc place) (Ticks condition)
   spell_more condition true t holding tick =
       let stretch = stretch_at header steps condition in
       let grown : stretch (suc place) ≡ stretch place + one_if t = rw (holding, tick_here, tick) refl in
-      let found : passed header steps (is_found condition) (suc place) ≡ passed header steps (is_found condition) place + one_if t = passed_more (is_found condition) ∙ ap (λ b. passed header steps (is_found condition) place + one_if b) (rw (holding, tick) (with_true t)) in
+      let found : passed header steps (is_found condition) (suc place) ≡ passed header steps (is_found condition) place + one_if t = passed_more
+      (is_found condition) ∙ ap (λ b. passed header steps (is_found condition) place + one_if b) (rw (holding, tick) (with_true t)) in
       same_gauge (sym found) (sym (greatest_more stretch (suc place) ∙ ap (max (top stretch place)) grown))
       (chosen (nat_lt (top stretch place) (stretch place + one_if t)) (ap (nat_lt (top stretch place)) (sym grown))) (sym grown) refl
     where
@@ -86,7 +90,8 @@ module _ (header : Header) (steps : List Step) (place : ℕ) (step : Step) (ther
       let stretch = stretch_at header steps condition in
       let grown : stretch (suc place) ≡ 0 = rw holding refl in
       let none : is_found condition moment ≡ false = rw (holding, tick) (with_false t) in
-      let found : passed header steps (is_found condition) (suc place) ≡ passed header steps (is_found condition) place = omega (arith, passed_more (is_found condition) ∙ ap (λ b. passed header steps (is_found condition) place + one_if b) none) in
+      let found : passed header steps (is_found condition) (suc place) ≡ passed header steps (is_found condition) place = omega
+      (arith, passed_more (is_found condition) ∙ ap (λ b. passed header steps (is_found condition) place + one_if b) none) in
       same_gauge (sym found) (omega (arith, greatest_more stretch (suc place), grown))
       (chosen (nat_lt (top stretch place) (stretch (suc place))) refl (ap (nat_lt (top stretch place)) grown)) (sym grown) refl
     where
@@ -94,15 +99,20 @@ module _ (header : Header) (steps : List Step) (place : ℕ) (step : Step) (ther
       with_false true = refl
       with_false false = refl
 
-      chosen : (b : Bool) → nat_lt (top (stretch_at header steps condition) place) (stretch_at header steps condition (suc place)) ≡ b → nat_lt (top (stretch_at header steps condition) place) (stretch_at header steps condition (suc place)) ≡ nat_lt (top (stretch_at header steps condition) place) 0 →
+      chosen : (b : Bool) → nat_lt (top (stretch_at header steps condition) place) (stretch_at header steps condition (suc place)) ≡ b → nat_lt
+          (top (stretch_at header steps condition) place) (stretch_at header steps condition (suc place)) ≡ nat_lt
+          (top (stretch_at header steps condition) place) 0 →
           start_at header steps condition (first_top (stretch_at header steps condition) place)
           ≡ start_at header steps condition (first_top (stretch_at header steps condition) (suc place))
       chosen true is none = absurd (grind (arith, is, none))
       chosen false is none = rw is refl
 
   -- the numbers so far, one place further
-  pub gauge_more : (subject : Subject) → IsSubjectOf here.settings subject → stepped (view_of here) step reply later.control place subject (gauge_at header steps place subject) ≡ gauge_at header steps (suc place) subject
-  gauge_more (Ticks condition) known = rw (holds_seen here condition sound known) (spell_more condition (holds_at header steps condition place) (is_tick step) refl refl)
-  gauge_more (Steps event) known = ap begun (sym (passed_more (happens event) ∙ ap (λ b. passed header steps (happens event) place + one_if b) (sym (happens_seen event here later step reply kept))))
-  gauge_more (TopPriority task) known = ap begun (sym (greatest_more (in_use_at header steps task) (suc place)))
+  pub gauge_more : (subject : Subject) → IsSubjectOf here.settings subject → stepped (view_of here) step reply later.control place subject
+      (gauge_at header steps place subject) ≡ gauge_at header steps (suc place) subject
+  gauge_more (Ticks condition) known = rw (holds_seen here condition sound known)
+      (spell_more condition (holds_at header steps condition place) (is_tick step) refl refl)
+  gauge_more (Steps event) known = ap initial_gauge (sym
+      (passed_more (happens event) ∙ ap (λ b. passed header steps (happens event) place + one_if b) (sym (happens_seen event here later step reply kept))))
+  gauge_more (TopPriority task) known = ap initial_gauge (sym (greatest_more (in_use_at header steps task) (suc place)))
   gauge_more (NotMade task) known = refl

@@ -18,8 +18,8 @@ abbrev pub left_by : Control → Step → Option (ℕ × ℕ)
 left_by before (Switch core) = Some (core, current before core)
 left_by before step = None
 
-abbrev pub told_before : View → Step → BeforeStep
-told_before before step = record {
+abbrev pub known_before : View → Step → BeforeStep
+known_before before step = record {
   left = left_by before.control step;
   raised = option_map (λ task. (task, (task_at before.control task).in_use))
       (raised_by before step);

@@ -1,7 +1,7 @@
 -- What holds of a task, a core or a mutex in a state.
 use Rattle.std.specs.Prelude.{ℕ, Bool, true, false, not, ◌&&◌, ◌==◌, nat_lt, Option, Some, None, is_some}
 use Rattle.std.specs.Option.{option_and_then, option_map_or}
-use Rattle.bench_types.specs.declared.step.Call.TheVariants.{Delay, DelayUntil, NotifyWait, NotifyTake}
+use Rattle.bench_types.specs.declared.step.BlockingCall.TheVariants.{Delay, DelayUntil, NotifyWait, NotifyTake}
 use Rattle.bench_types.specs.declared.step.Unfinished.{Unfinished}
 use Rattle.bench_types.specs.declared.step.Unfinished.TheVariants.{Made, Take}
 use Rattle.bench_model.specs.Control.{Control, current, is_due, is_idle, task_at}

@@ -18,8 +18,8 @@ use Rattle.run_numbers.specs.Conditions.{holds}
 use Rattle.run_numbers.specs.Readings.{only}
 
 -- before any step
-abbrev pub begun : ℕ → Gauge
-begun total = record { reading = only total; stretch = 0; start = 0 }
+abbrev pub initial_gauge : ℕ → Gauge
+initial_gauge total = record { reading = only total; stretch = 0; start = 0 }
 
 -- the place, where no tick of the stretch came before
 abbrev pub start_after : ℕ → Gauge → ℕ

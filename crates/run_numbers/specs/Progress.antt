@@ -10,20 +10,20 @@ use Rattle.run_numbers.specs.declared.subject.Measured.{Measured}
 use Rattle.run_numbers.specs.declared.subject.Reading.{Reading}
 use Rattle.run_numbers.specs.declared.subject.Subject.{Subject}
 use Rattle.run_numbers.specs.declared.subject.Subject.TheVariants.{Ticks, Steps, TopPriority, NotMade}
-use Rattle.run_numbers.specs.AfterStep.{told_before}
-use Rattle.run_numbers.specs.Gauges.{begun, found, left, HasRoom, HasTotal}
+use Rattle.run_numbers.specs.AfterStep.{known_before}
+use Rattle.run_numbers.specs.Gauges.{initial_gauge, found, left, HasRoom, HasTotal}
 use Rattle.run_numbers.specs.Readings.{calls_of, only}
 
 abbrev pub gauge_in : List Gauge → ℕ → Gauge
-gauge_in gauges k = slice_index_or gauges k (begun 0)
+gauge_in gauges k = slice_index_or gauges k (initial_gauge 0)
 
 abbrev pub subject_in : List Subject → ℕ → Subject
 subject_in subjects k = slice_index_or subjects k (NotMade 0)
 
 -- before any step the greatest priority in use is the first one
 abbrev pub first : Control → Subject → Gauge
-first control (TopPriority task) = begun (task_at control task).in_use
-first control subject = begun 0
+first control (TopPriority task) = initial_gauge (task_at control task).in_use
+first control subject = initial_gauge 0
 
 -- each gauge is what a function of its subject and of the old one gives
 pub record AreMade (f : Subject → Gauge → Gauge) (subjects : List Subject) (old now : List Gauge) :
@@ -45,7 +45,7 @@ HaveTotals subjects gauges =
 -- a gauge after a step: with what the step found, what it was, and the state after it
 abbrev pub stepped : View → Step → Reply → Control → ℕ → Subject → Gauge → Gauge
 stepped before step reply after place subject gauge =
-    left (told_before before step) step reply after subject
+    left (known_before before step) step reply after subject
     (found before step place subject gauge)
 
 -- the numbers of a subject, by its gauge and the calls that were not made

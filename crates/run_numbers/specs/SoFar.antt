@@ -12,7 +12,7 @@ use Rattle.run_numbers.specs.declared.gauge.Gauge.{Gauge}
 use Rattle.run_numbers.specs.declared.subject.Subject.{Subject}
 use Rattle.run_numbers.specs.declared.subject.Subject.TheVariants.{Ticks, Steps, TopPriority, NotMade}
 use Rattle.run_numbers.specs.Events.{happens}
-use Rattle.run_numbers.specs.Gauges.{begun}
+use Rattle.run_numbers.specs.Gauges.{initial_gauge}
 use Rattle.run_numbers.specs.Progress.{gauge_in, subject_in}
 use Rattle.run_numbers.specs.Stretches.{is_found, start_at, stretch_at}
 
@@ -48,9 +48,9 @@ module _ (header : Header) (steps : List Step) where
     stretch = stretch place;
     start = start_at header steps condition place;
   }
-  gauge_at place (Steps event) = begun (passed (happens event) place)
-  gauge_at place (TopPriority task) = begun (top (in_use_at task) place)
-  gauge_at place (NotMade task) = begun 0
+  gauge_at place (Steps event) = initial_gauge (passed (happens event) place)
+  gauge_at place (TopPriority task) = initial_gauge (top (in_use_at task) place)
+  gauge_at place (NotMade task) = initial_gauge 0
 
 -- the gauges of the subjects after so many steps
 pub record AreGauges (header : Header) (steps : List Step) (place : ℕ) (subjects : List Subject)

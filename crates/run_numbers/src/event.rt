@@ -5,7 +5,7 @@ ghost use Rattle.bench_types.specs.Step.{step_check};
 ghost use Rattle.bench_model.specs.Tally.{is_call_of, is_finish_of, says_run_out};
 ghost use Rattle.smp_kernel.specs.Kernel.{StandsForSome};
 ghost use Rattle.run_numbers.specs.Events.{is_refusal, is_take_of, is_wait};
-ghost use Rattle.run_numbers.specs.AfterStep.{happens_after, inherited, left_by, told_before, risen, switched_in};
+ghost use Rattle.run_numbers.specs.AfterStep.{happens_after, inherited, left_by, known_before, risen, switched_in};
 ghost use Rattle.run_numbers.specs.Readings.{IsEventOf};
 
 use crate::Event;
@@ -36,7 +36,7 @@ fn left_by(kernel: &Kernel, step: &Step) -> Option<(u32, u32)>
 /// What is to be known before the step.
 pub(crate) fn before_step(kernel: &Kernel, step: &Step) -> BeforeStep
     requires { step_check kernel.now.settings step.now ≡ Ok tt }
-    ensures value { result ≡ told_before kernel.now step.now }
+    ensures value { result ≡ known_before kernel.now step.now }
     ensures core { ForSome result.left (λ left. left.0 < kernel.now.settings.cores) }
 {
     let raised = match kernel.raised_by(step) {

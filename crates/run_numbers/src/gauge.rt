@@ -8,7 +8,7 @@ ghost use Rattle.list_orders.specs.Search.{numbers};
 ghost use Rattle.smp_kernel.specs.Kernel.{StandsForSome};
 ghost use Rattle.run_numbers.specs.AfterStep.{happens_after};
 ghost use Rattle.run_numbers.specs.Conditions.{holds};
-ghost use Rattle.run_numbers.specs.Gauges.{begun, found, left, spell_after, HasRoom, HasTotal};
+ghost use Rattle.run_numbers.specs.Gauges.{initial_gauge, found, left, spell_after, HasRoom, HasTotal};
 ghost use Rattle.run_numbers.specs.Readings.{IsConditionOf, IsSubjectOf};
 
 use crate::event::{BeforeStep, happens};
@@ -30,7 +30,7 @@ pub(crate) struct Gauge {
 impl Gauge {
     /// Before any step: no ticks, and this total.
     pub(crate) fn new(total: u32) -> Self
-        ensures { result ≡ begun total }
+        ensures { result ≡ initial_gauge total }
     {
         Gauge {
             reading: Reading {

@@ -23,7 +23,7 @@ use smp_kernel::{Kernel, Meter};
 use std::alloc::{AllocError, Global};
 
 // Before any step.
-fn begun(kernel: &Kernel, subject: Subject) -> Gauge
+fn initial_gauge(kernel: &Kernel, subject: Subject) -> Gauge
     requires { IsSubjectOf kernel.now.settings subject }
     ensures { result ≡ first kernel.now.control subject }
 {
@@ -33,13 +33,17 @@ fn begun(kernel: &Kernel, subject: Subject) -> Gauge
     }
 }
 
-fn all_begun(alloc: Global, kernel: &Kernel, subjects: &[Subject]) -> Result<Vec<Gauge>, AllocError>
+fn all_initial(
+    alloc: Global,
+    kernel: &Kernel,
+    subjects: &[Subject],
+) -> Result<Vec<Gauge>, AllocError>
     requires { All (IsSubjectOf kernel.now.settings) subjects.now }
     ensures { IfOk result (λ gauges. gauges.items ≡ map (first kernel.now.control) subjects.now) }
 {
     let mut gauges = Vec::with_capacity(alloc, subjects.len())?;
     for subject in subjects {
-        gauges.push(begun(kernel, *subject))?;
+        gauges.push(initial_gauge(kernel, *subject))?;
     }
     Ok(gauges)
 }
@@ -174,7 +178,7 @@ fn gauges(
         Ok(kernel) => kernel,
         Err(_) => return Err(AllocError),
     };
-    let mut gauges = all_begun(alloc, &kernel, subjects)?;
+    let mut gauges = all_initial(alloc, &kernel, subjects)?;
     for place in 0..steps.len() {
         let step = &steps[place];
         step_all(

@@ -10,7 +10,7 @@ ghost use Rattle.run_numbers.specs.Conditions.{holder_before, holds, holds_up, i
 ghost use Rattle.run_numbers.specs.Readings.{IsConditionOf};
 
 use crate::{Cause, Condition};
-use bench_types::{Call, Unfinished};
+use bench_types::{BlockingCall, Unfinished};
 use smp_kernel::Kernel;
 
 fn is_waiting(kernel: &Kernel, task: u32) -> bool
@@ -35,10 +35,13 @@ fn is_cause(cause: Cause, call: Unfinished) -> bool
     ensures { result ≡ is_cause cause call }
 {
     match (cause, call) {
-        (Cause::Delay, Unfinished::Made(Call::Delay(_) | Call::DelayUntil { .. })) => true,
+        (
+            Cause::Delay,
+            Unfinished::Made(BlockingCall::Delay(_) | BlockingCall::DelayUntil { .. }),
+        ) => true,
         (
             Cause::Notification,
-            Unfinished::Made(Call::NotifyWait { .. } | Call::NotifyTake { .. }),
+            Unfinished::Made(BlockingCall::NotifyWait { .. } | BlockingCall::NotifyTake { .. }),
         ) => true,
         (Cause::AnyMutex, Unfinished::Take { .. }) => true,
         (Cause::Mutex(wanted), Unfinished::Take { mutex, .. }) => mutex == wanted,

@@ -2,7 +2,8 @@
 use Rattle.std.specs.Prelude.{ℕ, suc, List, [], ◌∷◌, ◌++◌, flat_map, codes, decimal, Option, Some, None}
 use Rattle.run_pictures.specs.Escape.{escaped}
 use Rattle.run_pages.specs.declared.script.TheConstants.{SCRIPT, SCRIPT_HASH}
-use Rattle.run_pages.specs.declared.style.TheConstants.{COMPARISON, COMPARISON_LINK, END, OPENING, PARTS, PICTURE, PLACES, REPORT, SCRIPT_OPENING, STYLE, TITLE, TRACE, TRACE_END}
+use Rattle.run_pages.specs.declared.style.TheConstants.{COMPARISON, COMPARISON_LINK, END, OPENING, PARTS, PICTURE, PLACES, REPORT, SCRIPT_OPENING, STYLE, TITLE}
+use Rattle.run_pages.specs.declared.style.TheConstants.{TRACE, TRACE_END}
 use Rattle.run_pages.specs.Shown.{Shown}
 
 -- the first lines, with the title, and the heading

@@ -1,5 +1,6 @@
 -- What a loop over the steps has filmed so far.
-use Rattle.std.proofs.Common.{◌≡◌, ℕ, suc, ◌+◌, ◌^◌, ◌<◌, ◌≤◌, List, [], ◌∷◌, ◌++◌, length, filter, drop, get_or, Bool, refl, subst, sym, ap, ◌∙◌, append_assoc, add-one, arith}
+use Rattle.std.proofs.Common.{◌≡◌, ℕ, suc, ◌+◌, ◌^◌, ◌<◌, ◌≤◌, List, [], ◌∷◌, ◌++◌, length, filter, drop, get_or, Bool, refl, subst, sym, ap, ◌∙◌, append_assoc}
+use Rattle.std.proofs.Common.{add-one, arith}
 use Rattle.std.proofs.lemmas.List.Sums.{count_by-le-length, length-filter}
 use Rattle.std.proofs.Math.Seq.{drop-cons}
 use Rattle.std.proofs.lemmas.List.{append-nil, drop_all, length-map}
@@ -16,39 +17,45 @@ use Rattle.run_views.specs.declared.places.Places.{Places}
 use Rattle.run_views.specs.Looks.{look_of}
 use Rattle.run_views.specs.Trace.{shows}
 use Rattle.run_views.proofs.States.{made_of, made_of_more, next_state, shown_few}
-use Rattle.run_pictures.specs.declared.film.Made.{Made}
-use Rattle.run_pictures.specs.Film.{IsFilmed, looks_of, made_from, shown_look, shown_places}
+use Rattle.run_pictures.specs.declared.run_looks.Made.{Made}
+use Rattle.run_pictures.specs.RunLooks.{IsSeenRun, looks_of, made_from, shown_look, shown_places}
 
 -- what is seen at the shown ones of the first places
 abbrev pub seen : Places → Header → List Step → ℕ → List Look
 seen places header steps count = made_of (shows places) (λ place. look_of (state_at header steps place)) count
 
-pub seen_more : (places : Places) (header : Header) (steps : List Step) (place : ℕ) → seen places header steps (place + 1) ≡ seen places header steps place ++ shown_look places place (look_of (state_at header steps place))
+pub seen_more : (places : Places) (header : Header) (steps : List Step) (place : ℕ) → seen places header steps (place + 1) ≡ seen places header steps place ++
+    shown_look places place (look_of (state_at header steps place))
 seen_more places header steps place = made_of_more (shows places) (λ place. look_of (state_at header steps place)) place
 
-pub record FilmsSoFar (places : Places) (header : Header) (first : View) (steps : List Step) (looks_old looks : List Look) (made_old made : List Made) (kernel : View) (place : ℕ) : Type 0 where
+pub record LooksSoFar (places : Places) (header : Header) (first : View) (steps : List Step) (looks_old looks : List Look) (made_old made : List Made)
+    (kernel : View) (place : ℕ) : Type 0 where
   pub stands : StandsFor kernel (state_at header steps place)
   pub settings : kernel.settings ≡ first.settings
   pub seen_so : looks ≡ looks_old ++ seen places header steps place
   pub made_so : made ++ made_from (state_at header steps place) (drop place steps) ≡ made_old ++ made_from (start header) steps
 
-pub none_filmed : (places : Places) (header : Header) (first : View) (steps : List Step) (looks : List Look) (made : List Made) → StandsFor first (start header) → FilmsSoFar places header first steps looks looks made made first 0
+pub none_seen : (places : Places) (header : Header) (first : View) (steps : List Step) (looks : List Look) (made : List Made) → StandsFor first (start header) →
+    LooksSoFar places header first steps looks looks made made first 0
 unfolding state_at
-none_filmed places header first steps looks made starts = record {
+none_seen places header first steps looks made starts = record {
   stands = starts;
   settings = refl;
   seen_so = sym (append-nil looks);
   made_so = refl;
 }
 
-pub step_filmed : {places : Places} {header : Header} {first : View} {steps : List Step} {looks_old looks : List Look} {made_old made : List Made} {kernel : View} {place : ℕ} (later : View) (looks_next : List Look) (made_next : List Made) (d : Step) (reply : Reply) → FilmsSoFar places header first steps looks_old looks made_old made kernel place → place < length steps
+pub step_seen : {places : Places} {header : Header} {first : View} {steps : List Step} {looks_old looks : List Look} {made_old made : List Made} {kernel : View}
+    {place : ℕ} (later : View) (looks_next : List Look) (made_next : List Made) (d : Step) (reply : Reply) → LooksSoFar places header first steps looks_old
+    looks made_old made kernel place → place < length steps
     → ((table : Table) → StandsFor kernel table → looks_next ≡ looks ++ shown_look places place (look_of table))
     → ((table : Table) → StandsFor kernel table → reply ≡ (step_of (get_or steps place d) table).0)
     → made_next ≡ made ++ record { step = get_or steps place d; reply = reply } ∷ []
     → ((table : Table) → StandsFor kernel table → StandsFor later (step_of (get_or steps place d) table).1)
     → later.settings ≡ kernel.settings
-    → FilmsSoFar places header first steps looks_old looks_next made_old made_next later (place + 1)
-step_filmed {places} {header} {first} {steps} {looks_old} {looks} {made_old} {made} {kernel} {place} later looks_next made_next d reply were early looked replied pushed moves settings =
+    → LooksSoFar places header first steps looks_old looks_next made_old made_next later (place + 1)
+step_seen {places} {header} {first} {steps} {looks_old} {looks} {made_old} {made} {kernel} {place} later looks_next made_next d reply were early looked replied
+    pushed moves settings =
     let now = state_at header steps place in
     let step = get_or steps place d in
     let made_one : Made = record { step = step; reply = reply } in
@@ -70,14 +77,16 @@ step_filmed {places} {header} {first} {steps} {looks_old} {looks} {made_old} {ma
           ∙ were.made_so);
     }
 
-pub all_filmed : {places : Places} {header : Header} {first : View} {steps : List Step} {looks_old looks : List Look} {made_old made : List Made} {kernel : View} {place : ℕ} (looks_new : List Look) → FilmsSoFar places header first steps looks_old looks made_old made kernel place → place ≡ length steps
+pub all_seen : {places : Places} {header : Header} {first : View} {steps : List Step} {looks_old looks : List Look} {made_old made : List Made} {kernel : View}
+    {place : ℕ} (looks_new : List Look) → LooksSoFar places header first steps looks_old looks made_old made kernel place → place ≡ length steps
     → ((table : Table) → StandsFor kernel table → looks_new ≡ looks ++ shown_look places (length steps) (look_of table))
-    → IsFilmed places header steps looks_old looks_new made_old made
+    → IsSeenRun places header steps looks_old looks_new made_old made
 unfolding looks_of
-all_filmed {places} {header} {first} {steps} {looks_old} {looks} {made_old} {made} {kernel} {place} looks_new were end looked =
+all_seen {places} {header} {first} {steps} {looks_old} {looks} {made_old} {made} {kernel} {place} looks_new were end looked =
     let now = state_at header steps place in
     let none : drop place steps ≡ [] = drop_all place steps (omega (arith, end)) in
-    let last : looks_new ≡ looks ++ shown_look places place (look_of now) = looked now were.stands ∙ ap (λ n. looks ++ shown_look places n (look_of now)) (sym end) in
+    let last : looks_new ≡ looks ++ shown_look places place (look_of now) = looked now were.stands ∙ ap (λ n. looks ++ shown_look places n (look_of now))
+    (sym end) in
     record {
       looks = last ∙ ap (λ ls. ls ++ shown_look places place (look_of now)) were.seen_so
           ∙ append_assoc looks_old (seen places header steps place) (shown_look places place (look_of now))
@@ -86,7 +95,8 @@ all_filmed {places} {header} {first} {steps} {looks_old} {looks} {made_old} {mad
       made = sym (append-nil made) ∙ ap (λ ss. made ++ made_from now ss) (sym none) ∙ were.made_so;
     }
 
-pub looks_few : (places : Places) (header : Header) (steps : List Step) → places.from < 2 ^ 32 → length steps + 1 < 2 ^ 32 → places.from + length (looks_of places header steps) ≤ 2 ^ 32
+pub looks_few : (places : Places) (header : Header) (steps : List Step) → places.from < 2 ^ 32 → length steps + 1 < 2 ^ 32 → places.from + length
+    (looks_of places header steps) ≤ 2 ^ 32
 unfolding looks_of
 looks_few places header steps from few =
     let shown = shown_few places (suc (length steps)) in

@@ -1,5 +1,6 @@
 -- What a ready task is told to be hindered by is so, and all that is.
-use Rattle.std.proofs.Common.{◌≡◌, ◌≢◌, ◌<◌, ◌≤◌, ℕ, List, [], ◌∷◌, length, map, get_or, Bool, true, false, nat_lt, nat_le, Option, Some, None, refl, sym, ap, subst, ◌∙◌, arith, true≢false}
+use Rattle.std.proofs.Common.{◌≡◌, ◌≢◌, ◌<◌, ◌≤◌, ℕ, List, [], ◌∷◌, length, map, get_or, Bool, true, false, nat_lt, nat_le, Option, Some, None, refl, sym, ap}
+use Rattle.std.proofs.Common.{subst, ◌∙◌, arith, true≢false}
 use Rattle.std.specs.Prelude.{◌==◌, All, Contains, position, cond, if◌then◌else◌}
 use Rattle.std.specs.List.{position_or_len}
 use Rattle.std.proofs.lemmas.Bool.Decides.{nat_tests}
@@ -37,15 +38,16 @@ stood_ready true None wake e = (refl, refl)
 stood_ready true (Some core) wake e = absurd (cc e)
 stood_ready false core wake e = absurd (cc e)
 
-cores_told : (f : ℕ → Obstacle) (ns : List ℕ) → map (λ (hindrance : Hindrance). hindrance.core) (map (λ core. record { core = core; by = f core }) ns) ≡ ns
-cores_told f [] = refl
-cores_told f (n ∷ ns) = ap (λ ms. n ∷ ms) (cores_told f ns)
+cores_decided : (f : ℕ → Obstacle) (ns : List ℕ) → map (λ (hindrance : Hindrance). hindrance.core) (map (λ core. record { core = core; by = f core }) ns) ≡ ns
+cores_decided f [] = refl
+cores_decided f (n ∷ ns) = ap (λ ms. n ∷ ms) (cores_decided f ns)
 
 -- the first of what keeps a core from a task
 abbrev first_of : Bool → Option Hold → Bool → Bool → Bool → ℕ → ℕ → Obstacle
 first_of allowed hold due higher preempt other priority =
     if allowed
-    then hold_or hold (if due then Due else (if higher then Outranked other priority else (if preempt then Lower other priority else Unpreempted other priority)))
+    then hold_or hold (if due then Due else (if higher then Outranked other priority else
+    (if preempt then Lower other priority else Unpreempted other priority)))
     else Masked
 
 -- of a sound state, and a ready task that is on no core
@@ -60,8 +62,8 @@ module _ (table : Table) (task : ℕ) (sound : IsSound table) (ready : stance_of
   abbrev found : ℕ → Obstacle
   found core = (hindrance_of table task core).by
 
-  all_told : hindrances_of table task ≡ map (hindrance_of table task) (numbers table.settings.cores)
-  all_told = ap (λ stance. where_ready stance (map (hindrance_of table task) (numbers table.settings.cores))) ready
+  all_printed : hindrances_of table task ≡ map (hindrance_of table task) (numbers table.settings.cores)
+  all_printed = ap (λ stance. where_ready stance (map (hindrance_of table task) (numbers table.settings.cores))) ready
 
   -- no core runs it
   not_current : (core : ℕ) → core < table.settings.cores → current table.control core ≢ task
@@ -69,7 +71,8 @@ module _ (table : Table) (task : ℕ) (sound : IsSound table) (ready : stance_of
       let cores = map (core_at table.control) (numbers table.settings.cores) in
       let none = (stood_ready (is_ready task table.orders) (core_of task cores) _ ready).1 in
       let first : CoreLook = core_at table.control core in
-      let fails = none_passes (λ (look : CoreLook). look.current == task) cores core first none (omega (arith, few, length_each (core_at table.control) table.settings.cores)) in
+      let fails = none_passes (λ (look : CoreLook). look.current == task) cores core first none
+      (omega (arith, few, length_each (core_at table.control) table.settings.cores)) in
       let is : get_or cores core first ≡ first = each_at (core_at table.control) table.settings.cores core first few in
       let differs : (current table.control core == task) ≡ false = ap (λ (look : CoreLook). look.current == task) (sym is) ∙ fails in
       grind (arith, nat_tests, differs, same)
@@ -90,14 +93,18 @@ module _ (table : Table) (task : ℕ) (sound : IsSound table) (ready : stance_of
     runs : IsFree table task core → RunsInstead table task core other (in_use table other)
     runs free = record { free = free; current = refl; another = not_current core few; ready = current_ready core few free.settled; level = refl }
 
-    by_task : IsFree table task core → IsHindered table task core (if nat_le own (in_use table other) then Outranked other (in_use table other) else (if preempts other then Lower other (in_use table other) else Unpreempted other (in_use table other)))
+    by_task : IsFree table task core → IsHindered table task core (if nat_le own (in_use table other) then Outranked other (in_use table other) else
+        (if preempts other then Lower other (in_use table other) else Unpreempted other (in_use table other)))
     by_task free = by (nat_le own (in_use table other)) refl
       where
-        lower : (b : Bool) → preempts other ≡ b → in_use table other < own → IsHindered table task core (if b then Lower other (in_use table other) else Unpreempted other (in_use table other))
+        lower : (b : Bool) → preempts other ≡ b → in_use table other < own → IsHindered table task core
+            (if b then Lower other (in_use table other) else Unpreempted other (in_use table other))
         lower true is less = (runs free, less, is)
         lower false is less = (runs free, less, is)
 
-        by : (b : Bool) → nat_le own (in_use table other) ≡ b → IsHindered table task core (if b then Outranked other (in_use table other) else (if preempts other then Lower other (in_use table other) else Unpreempted other (in_use table other)))
+        by : (b : Bool) → nat_le own (in_use table other) ≡ b → IsHindered table task core
+            (if b then Outranked other (in_use table other) else (if preempts other then Lower other (in_use table other) else Unpreempted other
+            (in_use table other)))
         by true is = (runs free, grind (arith, nat_tests, is))
         by false is = lower (preempts other) refl (grind (arith, nat_tests, is))
 
@@ -105,22 +112,27 @@ module _ (table : Table) (task : ℕ) (sound : IsSound table) (ready : stance_of
     so = by_mask (is_allowed table.control core task) refl
       where
         rest : Obstacle
-        rest = if nat_le own (in_use table other) then Outranked other (in_use table other) else (if preempts other then Lower other (in_use table other) else Unpreempted other (in_use table other))
+        rest = if nat_le own (in_use table other) then Outranked other (in_use table other) else
+            (if preempts other then Lower other (in_use table other) else Unpreempted other (in_use table other))
 
-        by_due : is_allowed table.control core task ≡ true → table.hold ≡ None → (b : Bool) → is_due table.control core ≡ b → IsHindered table task core (if b then Due else rest)
+        by_due : is_allowed table.control core task ≡ true → table.hold ≡ None → (b : Bool) → is_due table.control core ≡ b → IsHindered table task core
+            (if b then Due else rest)
         by_due allowed unheld true is = (allowed, unheld, is)
         by_due allowed unheld false is = by_task (record { allowed = allowed; unheld = unheld; settled = is })
 
-        by_hold : is_allowed table.control core task ≡ true → (hold : Option Hold) → table.hold ≡ hold → IsHindered table task core (hold_or hold (if is_due table.control core then Due else rest))
+        by_hold : is_allowed table.control core task ≡ true → (hold : Option Hold) → table.hold ≡ hold → IsHindered table task core
+            (hold_or hold (if is_due table.control core then Due else rest))
         by_hold allowed None is = by_due allowed is (is_due table.control core) refl
         by_hold allowed (Some hold) is = (allowed, record { hold = hold; held = is; by_core = refl })
 
-        by_mask : (b : Bool) → is_allowed table.control core task ≡ b → IsHindered table task core (if b then hold_or table.hold (if is_due table.control core then Due else rest) else Masked)
+        by_mask : (b : Bool) → is_allowed table.control core task ≡ b → IsHindered table task core
+            (if b then hold_or table.hold (if is_due table.control core then Due else rest) else Masked)
         by_mask true is = by_hold is table.hold refl
         by_mask false is = is
 
     -- ---- and nothing else
-    runs_found : {rival priority : ℕ} (higher preempt : Bool) → RunsInstead table task core rival priority → nat_le own priority ≡ higher → preempts rival ≡ preempt → found core ≡ first_of true None false higher preempt rival priority
+    runs_found : {rival priority : ℕ} (higher preempt : Bool) → RunsInstead table task core rival priority → nat_le own priority ≡ higher → preempts rival ≡
+        preempt → found core ≡ first_of true None false higher preempt rival priority
     runs_found {rival} {priority} higher preempt instead ranks is =
         let level : in_use table other ≡ priority = ap (in_use table) instead.current ∙ instead.level in
         let ranked : nat_le own (in_use table other) ≡ higher = ap (nat_le own) level ∙ ranks in
@@ -140,7 +152,8 @@ module _ (table : Table) (task : ℕ) (sound : IsSound table) (ready : stance_of
     -- ---- once no core is due
     tasks : IsSettled table → is_allowed table.control core task ≡ true → IsTask (found core)
     tasks settled allowed =
-        subst IsTask (sym (λ i. first_of (allowed i) (settled.unheld i) (settled.settled core few i) (nat_le own (in_use table other)) (preempts other) other (in_use table other)))
+        subst IsTask (sym (λ i. first_of (allowed i) (settled.unheld i) (settled.settled core few i) (nat_le own (in_use table other)) (preempts other) other
+        (in_use table other)))
         (by (nat_le own (in_use table other)) (preempts other))
       where
         by : (higher preempt : Bool) → IsTask (first_of true None false higher preempt other (in_use table other))
@@ -149,25 +162,31 @@ module _ (table : Table) (task : ℕ) (sound : IsSound table) (ready : stance_of
         by false false = tt
 
   -- what holds of the hindrance at each core holds of each
-  each_told : (P : Hindrance → Type 0) → ((core : ℕ) → core < table.settings.cores → P (hindrance_of table task core)) → All P (hindrances_of table task)
-  each_told P at = subst (All P) (sym all_told) (λ k d within.
+  each_decided : (P : Hindrance → Type 0) → ((core : ℕ) → core < table.settings.cores → P (hindrance_of table task core)) → All P (hindrances_of table task)
+  each_decided P at = subst (All P) (sym all_printed) (λ k d within.
       let few : k < table.settings.cores = omega (arith, within, length_each (hindrance_of table task) table.settings.cores) in
       subst P (sym (each_at (hindrance_of table task) table.settings.cores k d few)) (at k few))
 
-  is_told : (hindrance : Hindrance) → hindrance.core < table.settings.cores → IsHindered table task hindrance.core hindrance.by → Contains (hindrances_of table task) hindrance
-  is_told hindrance few is =
+  is_decided : (hindrance : Hindrance) → hindrance.core < table.settings.cores → IsHindered table task hindrance.core hindrance.by → Contains
+      (hindrances_of table task) hindrance
+  is_decided hindrance few is =
       let cores = table.settings.cores in
       let same : hindrance_of table task hindrance.core ≡ hindrance = λ i. record { core = hindrance.core; by = alone hindrance.core few hindrance.by is i } in
-      subst (λ (told : List Hindrance). Contains told hindrance) (sym all_told)
-      (hindrance.core, omega (arith, few, length_each (hindrance_of table task) cores), each_at (hindrance_of table task) cores hindrance.core hindrance few ∙ same)
+      subst (λ (found : List Hindrance). Contains found hindrance) (sym all_printed) (
+        hindrance.core,
+        omega (arith, few, length_each (hindrance_of table task) cores),
+        each_at (hindrance_of table task) cores hindrance.core hindrance few ∙
+            same,
+      )
 
   pub are_hindrances : 2 ≤ table.settings.cores → AreHindrances table task (hindrances_of table task)
   are_hindrances many = record {
-    each = ap (map (λ (hindrance : Hindrance). hindrance.core)) all_told ∙ cores_told found (numbers table.settings.cores);
-    some = omega (arith, many, ap length all_told, length_each (hindrance_of table task) table.settings.cores);
-    so = each_told (λ hindrance. IsHindered table task hindrance.core hindrance.by) so;
-    alone = is_told;
-    tasks = λ settled. each_told (λ hindrance. is_allowed table.control hindrance.core task ≡ true → IsTask hindrance.by) (λ core few. tasks core few settled);
+    each = ap (map (λ (hindrance : Hindrance). hindrance.core)) all_printed ∙ cores_decided found (numbers table.settings.cores);
+    some = omega (arith, many, ap length all_printed, length_each (hindrance_of table task) table.settings.cores);
+    so = each_decided (λ hindrance. IsHindered table task hindrance.core hindrance.by) so;
+    alone = is_decided;
+    tasks = λ settled. each_decided (λ hindrance. is_allowed table.control hindrance.core task ≡ true → IsTask hindrance.by)
+        (λ core few. tasks core few settled);
   }
 
 pub hindrances_are_so : HindrancesAreSo

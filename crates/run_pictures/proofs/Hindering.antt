@@ -32,11 +32,13 @@ pub sum_part : (f : ℕ → ℕ) (m k : ℕ) → sum_by f (numbers m) ≤ sum_by
 sum_part f m zero = let same : m + 0 ≡ m = omega arith in omega (arith, ap (λ n. sum_by f (numbers n)) same)
 sum_part f m (suc k) =
     let rest = sum_part f m k in
-    let more : sum_by f (numbers (m + suc k)) ≡ sum_by f (numbers (m + k)) + f (m + k) = (let n : m + suc k ≡ m + k + 1 = omega arith in ap (λ n. sum_by f (numbers n)) n) ∙ sum_more f (m + k) in
+    let more : sum_by f (numbers (m + suc k)) ≡ sum_by f (numbers (m + k)) + f (m + k) =
+    (let n : m + suc k ≡ m + k + 1 = omega arith in ap (λ n. sum_by f (numbers n)) n) ∙ sum_more f (m + k) in
     omega (arith, rest, more)
 
 -- too many of the first tasks are too many of all
-pub too_many : (f : ℕ → ℕ) (n all most pieces count : ℕ) → n < all → pieces ≡ sum_by f (numbers n) → count ≡ f n → most < pieces + count → most < sum_by f (numbers all)
+pub too_many : (f : ℕ → ℕ) (n all most pieces count : ℕ) → n < all → pieces ≡ sum_by f (numbers n) → count ≡ f n → most < pieces + count → most < sum_by f
+    (numbers all)
 too_many f n all most pieces count early are is many =
     let more = pieces_more f n pieces count are is in
     let rest : n + 1 + (all - (n + 1)) ≡ all = omega (arith, early) in
@@ -51,7 +53,8 @@ same_so_far same xs ys k d few within =
     ap (λ zs. are_same_lists same zs (drop k ys)) (drop-cons xs k d few)
     ∙ ap (λ zs. are_same_lists same (get_or xs k d ∷ drop (suc k) xs) zs) (drop-cons ys k d within)
 
-pub both_done : {X : Type 0} (same : X → X → Bool) (xs ys : List X) (k : ℕ) → length xs ≡ length ys → length xs ≤ k → are_same_lists same (drop k xs) (drop k ys) ≡ true
+pub both_done : {X : Type 0} (same : X → X → Bool) (xs ys : List X) (k : ℕ) → length xs ≡ length ys → length xs ≤ k → are_same_lists same (drop k xs)
+    (drop k ys) ≡ true
 both_done same xs ys k long done =
     ap (λ zs. are_same_lists same zs (drop k ys)) (drop_all k xs (omega (arith, done)))
     ∙ ap (are_same_lists same []) (drop_all k ys (omega (arith, done, long)))

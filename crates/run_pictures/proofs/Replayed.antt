@@ -20,24 +20,30 @@ use Rattle.run_views.specs.declared.look.Look.{Look}
 use Rattle.run_views.specs.declared.places.Places.{Places}
 use Rattle.run_views.specs.Changes.{are_same_numbers}
 use Rattle.run_views.specs.Looks.{look_of}
-use Rattle.run_pictures.specs.Film.{looks_of, shown_places}
+use Rattle.run_pictures.specs.RunLooks.{looks_of, shown_places}
 use Rattle.run_pictures.specs.MutexLines.{taken_mutexes}
-use Rattle.run_pictures.specs.Poses.{pose_in, pose_of, pose_spans}
-use Rattle.run_pictures.specs.Preemption.{preempt_in, preempt_spans}
+use Rattle.run_pictures.specs.Poses.{pose_in, pose_of, pose_stretches}
+use Rattle.run_pictures.specs.Preemption.{preempt_in, preempt_stretches}
 use Rattle.run_pictures.specs.Same.{are_same_dues, are_same_poses, are_same_priorities, are_same_stances, are_same_terms}
-use Rattle.run_pictures.specs.Shades.{dues_told, flags_told, holders_told, holds_told, numbers_told, poses_told, priorities_told, stances_told, terms_told}
-use Rattle.run_pictures.specs.Spans.{current_in, current_spans, due_in, due_spans, hold_in, hold_spans, holder_in, holder_spans, own_hold, priorities_in, priority_spans, stance_spans, tick_in, tick_spans}
+use Rattle.run_pictures.specs.StretchValues.{dues_decided, flags_decided, holders_decided, holds_decided, numbers_decided, poses_decided, priorities_decided}
+use Rattle.run_pictures.specs.StretchValues.{stances_decided, terms_decided}
+use Rattle.run_pictures.specs.TaskStretches.{current_in, current_stretches, due_in, due_stretches, hold_in, hold_stretches, holder_in, holder_stretches}
+use Rattle.run_pictures.specs.TaskStretches.{own_hold, priorities_in, priority_stretches, stance_stretches, tick_in, tick_stretches}
 use Rattle.run_pictures.specs.Stances.{stance_in, stance_of}
-use Rattle.run_pictures.specs.Stretches.{stretches, Tiles}
-use Rattle.run_pictures.specs.TaskNames.{terms_in, terms_spans}
-use Rattle.run_pictures.specs.Theorem.{currents_of, due_at, dues_of, holders_of, holds_of, poses_of, preempts_of, priorities_at, priorities_of, stances_of, taken_of, terms_at, terms_of, ticks_of, IsTiled}
+use Rattle.run_pictures.specs.StretchesOf.{stretches_of, Tiles}
+use Rattle.run_pictures.specs.TaskNames.{terms_in, terms_stretches}
+use Rattle.run_pictures.specs.Theorem.{currents_of, due_at, dues_of, holders_of, holds_of, poses_of, preempts_of, priorities_at, priorities_of, stances_of}
+use Rattle.run_pictures.specs.Theorem.{taken_of, terms_at, terms_of, ticks_of, IsTiled}
 use Rattle.run_views.proofs.States.{filter_more}
-use Rattle.run_pictures.proofs.Seen.{core_seen, hold_seen, holder_seen, kept_settings, pose_seen, preempt_seen, priorities_seen, sound_state, stance_seen, terms_seen, tick_seen}
+use Rattle.run_pictures.proofs.Seen.{core_seen, hold_seen, holder_seen, kept_settings, pose_seen, preempt_seen, priorities_seen, sound_state, stance_seen}
+use Rattle.run_pictures.proofs.Seen.{terms_seen, tick_seen}
 use Rattle.run_pictures.proofs.Tiling.{tiled}
-use Rattle.run_pictures.proofs.Waiting.{told_last}
+use Rattle.run_pictures.proofs.Waiting.{decided_last}
 
 -- what is seen in each look, and what is so in each state
-seen_in : {X : Type 0} (in_look : Look → X) (of_table : Table → X) (states : ℕ → Table) → ((place : ℕ) → in_look (look_of (states place)) ≡ of_table (states place)) → (ns : List ℕ) → map in_look (map (λ place. look_of (states place)) ns) ≡ map (λ place. of_table (states place)) ns
+seen_in : {X : Type 0} (in_look : Look → X) (of_table : Table → X) (states : ℕ → Table) →
+    ((place : ℕ) → in_look (look_of (states place)) ≡ of_table (states place)) → (ns : List ℕ) → map in_look (map (λ place. look_of (states place)) ns) ≡ map
+    (λ place. of_table (states place)) ns
 seen_in in_look of_table states at [] = refl
 seen_in in_look of_table states at (n ∷ ns) = λ i. at n i ∷ seen_in in_look of_table states at ns i
 
@@ -65,81 +71,92 @@ module _ (places : Places) (header : Header) (steps : List Step) (is : IsChecked
   -- the stretches of what is seen at the places tile what is so there
   module _ {X : Type 0} (same : X → X → Bool) (tells : (a b : X) → Decides (same a b) (a ≡ b)) (in_look : Look → X) (of_table : Table → X) where
     seen_tiled : ((place : ℕ) → in_look (look_of (state_at header steps place)) ≡ of_table (state_at header steps place))
-        → Tiles places.from (map (λ place. of_table (state_at header steps place)) (shown_places places steps)) (stretches same places.from (map in_look (looks_of places header steps)))
+        → Tiles places.from (map (λ place. of_table (state_at header steps place)) (shown_places places steps))
+        (stretches_of same places.from (map in_look (looks_of places header steps)))
     unfolding looks_of
     seen_tiled at =
-        subst (λ values. Tiles places.from values (stretches same places.from (map in_look (looks_of places header steps))))
+        subst (λ values. Tiles places.from values (stretches_of same places.from (map in_look (looks_of places header steps))))
         (seen_in in_look of_table (state_at header steps) at (shown_places places steps))
         (tiled same tells places.from (map in_look (looks_of places header steps)))
 
   -- the spans of a core
-  core_tiled : (core : ℕ) → core < header.config.cores → Tiles places.from (currents_of places header steps core) (current_spans places.from (looks_of places header steps) core)
-  unfolding current_spans
+  core_tiled : (core : ℕ) → core < header.config.cores → Tiles places.from (currents_of places header steps core)
+      (current_stretches places.from (looks_of places header steps) core)
+  unfolding current_stretches
   core_tiled core few =
-      seen_tiled nat_eq numbers_told (current_in core) (λ table. current table.control core)
+      seen_tiled nat_eq numbers_decided (current_in core) (λ table. current table.control core)
       (λ place. ap (λ look. look.current) (core_seen (state_at header steps place) core (core_within place core few)))
 
-  due_tiled : (core : ℕ) → core < header.config.cores → Tiles places.from (dues_of places header steps core) (due_spans places.from (looks_of places header steps) core)
-  unfolding due_spans
+  due_tiled : (core : ℕ) → core < header.config.cores → Tiles places.from (dues_of places header steps core)
+      (due_stretches places.from (looks_of places header steps) core)
+  unfolding due_stretches
   due_tiled core few =
-      seen_tiled are_same_dues dues_told (due_in core) (λ table. due_at table core)
-      (λ place. ap (λ (look : CoreLook). record { pend = look.pend; asked = look.asked }) (core_seen (state_at header steps place) core (core_within place core few)))
+      seen_tiled are_same_dues dues_decided (due_in core) (λ table. due_at table core)
+      (λ place. ap (λ (look : CoreLook). record { pend = look.pend; asked = look.asked })
+      (core_seen (state_at header steps place) core (core_within place core few)))
 
-  hold_tiled : (core : ℕ) → core < header.config.cores → Tiles places.from (holds_of places header steps core) (hold_spans places.from (looks_of places header steps) core)
-  unfolding hold_spans
+  hold_tiled : (core : ℕ) → core < header.config.cores → Tiles places.from (holds_of places header steps core)
+      (hold_stretches places.from (looks_of places header steps) core)
+  unfolding hold_stretches
   hold_tiled core few =
-      seen_tiled (are_same_options are_same_holds) holds_told (hold_in core) (λ table. own_hold core table.hold)
+      seen_tiled (are_same_options are_same_holds) holds_decided (hold_in core) (λ table. own_hold core table.hold)
       (λ place. ap (own_hold core) (hold_seen (state_at header steps place)))
 
   -- those of a task
-  task_tiled : (task : ℕ) → task < header.config.cores + length header.tasks → Tiles places.from (stances_of places header steps task) (stance_spans places.from (looks_of places header steps) task)
-  unfolding stance_spans
+  task_tiled : (task : ℕ) → task < header.config.cores + length header.tasks → Tiles places.from (stances_of places header steps task)
+      (stance_stretches places.from (looks_of places header steps) task)
+  unfolding stance_stretches
   task_tiled task few =
-      seen_tiled are_same_stances stances_told (stance_in task) (λ table. stance_of table task)
+      seen_tiled are_same_stances stances_decided (stance_in task) (λ table. stance_of table task)
       (λ place. stance_seen (state_at header steps place) task (task_within place task few))
 
-  pose_tiled : (task : ℕ) → task < header.config.cores + length header.tasks → Tiles places.from (poses_of places header steps task) (pose_spans places.from (looks_of places header steps) task)
-  unfolding pose_spans
+  pose_tiled : (task : ℕ) → task < header.config.cores + length header.tasks → Tiles places.from (poses_of places header steps task)
+      (pose_stretches places.from (looks_of places header steps) task)
+  unfolding pose_stretches
   pose_tiled task few =
-      seen_tiled are_same_poses poses_told (pose_in task) (λ table. pose_of table task)
+      seen_tiled are_same_poses poses_decided (pose_in task) (λ table. pose_of table task)
       (λ place. pose_seen (state_at header steps place) (sound_state header steps place is checked) task (task_within place task few))
 
-  priorities_tiled : (task : ℕ) → task < header.config.cores + length header.tasks → Tiles places.from (priorities_of places header steps task) (priority_spans places.from (looks_of places header steps) task)
-  unfolding priority_spans
+  priorities_tiled : (task : ℕ) → task < header.config.cores + length header.tasks → Tiles places.from (priorities_of places header steps task)
+      (priority_stretches places.from (looks_of places header steps) task)
+  unfolding priority_stretches
   priorities_tiled task few =
-      seen_tiled are_same_priorities priorities_told (priorities_in task) (λ table. priorities_at table task)
+      seen_tiled are_same_priorities priorities_decided (priorities_in task) (λ table. priorities_at table task)
       (λ place. priorities_seen (state_at header steps place) task (task_within place task few))
 
-  terms_tiled : (task : ℕ) → task < header.config.cores + length header.tasks → Tiles places.from (terms_of places header steps task) (terms_spans places.from (looks_of places header steps) task)
-  unfolding terms_spans
+  terms_tiled : (task : ℕ) → task < header.config.cores + length header.tasks → Tiles places.from (terms_of places header steps task)
+      (terms_stretches places.from (looks_of places header steps) task)
+  unfolding terms_stretches
   terms_tiled task few =
-      seen_tiled are_same_terms terms_told (terms_in task) (λ table. terms_at table task)
+      seen_tiled are_same_terms terms_decided (terms_in task) (λ table. terms_at table task)
       (λ place. terms_seen (state_at header steps place) task (task_within place task few))
 
-  preempts_tiled : (task : ℕ) → task < header.config.cores + length header.tasks → Tiles places.from (preempts_of places header steps task) (preempt_spans places.from (looks_of places header steps) task)
-  unfolding preempt_spans
+  preempts_tiled : (task : ℕ) → task < header.config.cores + length header.tasks → Tiles places.from (preempts_of places header steps task)
+      (preempt_stretches places.from (looks_of places header steps) task)
+  unfolding preempt_stretches
   preempts_tiled task few =
-      seen_tiled are_same_bools flags_told (preempt_in task) (λ table. (task_at table.control task).preempt)
+      seen_tiled are_same_bools flags_decided (preempt_in task) (λ table. (task_at table.control task).preempt)
       (λ place. preempt_seen (state_at header steps place) task (task_within place task few))
 
-  holder_tiled : (mutex : ℕ) → mutex < header.config.mutexes → Tiles places.from (holders_of places header steps mutex) (holder_spans places.from (looks_of places header steps) mutex)
-  unfolding holder_spans
+  holder_tiled : (mutex : ℕ) → mutex < header.config.mutexes → Tiles places.from (holders_of places header steps mutex)
+      (holder_stretches places.from (looks_of places header steps) mutex)
+  unfolding holder_stretches
   holder_tiled mutex few =
-      seen_tiled are_same_numbers holders_told (holder_in mutex) (λ table. holder_at table.holders mutex)
+      seen_tiled are_same_numbers holders_decided (holder_in mutex) (λ table. holder_at table.holders mutex)
       (λ place. holder_seen (state_at header steps place) mutex (mutex_within place mutex few))
 
   -- a mutex is held in the looks where it is held in the replay
-  taken_told : taken_mutexes header (looks_of places header steps) ≡ taken_of places header steps
+  taken_decided : taken_mutexes header (looks_of places header steps) ≡ taken_of places header steps
   unfolding looks_of
-  taken_told =
+  taken_decided =
       filter_so _ _ header.config.mutexes
       (λ mutex few. sym (list_any-map is_some (holder_in mutex) (looks_of places header steps))
       ∙ ap (list_any is_some) (seen_in (holder_in mutex) (λ table. holder_at table.holders mutex) (state_at header steps)
       (λ place. holder_seen (state_at header steps place) mutex (mutex_within place mutex few)) (shown_places places steps)))
 
-  ticks_tiled : Tiles places.from (ticks_of places header steps) (tick_spans places.from (looks_of places header steps))
-  unfolding tick_spans
-  ticks_tiled = seen_tiled nat_eq numbers_told tick_in (λ table. tick_count table.orders) (λ place. tick_seen (state_at header steps place))
+  ticks_tiled : Tiles places.from (ticks_of places header steps) (tick_stretches places.from (looks_of places header steps))
+  unfolding tick_stretches
+  ticks_tiled = seen_tiled nat_eq numbers_decided tick_in (λ table. tick_count table.orders) (λ place. tick_seen (state_at header steps place))
 
   pub all_tiled : IsTiled places header steps
   all_tiled = record {
@@ -152,7 +169,7 @@ module _ (places : Places) (header : Header) (steps : List Step) (is : IsChecked
     dues = due_tiled;
     holds = hold_tiled;
     holders = holder_tiled;
-    taken = taken_told;
+    taken = taken_decided;
     ticks = ticks_tiled;
-    waits = told_last places header steps;
+    waits = decided_last places header steps;
   }

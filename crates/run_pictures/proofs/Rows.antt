@@ -9,8 +9,10 @@ one_last f [] x = append-nil (f x)
 one_last f (y ∷ xs) x = ap (λ ys. f y ++ ys) (one_last f xs x) ∙ sym (append_assoc (f y) (flat_map f xs) (f x))
 
 -- one row more was written
-pub row_more : (f : ℕ → List ℕ) (count : ℕ) (before text after : List ℕ) → text ≡ before ++ flat_map f (numbers count) → after ≡ text ++ f count → after ≡ before ++ flat_map f (numbers (count + 1))
+pub row_more : (f : ℕ → List ℕ) (count : ℕ) (before text after : List ℕ) → text ≡ before ++ flat_map f (numbers count) → after ≡ text ++ f count → after ≡
+    before ++ flat_map f (numbers (count + 1))
 row_more f count before text after were written =
-    let more : flat_map f (numbers (count + 1)) ≡ flat_map f (numbers count) ++ f count = ap (flat_map f) (numbers_more count) ∙ one_last f (numbers count) count in
+    let more : flat_map f (numbers (count + 1)) ≡ flat_map f (numbers count) ++ f count = ap (flat_map f) (numbers_more count) ∙ one_last f (numbers count)
+    count in
     let joined = append_assoc before (flat_map f (numbers count)) (f count) in
     cc (were, written, more, joined)

@@ -25,7 +25,7 @@ use Rattle.run_pictures.specs.declared.stance.Stance.TheVariants.{Blocked}
 use Rattle.run_pictures.specs.Hindrances.{has_core, hindrance_in, hindrance_of, obstacle_at, rival_in, rival_of, site_in, site_of, where_ready}
 use Rattle.run_pictures.specs.Poses.{pose_in, pose_of}
 use Rattle.run_pictures.specs.Preemption.{preempt_in}
-use Rattle.run_pictures.specs.Spans.{core_in, holder_in, priorities_in, tick_in}
+use Rattle.run_pictures.specs.TaskStretches.{core_in, holder_in, priorities_in, tick_in}
 use Rattle.run_pictures.specs.Stances.{core_of, stance_in, stance_of, stance_on, stance_with, status_in}
 use Rattle.run_pictures.specs.TaskNames.{terms_in}
 use Rattle.run_pictures.specs.Theorem.{priorities_at, terms_at}
@@ -35,17 +35,21 @@ checked_at_start : (header : Header) (steps : List Step) → All (IsCheckedStep 
 checked_at_start header steps checked = subst (λ settings. All (IsCheckedStep settings) steps) (sym (start_settings header)) checked
 
 -- a session keeps the settings of its header
-pub kept_settings : (header : Header) (steps : List Step) (place : ℕ) → IsCheckedHeader header → All (IsCheckedStep (settings_of header)) steps → (state_at header steps place).settings ≡ settings_of header
+pub kept_settings : (header : Header) (steps : List Step) (place : ℕ) → IsCheckedHeader header → All (IsCheckedStep (settings_of header)) steps →
+    (state_at header steps place).settings ≡ settings_of header
 unfolding state_at
 kept_settings header steps place is checked =
-    settings_along (take place steps) (start header) (start_sound header is.passes) (All-take (IsCheckedStep (start header).settings) place steps (checked_at_start header steps checked))
+    settings_along (take place steps) (start header) (start_sound header is.passes)
+    (All-take (IsCheckedStep (start header).settings) place steps (checked_at_start header steps checked))
     ∙ start_settings header
 
 -- its states are sound
-pub sound_state : (header : Header) (steps : List Step) (place : ℕ) → IsCheckedHeader header → All (IsCheckedStep (settings_of header)) steps → IsSound (state_at header steps place)
+pub sound_state : (header : Header) (steps : List Step) (place : ℕ) → IsCheckedHeader header → All (IsCheckedStep (settings_of header)) steps → IsSound
+    (state_at header steps place)
 unfolding state_at
 sound_state header steps place is checked =
-    sound_along (take place steps) (start header) (start_sound header is.passes) (All-take (IsCheckedStep (start header).settings) place steps (checked_at_start header steps checked))
+    sound_along (take place steps) (start header) (start_sound header is.passes)
+    (All-take (IsCheckedStep (start header).settings) place steps (checked_at_start header steps checked))
 
 -- ---- a core of a look, a task, a mutex
 
@@ -81,14 +85,16 @@ pub terms_seen : (table : Table) (task : ℕ) → task < table.settings.tasks �
 unfolding task_look
 terms_seen table task few = λ i. record { base = (status_seen table task few i).base; mask = (status_seen table task few i).mask }
 
-stood : (b : Bool) (wake core : Option ℕ) → stance_with (if b then standing.Ready else standing.Blocked wake) core ≡ (if b then stance_on core else Blocked wake)
+stood : (b : Bool) (wake core : Option ℕ) → stance_with (if b then standing.Ready else standing.Blocked wake) core ≡
+    (if b then stance_on core else Blocked wake)
 stood true wake core = refl
 stood false wake core = refl
 
 pub stance_seen : (table : Table) (task : ℕ) → task < table.settings.tasks → stance_in task (look_of table) ≡ stance_of table task
 unfolding look_of task_look
 stance_seen table task few =
-    ap (λ (status : TaskStatus). stance_with status.standing (core_of task (map (core_at table.control) (numbers table.settings.cores)))) (status_seen table task few)
+    ap (λ (status : TaskStatus). stance_with status.standing (core_of task (map (core_at table.control) (numbers table.settings.cores))))
+    (status_seen table task few)
     ∙ stood (is_ready task table.orders) _ _
 
 -- ---- what is in the way of a task
@@ -104,7 +110,8 @@ cores_seen table = length_each (core_at table.control) table.settings.cores
 -- of a sound state
 module _ (table : Table) (sound : IsSound table) where
   -- the task that the core runs
-  rival_at : (core : ℕ) → core < table.settings.cores → rival_in (core_in core (look_of table)).current (look_of table) ≡ rival_of table (current table.control core)
+  rival_at : (core : ℕ) → core < table.settings.cores → rival_in (core_in core (look_of table)).current (look_of table) ≡ rival_of table
+      (current table.control core)
   rival_at core few =
       let sized = sound.consistent.sized in
       let task = sound.consistent.in_place.is_task core (omega (arith, few, sized.cores)) in
@@ -121,13 +128,15 @@ module _ (table : Table) (sound : IsSound table) where
         rival = rival_at core within i;
       }
 
-  hindrance_seen : (task core : ℕ) → task < table.settings.tasks → core < table.settings.cores → hindrance_in task (look_of table) core ≡ hindrance_of table task core
+  hindrance_seen : (task core : ℕ) → task < table.settings.tasks → core < table.settings.cores → hindrance_in task (look_of table) core ≡ hindrance_of table
+      task core
   unfolding task_look
   hindrance_seen task core few within =
       λ i. record { core = core; by = obstacle_at (status_seen table task few i).in_use (hold_seen table i) (site_seen task core few within i) }
 
   pub pose_seen : (task : ℕ) → task < table.settings.tasks → pose_in task (look_of table) ≡ pose_of table task
   pose_seen task few =
-      let each : map (hindrance_in task (look_of table)) (numbers (length (look_of table).cores)) ≡ map (hindrance_of table task) (numbers table.settings.cores) =
+      let each : map (hindrance_in task (look_of table)) (numbers (length (look_of table).cores)) ≡ map (hindrance_of table task) (numbers table.settings.cores)
+      =
       numbers_so _ _ _ _ (cores_seen table) (λ core within. hindrance_seen task core few within) in
       λ i. record { stance = stance_seen table task few i; hindrances = where_ready (stance_seen table task few i) (each i) }

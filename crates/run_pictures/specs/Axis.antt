@@ -6,11 +6,11 @@ use Rattle.run_pictures.specs.declared.bar.Letters.TheVariants.{Dark}
 use Rattle.run_pictures.specs.declared.frame.Axis.{Axis}
 use Rattle.run_pictures.specs.declared.frame.Axis.TheVariants.{Places, Ticks}
 use Rattle.run_pictures.specs.declared.frame.Frame.{Frame}
-use Rattle.run_pictures.specs.declared.span.Span.{Span}
+use Rattle.run_pictures.specs.declared.stretch.Stretch.{Stretch}
 use Rattle.run_pictures.specs.Bar.{bar_text, label_text, name_text, over_text}
 use Rattle.run_pictures.specs.Frame.{every, x_of}
 use Rattle.run_pictures.specs.Ink.{tick_ink}
-use Rattle.run_pictures.specs.Spans.{tick_spans}
+use Rattle.run_pictures.specs.TaskStretches.{tick_stretches}
 
 -- the number of a place, where it is one of those that are numbered
 unfoldable pub place_label : Frame → ℕ → ℕ → List ℕ
@@ -21,27 +21,27 @@ place_label frame y place =
     else []
 
 -- a stretch of one tick count, with its number
-unfoldable pub tick_bar : Frame → ℕ → Span ℕ → List ℕ
-tick_bar frame y span =
+unfoldable pub tick_bar : Frame → ℕ → Stretch ℕ → List ℕ
+tick_bar frame y stretch =
     bar_text frame (record {
-      ink = tick_ink span.value;
-      first = span.first;
-      last = span.last;
+      ink = tick_ink stretch.value;
+      first = stretch.first;
+      last = stretch.last;
       y = y;
       height = 14;
-    }) (over_text span.first span.last ++ codes "tick " ++ decimal span.value)
-    ++ label_text frame Dark span.first span.last (y + 11) (decimal span.value)
+    }) (over_text stretch.first stretch.last ++ codes "tick " ++ decimal stretch.value)
+    ++ label_text frame Dark stretch.first stretch.last (y + 11) (decimal stretch.value)
 
 -- a thin line through all rows, where a tick begins
-unfoldable pub tick_rule : Frame → ℕ → ℕ → Span ℕ → List ℕ
-tick_rule frame top bottom span =
-    codes "<path class='g' d='M" ++ decimal (x_of frame span.first) ++ codes " " ++ decimal top
+unfoldable pub tick_rule : Frame → ℕ → ℕ → Stretch ℕ → List ℕ
+tick_rule frame top bottom stretch =
+    codes "<path class='g' d='M" ++ decimal (x_of frame stretch.first) ++ codes " " ++ decimal top
     ++ codes "V" ++ decimal bottom ++ codes "'/>\n"
 
 abbrev pub rules_by : Axis → Frame → ℕ → ℕ → List Look → List ℕ
 rules_by Places frame top bottom looks = []
 rules_by Ticks frame top bottom looks =
-    flat_map (tick_rule frame top bottom) (tick_spans frame.first looks)
+    flat_map (tick_rule frame top bottom) (tick_stretches frame.first looks)
 
 -- each tick is ruled, where the columns stand for ticks
 unfoldable pub tick_rules : Frame → ℕ → ℕ → List Look → List ℕ
@@ -52,4 +52,4 @@ axis_row frame y looks =
     name_text (y + 11) (codes "place")
     ++ flat_map (λ k. place_label frame (y + 11) (frame.first + k)) (numbers (length looks))
     ++ name_text (y + 27) (codes "tick")
-    ++ flat_map (tick_bar frame (y + 16)) (tick_spans frame.first looks)
+    ++ flat_map (tick_bar frame (y + 16)) (tick_stretches frame.first looks)

@@ -10,44 +10,44 @@ use Rattle.run_pictures.specs.declared.shown.Due.{Due}
 use Rattle.run_pictures.specs.declared.bar.Letters.TheVariants.{Dark}
 use Rattle.run_pictures.specs.declared.frame.Frame.{Frame}
 use Rattle.run_pictures.specs.declared.ink.Ink.TheVariants as ink
-use Rattle.run_pictures.specs.declared.span.Span.{Span}
+use Rattle.run_pictures.specs.declared.stretch.Stretch.{Stretch}
 use Rattle.run_pictures.specs.Bar.{bar_text, label_text, name_text, over_text}
 use Rattle.run_pictures.specs.Ink.{task_ink}
-use Rattle.run_pictures.specs.Spans.{current_spans, due_spans, hold_spans}
+use Rattle.run_pictures.specs.TaskStretches.{current_stretches, due_stretches, hold_stretches}
 
-abbrev pub core_words : Header → ℕ → Span ℕ → List ℕ
-core_words header core span =
-    over_text span.first span.last ++ codes "core " ++ decimal core ++ codes " "
-    ++ name_of header span.value
+abbrev pub core_words : Header → ℕ → Stretch ℕ → List ℕ
+core_words header core stretch =
+    over_text stretch.first stretch.last ++ codes "core " ++ decimal core ++ codes " "
+    ++ name_of header stretch.value
 
 -- a stretch of one current task, with its name
-unfoldable pub current_bar : Header → Frame → ℕ → ℕ → Span ℕ → List ℕ
-current_bar header frame y core span =
+unfoldable pub current_bar : Header → Frame → ℕ → ℕ → Stretch ℕ → List ℕ
+current_bar header frame y core stretch =
     bar_text frame (record {
-      ink = task_ink header.config.cores span.value;
-      first = span.first;
-      last = span.last;
+      ink = task_ink header.config.cores stretch.value;
+      first = stretch.first;
+      last = stretch.last;
       y = y + 10;
       height = 24;
-    }) (core_words header core span)
-    ++ label_text frame Dark span.first span.last (y + 27) (name_of header span.value)
+    }) (core_words header core stretch)
+    ++ label_text frame Dark stretch.first stretch.last (y + 27) (name_of header stretch.value)
 
-abbrev pub due_words : ℕ → Span Due → List ℕ
-due_words core span =
-    over_text span.first span.last ++ codes "core " ++ decimal core
-    ++ due_text span.value.pend span.value.asked
+abbrev pub due_words : ℕ → Stretch Due → List ℕ
+due_words core stretch =
+    over_text stretch.first stretch.last ++ codes "core " ++ decimal core
+    ++ due_text stretch.value.pend stretch.value.asked
 
 -- a stretch at which the core is due to switch
-unfoldable pub due_bar : Frame → ℕ → ℕ → Span Due → List ℕ
-due_bar frame y core span =
-    if span.value.pend || span.value.asked
+unfoldable pub due_bar : Frame → ℕ → ℕ → Stretch Due → List ℕ
+due_bar frame y core stretch =
+    if stretch.value.pend || stretch.value.asked
     then bar_text frame (record {
       ink = ink.Due;
-      first = span.first;
-      last = span.last;
+      first = stretch.first;
+      last = stretch.last;
       y = y + 10;
       height = 4;
-    }) (due_words core span)
+    }) (due_words core stretch)
     else []
 
 abbrev pub hold_words : ℕ → ℕ → Hold → List ℕ
@@ -65,13 +65,13 @@ hold_part frame y first last (Some hold) =
     }) (hold_words first last hold)
 
 -- a stretch at which the core holds the kernel
-unfoldable pub hold_bar : Frame → ℕ → Span (Option Hold) → List ℕ
-hold_bar frame y span = hold_part frame y span.first span.last span.value
+unfoldable pub hold_bar : Frame → ℕ → Stretch (Option Hold) → List ℕ
+hold_bar frame y stretch = hold_part frame y stretch.first stretch.last stretch.value
 
 -- the row of a core: a strip for marks, and below it a bar, with lines at its top and its foot
 unfoldable pub core_row : Header → Frame → ℕ → List Look → ℕ → List ℕ
 core_row header frame y looks core =
     name_text (y + 27) (codes "core " ++ decimal core)
-    ++ flat_map (current_bar header frame y core) (current_spans frame.first looks core)
-    ++ flat_map (due_bar frame y core) (due_spans frame.first looks core)
-    ++ flat_map (hold_bar frame y) (hold_spans frame.first looks core)
+    ++ flat_map (current_bar header frame y core) (current_stretches frame.first looks core)
+    ++ flat_map (due_bar frame y core) (due_stretches frame.first looks core)
+    ++ flat_map (hold_bar frame y) (hold_stretches frame.first looks core)

@@ -50,8 +50,8 @@ abbrev pub is_masked : Hindrance → Bool
 is_masked hindrance = is_mask hindrance.by
 
 -- those at the cores of the mask first
-unfoldable pub told_order : List Hindrance → List Hindrance
-told_order hindrances =
+unfoldable pub detail_order : List Hindrance → List Hindrance
+detail_order hindrances =
     filter (λ one. not (is_masked one)) hindrances ++ filter is_masked hindrances
 
 abbrev pub is_hold : Obstacle → Bool
@@ -66,10 +66,10 @@ hold_first (hindrance ∷ hindrances) = is_hold hindrance.by
 -- The first lines of them, and how many more there are. A hold is in the way at each core of the
 -- mask, and told once.
 unfoldable pub lines_text : Header → List Hindrance → List ℕ
-lines_text header told =
-    if hold_first told then flat_map (hindrance_text header) (take 1 told)
-    else flat_map (hindrance_text header) (take max_lines told)
-    ++ more_text (length told - max_lines)
+lines_text header found =
+    if hold_first found then flat_map (hindrance_text header) (take 1 found)
+    else flat_map (hindrance_text header) (take max_lines found)
+    ++ more_text (length found - max_lines)
 
 -- which place is told of, where it is not each one
 unfoldable pub place_text : Detail → ℕ → List ℕ
@@ -80,4 +80,4 @@ place_text FirstPlace first = codes "\nat place " ++ decimal first ++ codes ":"
 unfoldable pub hindered_text : Header → Detail → ℕ → List Hindrance → List ℕ
 hindered_text header detail first hindrances =
     if length hindrances == 0 then []
-    else place_text detail first ++ lines_text header (told_order hindrances)
+    else place_text detail first ++ lines_text header (detail_order hindrances)

@@ -13,7 +13,7 @@ use Rattle.run_pictures.specs.declared.hindrance.Rival.{Rival}
 use Rattle.run_pictures.specs.declared.hindrance.Site.{Site}
 use Rattle.run_pictures.specs.declared.stance.Stance.{Stance}
 use Rattle.run_pictures.specs.declared.stance.Stance.TheVariants.{Runs, Ready, Blocked}
-use Rattle.run_pictures.specs.Spans.{core_in, current_in}
+use Rattle.run_pictures.specs.TaskStretches.{core_in, current_in}
 use Rattle.run_pictures.specs.Stances.{stance_in, stance_of, status_in}
 
 -- The task that runs instead of one that has the priority in use: its own is not lower; or it is,

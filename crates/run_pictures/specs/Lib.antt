@@ -3,7 +3,7 @@ pub mod Bar
 pub mod CoreBands
 pub mod Drawn
 pub mod Escape
-pub mod Film
+pub mod RunLooks
 pub mod Frame
 pub mod HindranceLaws
 pub mod HindranceWords
@@ -16,12 +16,12 @@ pub mod Picture
 pub mod Poses
 pub mod Preemption
 pub mod Same
-pub mod Shades
+pub mod StretchValues
 pub mod Shown
 pub mod Signs
-pub mod Spans
+pub mod TaskStretches
 pub mod Stances
-pub mod Stretches
+pub mod StretchesOf
 pub mod TaskBands
 pub mod TaskNames
 pub mod Theorem

@@ -9,7 +9,7 @@ use Rattle.bench_types.specs.declared.step.Step.TheVariants as step
 use Rattle.bench_types.specs.Step.{core_of}
 use Rattle.run_views.specs.ReplyWords.{reply_words}
 use Rattle.run_views.specs.StepWords.{step_text}
-use Rattle.run_pictures.specs.declared.film.Made.{Made}
+use Rattle.run_pictures.specs.declared.run_looks.Made.{Made}
 use Rattle.run_pictures.specs.declared.frame.Frame.{Frame}
 use Rattle.run_pictures.specs.declared.frame.TheConstants.{CORE_ROW}
 use Rattle.run_pictures.specs.declared.ink.Ink.TheVariants as ink

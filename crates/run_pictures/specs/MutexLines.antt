@@ -9,9 +9,9 @@ use Rattle.run_pictures.specs.declared.bar.Letters.TheVariants.{Dark, Small}
 use Rattle.run_pictures.specs.declared.frame.Frame.{Frame}
 use Rattle.run_pictures.specs.declared.frame.TheConstants.{MUTEX_ROW}
 use Rattle.run_pictures.specs.declared.ink.Ink.TheVariants as ink
-use Rattle.run_pictures.specs.declared.span.Span.{Span}
+use Rattle.run_pictures.specs.declared.stretch.Stretch.{Stretch}
 use Rattle.run_pictures.specs.Bar.{bar_text, label_text, over_text, word_text}
-use Rattle.run_pictures.specs.Spans.{holder_in, holder_spans}
+use Rattle.run_pictures.specs.TaskStretches.{holder_in, holder_stretches}
 
 -- whether a task holds the mutex at a place that is shown
 abbrev pub is_taken : List Look → ℕ → Bool
@@ -44,15 +44,15 @@ held_part header frame y mutex first last (Some task) =
     held_bar header frame y mutex first last task
 
 -- a stretch at which a task holds the mutex
-unfoldable pub holder_bar : Header → Frame → ℕ → ℕ → Span (Option ℕ) → List ℕ
-holder_bar header frame y mutex span =
-    held_part header frame y mutex span.first span.last span.value
+unfoldable pub holder_bar : Header → Frame → ℕ → ℕ → Stretch (Option ℕ) → List ℕ
+holder_bar header frame y mutex stretch =
+    held_part header frame y mutex stretch.first stretch.last stretch.value
 
 -- the row of a mutex
 unfoldable pub mutex_row : Header → Frame → ℕ → List Look → ℕ → List ℕ
 mutex_row header frame y looks mutex =
     word_text Small 8 (y + 11) (codes "mutex " ++ decimal mutex)
-    ++ flat_map (holder_bar header frame y mutex) (holder_spans frame.first looks mutex)
+    ++ flat_map (holder_bar header frame y mutex) (holder_stretches frame.first looks mutex)
 
 -- the rows of mutexes, one below another
 abbrev pub mutex_rows : Header → Frame → ℕ → List Look → List ℕ → List ℕ

@@ -1,12 +1,13 @@
 -- The picture of a run, or of two runs one above the other.
-use Rattle.std.specs.Prelude.{◌≡◌, ◌<◌, ◌≤◌, ℕ, suc, ◌+◌, ◌-◌, ◌*◌, ◌/◌, List, [], ◌++◌, flat_map, length, min, max, codes, decimal, MatchResult, Result, String, string_bytes}
+use Rattle.std.specs.Prelude.{◌≡◌, ◌<◌, ◌≤◌, ℕ, suc, ◌+◌, ◌-◌, ◌*◌, ◌/◌, List, [], ◌++◌, flat_map, length, min, max, codes, decimal, MatchResult, Result}
+use Rattle.std.specs.Prelude.{String, string_bytes}
 use Rattle.std.specs.declared.alloc.Global.{Global}
 use Rattle.bench_types.specs.declared.header.Header.{Header}
 use Rattle.bench_types.specs.declared.step.Step.{Step}
 use Rattle.list_orders.specs.Search.{numbers}
 use Rattle.run_views.specs.declared.look.Look.{Look}
 use Rattle.run_views.specs.declared.places.Places.{Places}
-use Rattle.run_pictures.specs.declared.film.Film.{Film}
+use Rattle.run_pictures.specs.declared.run_looks.RunLooks.{RunLooks}
 use Rattle.run_pictures.specs.declared.frame.Axis.{Axis}
 use Rattle.run_pictures.specs.declared.frame.Frame.{Frame}
 use Rattle.run_pictures.specs.declared.frame.Scale.{Scale}
@@ -16,7 +17,7 @@ use Rattle.run_pictures.specs.declared.signs.Sign.{Sign}
 use Rattle.run_pictures.specs.declared.style.TheConstants.{OPENING, STYLE}
 use Rattle.run_pictures.specs.Axis.{axis_row, tick_rules}
 use Rattle.run_pictures.specs.CoreBands.{core_row}
-use Rattle.run_pictures.specs.Film.{film}
+use Rattle.run_pictures.specs.RunLooks.{run_looks}
 use Rattle.run_pictures.specs.Drawn.{Drawn}
 use Rattle.run_pictures.specs.Frame.{column_of, pixels, scale_for}
 use Rattle.run_pictures.specs.Limits.{max_places}
@@ -95,10 +96,10 @@ core_rows header frame y looks =
     (numbers header.config.cores)
 
 -- of the user tasks
-abbrev pub task_rows : Header → Frame → ℕ → Film → List ℕ
-task_rows header frame y film =
-    let detail = detail_for header frame.first film.looks in
-    flat_map (λ user. task_row header frame (y + TASK_ROW * user) film detail
+abbrev pub task_rows : Header → Frame → ℕ → RunLooks → List ℕ
+task_rows header frame y run_looks =
+    let detail = detail_for header frame.first run_looks.looks in
+    flat_map (λ user. task_row header frame (y + TASK_ROW * user) run_looks detail
     (header.config.cores + user))
     (numbers (length header.tasks))
 
@@ -107,9 +108,9 @@ unfoldable pub bands_text : Shown → ℕ → List ℕ
 bands_text shown top =
     let header = shown.header in
     let frame = shown.frame in
-    let looks = shown.film.looks in
+    let looks = shown.run_looks.looks in
     axis_row frame top looks ++ core_rows header frame (top + 36) looks
-    ++ task_rows header frame (top + tasks_down header) shown.film
+    ++ task_rows header frame (top + tasks_down header) shown.run_looks
     ++ taken_rows header frame (top + mutexes_down header) looks
 
 -- what its steps are, and where its ticks begin
@@ -117,8 +118,8 @@ unfoldable pub marks_text : Shown → ℕ → List ℕ
 marks_text shown top =
     let header = shown.header in
     let frame = shown.frame in
-    let looks = shown.film.looks in
-    flat_map (λ k. step_at header frame top shown.film.made (frame.first + k))
+    let looks = shown.run_looks.looks in
+    flat_map (λ k. step_at header frame top shown.run_looks.made (frame.first + k))
     (numbers (length looks))
     ++ tick_rules frame top (top + panel_height header looks) looks
 
@@ -131,13 +132,13 @@ abbrev pub shown_of : Places → Axis → Header → List Step → Shown
 shown_of places axis header steps = record {
   header = header;
   frame = frame_for places axis (shown_count places (length steps));
-  film = film places header steps;
+  run_looks = run_looks places header steps;
 }
 
 -- the picture of a run that is so many columns wide
 unfoldable pub drawn_run : ℕ → Shown → List ℕ
 drawn_run count shown =
-    let height = panel_height shown.header shown.film.looks in
+    let height = panel_height shown.header shown.run_looks.looks in
     let signs = signs_of shown in
     opening_text (width_of shown.frame.scale count) (height + legend_height (length signs) + 20)
     ++ panel_text shown 4 ++ legend_text (height + 16) signs
@@ -175,7 +176,7 @@ abbrev pub shown_at : Places → Axis → Scale → ℕ → Drawn → Shown
 shown_at places axis scale left run = record {
   header = run.header;
   frame = frame_of places axis scale left run;
-  film = film places run.header run.steps;
+  run_looks = run_looks places run.header run.steps;
 }
 
 -- a run below its heading
@@ -191,8 +192,8 @@ both_text before after height =
 -- the picture of two runs that are so many columns wide
 unfoldable pub drawn_runs : ℕ → Shown → Shown → List ℕ
 drawn_runs count before after =
-    let height = panel_height before.header before.film.looks in
-    let whole = height + panel_height after.header after.film.looks in
+    let height = panel_height before.header before.run_looks.looks in
+    let whole = height + panel_height after.header after.run_looks.looks in
     let signs = signs_of_both before after in
     opening_text (width_of before.frame.scale count) (whole + legend_height (length signs) + 66)
     ++ both_text before after height ++ legend_text (whole + 62) signs

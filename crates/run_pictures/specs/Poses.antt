@@ -8,15 +8,15 @@ use Rattle.run_views.specs.declared.look.Look.{Look}
 use Rattle.run_pictures.specs.declared.pose.Detail.{Detail}
 use Rattle.run_pictures.specs.declared.pose.Detail.TheVariants.{EachPlace, FirstPlace}
 use Rattle.run_pictures.specs.declared.pose.Pose.{Pose}
-use Rattle.run_pictures.specs.declared.span.Span.{Span}
+use Rattle.run_pictures.specs.declared.stretch.Stretch.{Stretch}
 use Rattle.run_pictures.specs.declared.stance.Stance.{Stance}
 use Rattle.run_pictures.specs.declared.stance.Stance.TheVariants.{Runs, Ready, Blocked}
 use Rattle.run_pictures.specs.Hindrances.{hindrances_in, hindrances_of}
 use Rattle.run_pictures.specs.Limits.{max_found, max_pieces}
 use Rattle.run_pictures.specs.Same.{are_same_poses}
-use Rattle.run_pictures.specs.Spans.{stance_spans}
+use Rattle.run_pictures.specs.TaskStretches.{stance_stretches}
 use Rattle.run_pictures.specs.Stances.{stance_in, stance_of}
-use Rattle.run_pictures.specs.Stretches.{stretches}
+use Rattle.run_pictures.specs.StretchesOf.{stretches_of}
 
 -- in a look
 abbrev pub pose_in : ℕ → Look → Pose
@@ -29,28 +29,28 @@ pose_of table task =
     record { stance = stance_of table task; hindrances = hindrances_of table task }
 
 -- the spans of how the task stands and of what is in its way
-unfoldable pub pose_spans : ℕ → List Look → ℕ → List (Span Pose)
-pose_spans first looks task = stretches are_same_poses first (map (pose_in task) looks)
+unfoldable pub pose_stretches : ℕ → List Look → ℕ → List (Stretch Pose)
+pose_stretches first looks task = stretches_of are_same_poses first (map (pose_in task) looks)
 
 -- a span of how the task stands, with what is in its way at the first place of it
-abbrev pub opening : ℕ → List Look → ℕ → Span Stance → Span Pose
-opening first looks task span = record {
-  first = span.first;
-  last = span.last;
+abbrev pub opening : ℕ → List Look → ℕ → Stretch Stance → Stretch Pose
+opening first looks task stretch = record {
+  first = stretch.first;
+  last = stretch.last;
   value = record {
-    stance = span.value;
-    hindrances = option_map_or (hindrances_in task) (slice_get looks (span.first - first)) [];
+    stance = stretch.value;
+    hindrances = option_map_or (hindrances_in task) (slice_get looks (stretch.first - first)) [];
   };
 }
 
-abbrev pub openings : ℕ → List Look → ℕ → List (Span Stance) → List (Span Pose)
-openings first looks task spans = map (opening first looks task) spans
+abbrev pub openings : ℕ → List Look → ℕ → List (Stretch Stance) → List (Stretch Pose)
+openings first looks task stretches = map (opening first looks task) stretches
 
 -- the spans of a task that are drawn
-abbrev pub told_spans : Detail → ℕ → List Look → ℕ → List (Span Pose)
-told_spans EachPlace first looks task = pose_spans first looks task
-told_spans FirstPlace first looks task =
-    openings first looks task (stance_spans first looks task)
+abbrev pub detailed_stretches : Detail → ℕ → List Look → ℕ → List (Stretch Pose)
+detailed_stretches EachPlace first looks task = pose_stretches first looks task
+detailed_stretches FirstPlace first looks task =
+    openings first looks task (stance_stretches first looks task)
 
 abbrev pub stands_ready : Stance → Bool
 stands_ready Ready = true
@@ -58,13 +58,13 @@ stands_ready (Runs core) = false
 stands_ready (Blocked wake) = false
 
 -- how many of the spans are of a ready task
-abbrev pub count_ready : List (Span Pose) → ℕ
-count_ready spans = length (filter (λ span. stands_ready span.value.stance) spans)
+abbrev pub count_ready : List (Stretch Pose) → ℕ
+count_ready stretches = length (filter (λ stretch. stands_ready stretch.value.stance) stretches)
 
 -- how many there are of all user tasks
 abbrev pub pieces_of : Header → ℕ → List Look → ℕ
 pieces_of header first looks =
-    sum_by (λ user. count_ready (pose_spans first looks (header.config.cores + user)))
+    sum_by (λ user. count_ready (pose_stretches first looks (header.config.cores + user)))
     (numbers (length header.tasks))
 
 -- as far as there are not too many

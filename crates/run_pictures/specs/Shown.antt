@@ -2,7 +2,7 @@
 use Rattle.std.specs.Prelude.{◌+◌, ◌<◌, ◌≤◌, ◌^◌, length}
 use Rattle.bench_types.specs.declared.header.Header.{Header}
 use Rattle.bench_types.specs.Limits.{max_cores, max_tasks}
-use Rattle.run_pictures.specs.declared.film.Film.{Film}
+use Rattle.run_pictures.specs.declared.run_looks.RunLooks.{RunLooks}
 use Rattle.run_pictures.specs.declared.frame.Frame.{Frame}
 use Rattle.run_pictures.specs.declared.panel.Panel.{Panel}
 
@@ -11,18 +11,18 @@ pub record Shown : Type 0 where
   -- where its places stand
   pub frame : Frame
   -- what is seen at them
-  pub film : Film
+  pub run_looks : RunLooks
 
 abbrev pub shown : Panel → Shown
 shown panel = record {
   header = panel.header.now;
   frame = panel.frame;
-  film = panel.film;
+  run_looks = panel.run_looks;
 }
 
 -- its places have numbers of 32 bits, and it has no more cores and tasks than a session may have
 pub record IsNumbered (shown : Shown) : Type 0 where
-  pub places : shown.frame.first + length shown.film.looks ≤ 2 ^ 32
-  pub looks : length shown.film.looks < 2 ^ 32
+  pub places : shown.frame.first + length shown.run_looks.looks ≤ 2 ^ 32
+  pub looks : length shown.run_looks.looks < 2 ^ 32
   pub cores : shown.header.config.cores ≤ max_cores
   pub tasks : length shown.header.tasks ≤ max_tasks

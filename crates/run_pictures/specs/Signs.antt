@@ -1,10 +1,11 @@
 -- The legend: what stands in it, and where.
-use Rattle.std.specs.Prelude.{ℕ, ◌+◌, ◌*◌, ◌/◌, ◌%◌, ◌==◌, List, [], ◌∷◌, ◌++◌, filter, flat_map, length, codes, decimal, Bool, true, false, not, ◌||◌, nat_lt, Option, None, Some, is_some, slice_index_or}
+use Rattle.std.specs.Prelude.{ℕ, ◌+◌, ◌*◌, ◌/◌, ◌%◌, ◌==◌, List, [], ◌∷◌, ◌++◌, filter, flat_map, length, codes, decimal, Bool, true, false, not, ◌||◌, nat_lt}
+use Rattle.std.specs.Prelude.{Option, None, Some, is_some, slice_index_or}
 use Rattle.std.specs.List.{list_any}
 use Rattle.list_orders.specs.Search.{numbers}
 use Rattle.bench_types.specs.declared.header.Header.{Header}
 use Rattle.run_views.specs.declared.look.Look.{Look}
-use Rattle.run_pictures.specs.declared.film.Made.{Made}
+use Rattle.run_pictures.specs.declared.run_looks.Made.{Made}
 use Rattle.run_pictures.specs.declared.marks.Mark.{Mark}
 use Rattle.run_pictures.specs.declared.marks.Mark.TheVariants as mark
 use Rattle.run_pictures.specs.declared.signs.Sign.{Sign}
@@ -82,20 +83,20 @@ has_refusal made first count =
 
 -- whether a run has what the sign stands for, at a place that is shown
 abbrev pub is_used : Shown → Sign → Bool
-is_used shown Running = list_any (has_user shown.header.config.cores) shown.film.looks
-is_used shown Idle = list_any (has_idle shown.header.config.cores) shown.film.looks
-is_used shown Ready = list_any (has_ready shown.header) shown.film.looks
-is_used shown Blocked = list_any (has_blocked shown.header) shown.film.looks
-is_used shown Due = list_any has_due shown.film.looks
-is_used shown Held = list_any is_held shown.film.looks
-is_used shown Inherited = list_any (has_inherited shown.header) shown.film.looks
-is_used shown PreemptionOff = list_any (has_unpreempted shown.header) shown.film.looks
+is_used shown Running = list_any (has_user shown.header.config.cores) shown.run_looks.looks
+is_used shown Idle = list_any (has_idle shown.header.config.cores) shown.run_looks.looks
+is_used shown Ready = list_any (has_ready shown.header) shown.run_looks.looks
+is_used shown Blocked = list_any (has_blocked shown.header) shown.run_looks.looks
+is_used shown Due = list_any has_due shown.run_looks.looks
+is_used shown Held = list_any is_held shown.run_looks.looks
+is_used shown Inherited = list_any (has_inherited shown.header) shown.run_looks.looks
+is_used shown PreemptionOff = list_any (has_unpreempted shown.header) shown.run_looks.looks
 is_used shown Taken =
-    list_any (is_taken shown.film.looks) (numbers shown.header.config.mutexes)
+    list_any (is_taken shown.run_looks.looks) (numbers shown.header.config.mutexes)
 is_used shown Interrupt =
-    has_interrupt shown.film.made shown.frame.first (length shown.film.looks)
+    has_interrupt shown.run_looks.made shown.frame.first (length shown.run_looks.looks)
 is_used shown Refused =
-    has_refusal shown.film.made shown.frame.first (length shown.film.looks)
+    has_refusal shown.run_looks.made shown.frame.first (length shown.run_looks.looks)
 
 -- in their order
 abbrev pub all_signs : List Sign

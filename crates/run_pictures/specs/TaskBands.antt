@@ -6,24 +6,24 @@ use Rattle.run_views.specs.declared.look.Standing.TheVariants as standing
 use Rattle.run_views.specs.ChangeWords.{standing_text}
 use Rattle.run_pictures.specs.declared.bar.Bar.{Bar}
 use Rattle.run_pictures.specs.declared.bar.Letters.TheVariants.{Dark, Small}
-use Rattle.run_pictures.specs.declared.film.Film.{Film}
-use Rattle.run_pictures.specs.declared.film.Made.{Made}
+use Rattle.run_pictures.specs.declared.run_looks.RunLooks.{RunLooks}
+use Rattle.run_pictures.specs.declared.run_looks.Made.{Made}
 use Rattle.run_pictures.specs.declared.frame.Frame.{Frame}
 use Rattle.run_pictures.specs.declared.ink.Ink.{Ink}
 use Rattle.run_pictures.specs.declared.ink.Ink.TheVariants as ink
 use Rattle.run_pictures.specs.declared.pose.Detail.{Detail}
 use Rattle.run_pictures.specs.declared.pose.Pose.{Pose}
 use Rattle.run_pictures.specs.declared.shown.Priorities.{Priorities}
-use Rattle.run_pictures.specs.declared.span.Span.{Span}
+use Rattle.run_pictures.specs.declared.stretch.Stretch.{Stretch}
 use Rattle.run_pictures.specs.declared.stance.Stance.{Stance}
 use Rattle.run_pictures.specs.declared.stance.Stance.TheVariants.{Runs, Ready, Blocked}
 use Rattle.run_pictures.specs.declared.waits.Wait.{Wait}
 use Rattle.run_pictures.specs.declared.waits.Wait.TheVariants.{Delay, Notification, Mutex}
 use Rattle.run_pictures.specs.Bar.{bar_text, label_text, over_text}
 use Rattle.run_pictures.specs.HindranceWords.{hindered_text}
-use Rattle.run_pictures.specs.Poses.{told_spans}
+use Rattle.run_pictures.specs.Poses.{detailed_stretches}
 use Rattle.run_pictures.specs.Preemption.{off_bars}
-use Rattle.run_pictures.specs.Spans.{priority_spans}
+use Rattle.run_pictures.specs.TaskStretches.{priority_stretches}
 use Rattle.run_pictures.specs.TaskNames.{task_name}
 use Rattle.run_pictures.specs.Waits.{last_wait}
 
@@ -41,9 +41,9 @@ stance_text (Runs core) wait = codes " runs on core " ++ decimal core
 stance_text Ready wait = codes " ready"
 stance_text (Blocked wake) wait = standing_text (standing.Blocked wake) ++ reason_text wait
 
-abbrev pub stance_words : Header → ℕ → Option Wait → Span Stance → List ℕ
-stance_words header task wait span =
-    over_text span.first span.last ++ name_of header task ++ stance_text span.value wait
+abbrev pub stance_words : Header → ℕ → Option Wait → Stretch Stance → List ℕ
+stance_words header task wait stretch =
+    over_text stretch.first stretch.last ++ name_of header task ++ stance_text stretch.value wait
 
 abbrev pub stance_ink : ℕ → Stance → Ink
 stance_ink user (Runs core) = ink.Runs user
@@ -62,13 +62,13 @@ stance_height Ready = 8
 stance_height (Blocked wake) = 4
 
 -- the bar of the user task of that index
-abbrev pub stance_shape : ℕ → ℕ → Span Stance → Bar
-stance_shape user y span = record {
-  ink = stance_ink user span.value;
-  first = span.first;
-  last = span.last;
-  y = y + stance_down span.value;
-  height = stance_height span.value;
+abbrev pub stance_shape : ℕ → ℕ → Stretch Stance → Bar
+stance_shape user y stretch = record {
+  ink = stance_ink user stretch.value;
+  first = stretch.first;
+  last = stretch.last;
+  y = y + stance_down stretch.value;
+  height = stance_height stretch.value;
 }
 
 unfoldable pub blocked_label : Frame → ℕ → ℕ → ℕ → Option Wait → List ℕ
@@ -83,49 +83,49 @@ label_of frame y first last wait Ready = []
 label_of frame y first last wait (Blocked wake) = blocked_label frame y first last wait
 
 -- the core on which the task runs, or what it waits for
-unfoldable pub stance_label : Frame → ℕ → Option Wait → Span Stance → List ℕ
-stance_label frame y wait span = label_of frame y span.first span.last wait span.value
+unfoldable pub stance_label : Frame → ℕ → Option Wait → Stretch Stance → List ℕ
+stance_label frame y wait stretch = label_of frame y stretch.first stretch.last wait stretch.value
 
 -- the span without what is in the way
-abbrev pub stance_span : Span Pose → Span Stance
-stance_span span =
-    record { first = span.first; last = span.last; value = span.value.stance }
+abbrev pub stance_stretch : Stretch Pose → Stretch Stance
+stance_stretch stretch =
+    record { first = stretch.first; last = stretch.last; value = stretch.value.stance }
 
-abbrev pub pose_words : Header → ℕ → Option Wait → Detail → Span Pose → List ℕ
-pose_words header task wait detail span =
-    stance_words header task wait (stance_span span)
-    ++ hindered_text header detail span.first span.value.hindrances
+abbrev pub pose_words : Header → ℕ → Option Wait → Detail → Stretch Pose → List ℕ
+pose_words header task wait detail stretch =
+    stance_words header task wait (stance_stretch stretch)
+    ++ hindered_text header detail stretch.first stretch.value.hindrances
 
 -- a stretch at which the task stands alike, and the same is in its way
-unfoldable pub pose_bar : Header → Frame → ℕ → ℕ → List Made → Detail → Span Pose → List ℕ
-pose_bar header frame y task made detail span =
-    let wait = last_wait task made span.first in
-    bar_text frame (stance_shape (task - header.config.cores) y (stance_span span))
-    (pose_words header task wait detail span)
-    ++ stance_label frame y wait (stance_span span)
+unfoldable pub pose_bar : Header → Frame → ℕ → ℕ → List Made → Detail → Stretch Pose → List ℕ
+pose_bar header frame y task made detail stretch =
+    let wait = last_wait task made stretch.first in
+    bar_text frame (stance_shape (task - header.config.cores) y (stance_stretch stretch))
+    (pose_words header task wait detail stretch)
+    ++ stance_label frame y wait (stance_stretch stretch)
 
-abbrev pub inherited_words : Header → ℕ → Span Priorities → List ℕ
-inherited_words header task span =
-    over_text span.first span.last ++ name_of header task ++ codes " priority in use "
-    ++ decimal span.value.in_use ++ codes ", base priority " ++ decimal span.value.base
+abbrev pub inherited_words : Header → ℕ → Stretch Priorities → List ℕ
+inherited_words header task stretch =
+    over_text stretch.first stretch.last ++ name_of header task ++ codes " priority in use "
+    ++ decimal stretch.value.in_use ++ codes ", base priority " ++ decimal stretch.value.base
 
 -- a stretch at which the task has a priority in use that is not its own
-unfoldable pub inherited_bar : Header → Frame → ℕ → ℕ → Span Priorities → List ℕ
-inherited_bar header frame y task span =
-    if span.value.in_use == span.value.base then []
+unfoldable pub inherited_bar : Header → Frame → ℕ → ℕ → Stretch Priorities → List ℕ
+inherited_bar header frame y task stretch =
+    if stretch.value.in_use == stretch.value.base then []
     else bar_text frame (record {
       ink = ink.Inherited;
-      first = span.first;
-      last = span.last;
+      first = stretch.first;
+      last = stretch.last;
       y = y + 20;
       height = 3;
-    }) (inherited_words header task span)
+    }) (inherited_words header task stretch)
 
 -- the row of a task
-unfoldable pub task_row : Header → Frame → ℕ → Film → Detail → ℕ → List ℕ
-task_row header frame y film detail task =
-    task_name header frame.first y film.looks task
-    ++ flat_map (pose_bar header frame y task film.made detail)
-    (told_spans detail frame.first film.looks task)
-    ++ flat_map (inherited_bar header frame y task) (priority_spans frame.first film.looks task)
-    ++ off_bars header frame y film.looks task
+unfoldable pub task_row : Header → Frame → ℕ → RunLooks → Detail → ℕ → List ℕ
+task_row header frame y run_looks detail task =
+    task_name header frame.first y run_looks.looks task
+    ++ flat_map (pose_bar header frame y task run_looks.made detail)
+    (detailed_stretches detail frame.first run_looks.looks task)
+    ++ flat_map (inherited_bar header frame y task) (priority_stretches frame.first run_looks.looks task)
+    ++ off_bars header frame y run_looks.looks task

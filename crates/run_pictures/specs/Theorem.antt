@@ -15,14 +15,15 @@ use Rattle.run_pictures.specs.declared.shown.Due.{Due}
 use Rattle.run_pictures.specs.declared.shown.Priorities.{Priorities}
 use Rattle.run_pictures.specs.declared.stance.Stance.{Stance}
 use Rattle.run_pictures.specs.declared.task_names.Terms.{Terms}
-use Rattle.run_pictures.specs.Film.{film, looks_of, shown_places}
+use Rattle.run_pictures.specs.RunLooks.{run_looks, looks_of, shown_places}
 use Rattle.run_pictures.specs.MutexLines.{taken_mutexes}
-use Rattle.run_pictures.specs.Poses.{pose_of, pose_spans}
-use Rattle.run_pictures.specs.Preemption.{preempt_spans}
-use Rattle.run_pictures.specs.Spans.{current_spans, due_spans, hold_spans, holder_spans, own_hold, priority_spans, stance_spans, tick_spans}
+use Rattle.run_pictures.specs.Poses.{pose_of, pose_stretches}
+use Rattle.run_pictures.specs.Preemption.{preempt_stretches}
+use Rattle.run_pictures.specs.TaskStretches.{current_stretches, due_stretches, hold_stretches, holder_stretches, own_hold, priority_stretches, stance_stretches}
+use Rattle.run_pictures.specs.TaskStretches.{tick_stretches}
 use Rattle.run_pictures.specs.Stances.{stance_of}
-use Rattle.run_pictures.specs.Stretches.{Tiles}
-use Rattle.run_pictures.specs.TaskNames.{terms_spans}
+use Rattle.run_pictures.specs.StretchesOf.{Tiles}
+use Rattle.run_pictures.specs.TaskNames.{terms_stretches}
 use Rattle.run_pictures.specs.Waits.{last_wait, wait_made, IsLast}
 
 abbrev pub priorities_at : Table → ℕ → Priorities
@@ -107,34 +108,34 @@ taken_of places header steps =
 pub record IsTiled (places : Places) (header : Header) (steps : List Step) : Type 0 where
   pub cores : (core : ℕ) → core < header.config.cores
       → Tiles places.from (currents_of places header steps core)
-      (current_spans places.from (looks_of places header steps) core)
+      (current_stretches places.from (looks_of places header steps) core)
   pub tasks : (task : ℕ) → task < header.config.cores + length header.tasks
       → Tiles places.from (stances_of places header steps task)
-      (stance_spans places.from (looks_of places header steps) task)
+      (stance_stretches places.from (looks_of places header steps) task)
   pub poses : (task : ℕ) → task < header.config.cores + length header.tasks
       → Tiles places.from (poses_of places header steps task)
-      (pose_spans places.from (looks_of places header steps) task)
+      (pose_stretches places.from (looks_of places header steps) task)
   pub priorities : (task : ℕ) → task < header.config.cores + length header.tasks
       → Tiles places.from (priorities_of places header steps task)
-      (priority_spans places.from (looks_of places header steps) task)
+      (priority_stretches places.from (looks_of places header steps) task)
   pub terms : (task : ℕ) → task < header.config.cores + length header.tasks
       → Tiles places.from (terms_of places header steps task)
-      (terms_spans places.from (looks_of places header steps) task)
+      (terms_stretches places.from (looks_of places header steps) task)
   pub preempts : (task : ℕ) → task < header.config.cores + length header.tasks
       → Tiles places.from (preempts_of places header steps task)
-      (preempt_spans places.from (looks_of places header steps) task)
+      (preempt_stretches places.from (looks_of places header steps) task)
   pub dues : (core : ℕ) → core < header.config.cores
       → Tiles places.from (dues_of places header steps core)
-      (due_spans places.from (looks_of places header steps) core)
+      (due_stretches places.from (looks_of places header steps) core)
   pub holds : (core : ℕ) → core < header.config.cores
       → Tiles places.from (holds_of places header steps core)
-      (hold_spans places.from (looks_of places header steps) core)
+      (hold_stretches places.from (looks_of places header steps) core)
   pub holders : (mutex : ℕ) → mutex < header.config.mutexes
       → Tiles places.from (holders_of places header steps mutex)
-      (holder_spans places.from (looks_of places header steps) mutex)
+      (holder_stretches places.from (looks_of places header steps) mutex)
   pub taken : taken_mutexes header (looks_of places header steps) ≡ taken_of places header steps
   pub ticks : Tiles places.from (ticks_of places header steps)
-      (tick_spans places.from (looks_of places header steps))
+      (tick_stretches places.from (looks_of places header steps))
   pub waits : (task : ℕ) (place : ℕ)
       → IsLast (wait_made header steps task) place
-      (last_wait task (film places header steps).made place)
+      (last_wait task (run_looks places header steps).made place)

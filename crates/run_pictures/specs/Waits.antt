@@ -9,7 +9,7 @@ use Rattle.bench_types.specs.declared.step.Call.TheVariants as call
 use Rattle.bench_types.specs.declared.step.Step.{Step}
 use Rattle.bench_types.specs.declared.step.Step.TheVariants as step
 use Rattle.bench_model.specs.Session.{state_at, step_of}
-use Rattle.run_pictures.specs.declared.film.Made.{Made}
+use Rattle.run_pictures.specs.declared.run_looks.Made.{Made}
 use Rattle.run_pictures.specs.declared.waits.Wait.{Wait}
 use Rattle.run_pictures.specs.declared.waits.Wait.TheVariants.{Delay, Notification, Mutex}
 
@@ -32,11 +32,11 @@ wait_in task (step.Call core caller call) reply =
 wait_in task other reply = None
 
 -- what the task waits for by the step, where the step is a call of it that was not refused
-abbrev pub wait_begun : ℕ → Made → Option Wait
-wait_begun task made = wait_in task made.step made.reply
+abbrev pub wait_entered : ℕ → Made → Option Wait
+wait_entered task made = wait_in task made.step made.reply
 
 abbrev pub wait_at : ℕ → List Made → ℕ → Option Wait
-wait_at task made place = option_and_then (wait_begun task) (slice_get made place)
+wait_at task made place = option_and_then (wait_entered task) (slice_get made place)
 
 -- what the task waits for by the last such step before the place
 abbrev pub last_wait : ℕ → List Made → ℕ → Option Wait

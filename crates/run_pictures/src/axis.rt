@@ -2,12 +2,12 @@
 ghost use Rattle.std.specs.Prelude.{◌≡◌, ◌++◌, ◌+◌, ◌<◌, ◌≤◌, ◌^◌, IfOk, OnOk, flat_map, length, map, string_bytes};
 ghost use Rattle.list_orders.specs.Search.{numbers};
 ghost use Rattle.run_pictures.specs.Axis.{axis_row, place_label, tick_bar, tick_rule, tick_rules};
-ghost use Rattle.run_pictures.specs.Spans.{tick_in, tick_spans};
+ghost use Rattle.run_pictures.specs.TaskStretches.{tick_in, tick_stretches};
 
 use crate::bar::{Bar, Letters, push_bar, push_label, push_name, push_over};
 use crate::frame::{Axis, Frame};
 use crate::ink::tick_ink;
-use crate::span::{Span, stretches};
+use crate::stretch::{Stretch, stretches_of};
 use run_views::Look;
 use std::alloc::{AllocError, Global};
 
@@ -17,13 +17,17 @@ fn ticks(alloc: Global, looks: &[Look]) -> Result<Vec<u32>, AllocError>
     looks.iter().map(|look| look.tick).collect(alloc)
 }
 
-#[tactic(auto, unfolding(crate::specs::Spans::tick_spans))]
-fn tick_spans(alloc: Global, first: u32, looks: &[Look]) -> Result<Vec<Span<u32>>, AllocError>
+#[tactic(auto, unfolding(crate::specs::TaskStretches::tick_stretches))]
+fn tick_stretches(
+    alloc: Global,
+    first: u32,
+    looks: &[Look],
+) -> Result<Vec<Stretch<u32>>, AllocError>
     requires { first + length looks.now ≤ 2 ^ 32 }
-    ensures { IfOk result (λ spans. spans.items ≡ tick_spans first looks.now) }
+    ensures { IfOk result (λ stretches. stretches.items ≡ tick_stretches first looks.now) }
 {
     let values = ticks(alloc, looks)?;
-    stretches(alloc, first, values)
+    stretches_of(alloc, first, values)
 }
 
 // The number of a place, where it is one of those that are numbered.
@@ -59,31 +63,31 @@ fn push_tick(
     text: &mut String,
     frame: &Frame,
     y: u64,
-    span: Span<u32>,
+    stretch: Stretch<u32>,
 ) -> Result<(), AllocError>
     requires { y < 2 ^ 40 }
     ensures { OnOk result
-        (string_bytes text.new ≡ string_bytes text.old ++ tick_bar frame.now y span) }
+        (string_bytes text.new ≡ string_bytes text.old ++ tick_bar frame.now y stretch) }
 {
     let mut words = String::new(alloc);
-    push_over(&mut words, span.first, span.last)?;
-    write!(words, "tick {}", span.value)?;
+    push_over(&mut words, stretch.first, stretch.last)?;
+    write!(words, "tick {}", stretch.value)?;
     let bar = Bar {
-        ink: tick_ink(span.value),
-        first: span.first,
-        last: span.last,
+        ink: tick_ink(stretch.value),
+        first: stretch.first,
+        last: stretch.last,
         y,
         height: 14,
     };
     push_bar(text, frame, bar, words.as_str())?;
     let mut number = String::new(alloc);
-    write!(number, "{}", span.value)?;
+    write!(number, "{}", stretch.value)?;
     push_label(
         text,
         frame,
         Letters::Dark,
-        span.first,
-        span.last,
+        stretch.first,
+        stretch.last,
         y + 11,
         number.as_str(),
     )
@@ -94,15 +98,15 @@ fn push_ticks(
     text: &mut String,
     frame: &Frame,
     y: u64,
-    spans: &[Span<u32>],
+    stretches: &[Stretch<u32>],
 ) -> Result<(), AllocError>
     requires { y < 2 ^ 40 }
     ensures { OnOk result
         (string_bytes text.new
-        ≡ string_bytes text.old ++ flat_map (tick_bar frame.now y) spans.now) }
+        ≡ string_bytes text.old ++ flat_map (tick_bar frame.now y) stretches.now) }
 {
-    for span in spans {
-        push_tick(alloc, text, frame, y, *span)?;
+    for stretch in stretches {
+        push_tick(alloc, text, frame, y, *stretch)?;
     }
     Ok(())
 }
@@ -114,12 +118,12 @@ fn push_rule(
     frame: &Frame,
     top: u64,
     bottom: u64,
-    span: Span<u32>,
+    stretch: Stretch<u32>,
 ) -> Result<(), AllocError>
     ensures { OnOk result
-        (string_bytes text.new ≡ string_bytes text.old ++ tick_rule frame.now top bottom span) }
+        (string_bytes text.new ≡ string_bytes text.old ++ tick_rule frame.now top bottom stretch) }
 {
-    let x = frame.x_of(span.first);
+    let x = frame.x_of(stretch.first);
     write!(text, "<path class='g' d='M{x} {top}V{bottom}'/>\n")
 }
 
@@ -128,14 +132,14 @@ fn push_rules_of(
     frame: &Frame,
     top: u64,
     bottom: u64,
-    spans: &[Span<u32>],
+    stretches: &[Stretch<u32>],
 ) -> Result<(), AllocError>
     ensures { OnOk result
         (string_bytes text.new
-        ≡ string_bytes text.old ++ flat_map (tick_rule frame.now top bottom) spans.now) }
+        ≡ string_bytes text.old ++ flat_map (tick_rule frame.now top bottom) stretches.now) }
 {
-    for span in spans {
-        push_rule(text, frame, top, bottom, *span)?;
+    for stretch in stretches {
+        push_rule(text, frame, top, bottom, *stretch)?;
     }
     Ok(())
 }
@@ -158,8 +162,8 @@ pub(crate) fn push_rules(
     match frame.axis {
         Axis::Places => Ok(()),
         Axis::Ticks => {
-            let spans = tick_spans(alloc, frame.first, looks)?;
-            push_rules_of(text, frame, top, bottom, spans.as_slice())
+            let stretches = tick_stretches(alloc, frame.first, looks)?;
+            push_rules_of(text, frame, top, bottom, stretches.as_slice())
         }
     }
 }
@@ -182,6 +186,6 @@ pub(crate) fn push_axis(
     push_name(text, y + 11, "place")?;
     push_places(text, frame, y + 11, looks.len() as u32)?;
     push_name(text, y + 27, "tick")?;
-    let spans = tick_spans(alloc, frame.first, looks)?;
-    push_ticks(alloc, text, frame, y + 16, spans.as_slice())
+    let stretches = tick_stretches(alloc, frame.first, looks)?;
+    push_ticks(alloc, text, frame, y + 16, stretches.as_slice())
 }

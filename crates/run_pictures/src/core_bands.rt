@@ -2,13 +2,13 @@
 //! holds the kernel.
 ghost use Rattle.std.specs.Prelude.{◌≡◌, ◌++◌, ◌+◌, ◌<◌, ◌≤◌, ◌^◌, IfOk, OnOk, flat_map, length, map, string_bytes};
 ghost use Rattle.run_pictures.specs.CoreBands.{core_row, core_words, current_bar, due_bar, hold_bar};
-ghost use Rattle.run_pictures.specs.Spans.{core_in, current_in, current_spans, due_in, due_spans, hold_in, hold_spans};
+ghost use Rattle.run_pictures.specs.TaskStretches.{core_in, current_in, current_stretches, due_in, due_stretches, hold_in, hold_stretches};
 
 use crate::bar::{Bar, Letters, push_bar, push_label, push_name, push_over};
 use crate::frame::Frame;
 use crate::ink::{Ink, task_ink};
 use crate::shown::Due;
-use crate::span::{Span, stretches};
+use crate::stretch::{Stretch, stretches_of};
 use bench_types::{CoreLook, Header, Hold};
 use run_views::{Look, due_text, push_hold};
 use std::alloc::{AllocError, Global};
@@ -65,60 +65,60 @@ fn holds(alloc: Global, looks: &[Look], core: u32) -> Result<Vec<Option<Hold>>, 
 }
 
 // The spans of the core's current tasks.
-#[tactic(auto, unfolding(crate::specs::Spans::current_spans))]
-fn current_spans(
+#[tactic(auto, unfolding(crate::specs::TaskStretches::current_stretches))]
+fn current_stretches(
     alloc: Global,
     first: u32,
     looks: &[Look],
     core: u32,
-) -> Result<Vec<Span<u32>>, AllocError>
+) -> Result<Vec<Stretch<u32>>, AllocError>
     requires { first + length looks.now ≤ 2 ^ 32 }
-    ensures { IfOk result (λ spans. spans.items ≡ current_spans first looks.now core) }
+    ensures { IfOk result (λ stretches. stretches.items ≡ current_stretches first looks.now core) }
 {
     let values = currents(alloc, looks, core)?;
-    stretches(alloc, first, values)
+    stretches_of(alloc, first, values)
 }
 
-#[tactic(auto, unfolding(crate::specs::Spans::due_spans))]
-fn due_spans(
+#[tactic(auto, unfolding(crate::specs::TaskStretches::due_stretches))]
+fn due_stretches(
     alloc: Global,
     first: u32,
     looks: &[Look],
     core: u32,
-) -> Result<Vec<Span<Due>>, AllocError>
+) -> Result<Vec<Stretch<Due>>, AllocError>
     requires { first + length looks.now ≤ 2 ^ 32 }
-    ensures { IfOk result (λ spans. spans.items ≡ due_spans first looks.now core) }
+    ensures { IfOk result (λ stretches. stretches.items ≡ due_stretches first looks.now core) }
 {
     let values = dues(alloc, looks, core)?;
-    stretches(alloc, first, values)
+    stretches_of(alloc, first, values)
 }
 
-#[tactic(auto, unfolding(crate::specs::Spans::hold_spans))]
-fn hold_spans(
+#[tactic(auto, unfolding(crate::specs::TaskStretches::hold_stretches))]
+fn hold_stretches(
     alloc: Global,
     first: u32,
     looks: &[Look],
     core: u32,
-) -> Result<Vec<Span<Option<Hold>>>, AllocError>
+) -> Result<Vec<Stretch<Option<Hold>>>, AllocError>
     requires { first + length looks.now ≤ 2 ^ 32 }
-    ensures { IfOk result (λ spans. spans.items ≡ hold_spans first looks.now core) }
+    ensures { IfOk result (λ stretches. stretches.items ≡ hold_stretches first looks.now core) }
 {
     let values = holds(alloc, looks, core)?;
-    stretches(alloc, first, values)
+    stretches_of(alloc, first, values)
 }
 
 fn push_core_words(
     words: &mut String,
     header: &Header,
     core: u32,
-    span: Span<u32>,
+    stretch: Stretch<u32>,
 ) -> Result<(), AllocError>
     ensures { OnOk result
-        (string_bytes words.new ≡ string_bytes words.old ++ core_words header.now core span) }
+        (string_bytes words.new ≡ string_bytes words.old ++ core_words header.now core stretch) }
 {
-    push_over(words, span.first, span.last)?;
+    push_over(words, stretch.first, stretch.last)?;
     write!(words, "core {core} ")?;
-    header.push_name(words, span.value)
+    header.push_name(words, stretch.value)
 }
 
 // A stretch of one current task.
@@ -130,31 +130,31 @@ fn push_current(
     frame: &Frame,
     y: u64,
     core: u32,
-    span: Span<u32>,
+    stretch: Stretch<u32>,
 ) -> Result<(), AllocError>
     requires { y < 2 ^ 40 }
     ensures { OnOk result
         (string_bytes text.new
-        ≡ string_bytes text.old ++ current_bar header.now frame.now y core span) }
+        ≡ string_bytes text.old ++ current_bar header.now frame.now y core stretch) }
 {
     let mut words = String::new(alloc);
-    push_core_words(&mut words, header, core, span)?;
+    push_core_words(&mut words, header, core, stretch)?;
     let bar = Bar {
-        ink: task_ink(header.config.cores, span.value),
-        first: span.first,
-        last: span.last,
+        ink: task_ink(header.config.cores, stretch.value),
+        first: stretch.first,
+        last: stretch.last,
         y: y + 10,
         height: 24,
     };
     push_bar(text, frame, bar, words.as_str())?;
     let mut name = String::new(alloc);
-    header.push_name(&mut name, span.value)?;
+    header.push_name(&mut name, stretch.value)?;
     push_label(
         text,
         frame,
         Letters::Dark,
-        span.first,
-        span.last,
+        stretch.first,
+        stretch.last,
         y + 27,
         name.as_str(),
     )
@@ -168,24 +168,24 @@ fn push_due(
     frame: &Frame,
     y: u64,
     core: u32,
-    span: Span<Due>,
+    stretch: Stretch<Due>,
 ) -> Result<(), AllocError>
     requires { y < 2 ^ 40 }
     ensures { OnOk result
-        (string_bytes text.new ≡ string_bytes text.old ++ due_bar frame.now y core span) }
+        (string_bytes text.new ≡ string_bytes text.old ++ due_bar frame.now y core stretch) }
 {
-    let Due { pend, asked } = span.value;
+    let Due { pend, asked } = stretch.value;
     if !pend && !asked {
         return Ok(());
     }
     let mut words = String::new(alloc);
-    push_over(&mut words, span.first, span.last)?;
+    push_over(&mut words, stretch.first, stretch.last)?;
     write!(words, "core {core}")?;
     words.push_str(due_text(pend, asked))?;
     let bar = Bar {
         ink: Ink::Due,
-        first: span.first,
-        last: span.last,
+        first: stretch.first,
+        last: stretch.last,
         y: y + 10,
         height: 4,
     };
@@ -199,23 +199,23 @@ fn push_held(
     text: &mut String,
     frame: &Frame,
     y: u64,
-    span: Span<Option<Hold>>,
+    stretch: Stretch<Option<Hold>>,
 ) -> Result<(), AllocError>
     requires { y < 2 ^ 40 }
     ensures { OnOk result
-        (string_bytes text.new ≡ string_bytes text.old ++ hold_bar frame.now y span) }
+        (string_bytes text.new ≡ string_bytes text.old ++ hold_bar frame.now y stretch) }
 {
-    let Some(hold) = span.value else {
+    let Some(hold) = stretch.value else {
         return Ok(());
     };
     let mut words = String::new(alloc);
-    push_over(&mut words, span.first, span.last)?;
+    push_over(&mut words, stretch.first, stretch.last)?;
     words.push_str("held by ")?;
     push_hold(&mut words, hold)?;
     let bar = Bar {
         ink: Ink::Held,
-        first: span.first,
-        last: span.last,
+        first: stretch.first,
+        last: stretch.last,
         y: y + 30,
         height: 4,
     };
@@ -229,15 +229,15 @@ fn push_currents(
     frame: &Frame,
     y: u64,
     core: u32,
-    spans: &[Span<u32>],
+    stretches: &[Stretch<u32>],
 ) -> Result<(), AllocError>
     requires { y < 2 ^ 40 }
     ensures { OnOk result
         (string_bytes text.new
-        ≡ string_bytes text.old ++ flat_map (current_bar header.now frame.now y core) spans.now) }
+        ≡ string_bytes text.old ++ flat_map (current_bar header.now frame.now y core) stretches.now) }
 {
-    for span in spans {
-        push_current(alloc, text, header, frame, y, core, *span)?;
+    for stretch in stretches {
+        push_current(alloc, text, header, frame, y, core, *stretch)?;
     }
     Ok(())
 }
@@ -248,15 +248,15 @@ fn push_dues(
     frame: &Frame,
     y: u64,
     core: u32,
-    spans: &[Span<Due>],
+    stretches: &[Stretch<Due>],
 ) -> Result<(), AllocError>
     requires { y < 2 ^ 40 }
     ensures { OnOk result
         (string_bytes text.new
-        ≡ string_bytes text.old ++ flat_map (due_bar frame.now y core) spans.now) }
+        ≡ string_bytes text.old ++ flat_map (due_bar frame.now y core) stretches.now) }
 {
-    for span in spans {
-        push_due(alloc, text, frame, y, core, *span)?;
+    for stretch in stretches {
+        push_due(alloc, text, frame, y, core, *stretch)?;
     }
     Ok(())
 }
@@ -266,15 +266,15 @@ fn push_holds(
     text: &mut String,
     frame: &Frame,
     y: u64,
-    spans: &[Span<Option<Hold>>],
+    stretches: &[Stretch<Option<Hold>>],
 ) -> Result<(), AllocError>
     requires { y < 2 ^ 40 }
     ensures { OnOk result
         (string_bytes text.new
-        ≡ string_bytes text.old ++ flat_map (hold_bar frame.now y) spans.now) }
+        ≡ string_bytes text.old ++ flat_map (hold_bar frame.now y) stretches.now) }
 {
-    for span in spans {
-        push_held(alloc, text, frame, y, *span)?;
+    for stretch in stretches {
+        push_held(alloc, text, frame, y, *stretch)?;
     }
     Ok(())
 }
@@ -299,10 +299,10 @@ pub(crate) fn push_core_row(
     let mut name = String::new(alloc);
     write!(name, "core {core}")?;
     push_name(text, y + 27, name.as_str())?;
-    let currents = current_spans(alloc, frame.first, looks, core)?;
+    let currents = current_stretches(alloc, frame.first, looks, core)?;
     push_currents(alloc, text, header, frame, y, core, currents.as_slice())?;
-    let dues = due_spans(alloc, frame.first, looks, core)?;
+    let dues = due_stretches(alloc, frame.first, looks, core)?;
     push_dues(alloc, text, frame, y, core, dues.as_slice())?;
-    let holds = hold_spans(alloc, frame.first, looks, core)?;
+    let holds = hold_stretches(alloc, frame.first, looks, core)?;
     push_holds(alloc, text, frame, y, holds.as_slice())
 }

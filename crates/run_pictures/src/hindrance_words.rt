@@ -1,6 +1,6 @@
 //! What is in the way of a ready task, in words: a line for each core.
 ghost use Rattle.std.specs.Prelude.{◌≡◌, ◌++◌, IfOk, OnOk, filter, flat_map, not, string_bytes};
-ghost use Rattle.run_pictures.specs.HindranceWords.{core_text, hindered_text, hindrance_text, hold_first, is_masked, level_text, lines_text, more_text, place_text, rival_text, told_order};
+ghost use Rattle.run_pictures.specs.HindranceWords.{core_text, hindered_text, hindrance_text, hold_first, is_masked, level_text, lines_text, more_text, place_text, rival_text, detail_order};
 
 use crate::hindrance::{Hindrance, Obstacle};
 use crate::pose::Detail;
@@ -109,9 +109,9 @@ fn is_masked(hindrance: Hindrance) -> bool
 }
 
 // Those at the cores of the mask first.
-#[tactic(auto, unfolding(crate::specs::HindranceWords::told_order))]
-fn told_order(alloc: Global, hindrances: &[Hindrance]) -> Result<Vec<Hindrance>, AllocError>
-    ensures { IfOk result (λ told. told.items ≡ told_order hindrances.now) }
+#[tactic(auto, unfolding(crate::specs::HindranceWords::detail_order))]
+fn detail_order(alloc: Global, hindrances: &[Hindrance]) -> Result<Vec<Hindrance>, AllocError>
+    ensures { IfOk result (λ found. found.items ≡ detail_order hindrances.now) }
 {
     let in_mask = hindrances.iter().copied().filter(|one| !is_masked(*one));
     let masked = hindrances.iter().copied().filter(|one| is_masked(*one));
@@ -119,10 +119,10 @@ fn told_order(alloc: Global, hindrances: &[Hindrance]) -> Result<Vec<Hindrance>,
 }
 
 // Whether the first of them is a hold of the kernel.
-fn hold_first(told: &[Hindrance]) -> bool
-    ensures { result ≡ hold_first told.now }
+fn hold_first(found: &[Hindrance]) -> bool
+    ensures { result ≡ hold_first found.now }
 {
-    match told.first() {
+    match found.first() {
         Some(
             Hindrance {
                 by: Obstacle::Held { .. },
@@ -135,16 +135,16 @@ fn hold_first(told: &[Hindrance]) -> bool
 
 // The first lines of them, and how many more there are.
 #[tactic(auto, unfolding(crate::specs::HindranceWords::lines_text))]
-fn push_lines(text: &mut String, header: &Header, told: &[Hindrance]) -> Result<(), AllocError>
+fn push_lines(text: &mut String, header: &Header, found: &[Hindrance]) -> Result<(), AllocError>
     ensures { OnOk result
-        (string_bytes text.new ≡ string_bytes text.old ++ lines_text header.now told.now) }
+        (string_bytes text.new ≡ string_bytes text.old ++ lines_text header.now found.now) }
 {
-    if hold_first(told) {
-        return push_each(text, header, &told[..1]);
+    if hold_first(found) {
+        return push_each(text, header, &found[..1]);
     }
-    let count = told.len().min(MAX_LINES);
-    push_each(text, header, &told[..count])?;
-    push_more(text, told.len() - count)
+    let count = found.len().min(MAX_LINES);
+    push_each(text, header, &found[..count])?;
+    push_more(text, found.len() - count)
 }
 
 // Which place is told of, where it is not each one.
@@ -177,6 +177,6 @@ pub(crate) fn push_hindered(
         return Ok(());
     }
     push_place(text, detail, first)?;
-    let told = told_order(alloc, hindrances)?;
-    push_lines(text, header, told.as_slice())
+    let found = detail_order(alloc, hindrances)?;
+    push_lines(text, header, found.as_slice())
 }

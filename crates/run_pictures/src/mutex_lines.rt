@@ -1,12 +1,12 @@
 //! The rows of the mutexes: which task holds each.
 ghost use Rattle.std.specs.Prelude.{◌≡◌, ◌++◌, ◌+◌, ◌<◌, ◌≤◌, ◌^◌, IfOk, OnOk, flat_map, length, map, string_bytes};
 ghost use Rattle.run_pictures.specs.MutexLines.{held_bar, held_words, holder_bar, is_taken, mutex_row, mutex_rows, taken_mutexes, taken_rows};
-ghost use Rattle.run_pictures.specs.Spans.{holder_in, holder_spans};
+ghost use Rattle.run_pictures.specs.TaskStretches.{holder_in, holder_stretches};
 
 use crate::bar::{Bar, Letters, push_bar, push_label, push_over, push_word};
 use crate::frame::{Frame, MUTEX_ROW};
 use crate::ink::Ink;
-use crate::span::{Span, stretches};
+use crate::stretch::{Stretch, stretches_of};
 use bench_types::Header;
 use run_views::Look;
 use std::alloc::{AllocError, Global};
@@ -29,18 +29,18 @@ fn holders(alloc: Global, looks: &[Look], mutex: u32) -> Result<Vec<Option<u32>>
         .collect(alloc)
 }
 
-#[tactic(auto, unfolding(crate::specs::Spans::holder_spans))]
-fn holder_spans(
+#[tactic(auto, unfolding(crate::specs::TaskStretches::holder_stretches))]
+fn holder_stretches(
     alloc: Global,
     first: u32,
     looks: &[Look],
     mutex: u32,
-) -> Result<Vec<Span<Option<u32>>>, AllocError>
+) -> Result<Vec<Stretch<Option<u32>>>, AllocError>
     requires { first + length looks.now ≤ 2 ^ 32 }
-    ensures { IfOk result (λ spans. spans.items ≡ holder_spans first looks.now mutex) }
+    ensures { IfOk result (λ stretches. stretches.items ≡ holder_stretches first looks.now mutex) }
 {
     let values = holders(alloc, looks, mutex)?;
-    stretches(alloc, first, values)
+    stretches_of(alloc, first, values)
 }
 
 /// Whether a task holds the mutex at a place that is shown.
@@ -131,16 +131,24 @@ fn push_holder(
     frame: &Frame,
     y: u64,
     mutex: u32,
-    span: Span<Option<u32>>,
+    stretch: Stretch<Option<u32>>,
 ) -> Result<(), AllocError>
     requires { y < 2 ^ 40 }
     ensures { OnOk result
         (string_bytes text.new
-        ≡ string_bytes text.old ++ holder_bar header.now frame.now y mutex span) }
+        ≡ string_bytes text.old ++ holder_bar header.now frame.now y mutex stretch) }
 {
-    match span.value {
+    match stretch.value {
         Some(task) => push_held(
-            alloc, text, header, frame, y, mutex, span.first, span.last, task,
+            alloc,
+            text,
+            header,
+            frame,
+            y,
+            mutex,
+            stretch.first,
+            stretch.last,
+            task,
         ),
         None => Ok(()),
     }
@@ -153,15 +161,15 @@ fn push_holders(
     frame: &Frame,
     y: u64,
     mutex: u32,
-    spans: &[Span<Option<u32>>],
+    stretches: &[Stretch<Option<u32>>],
 ) -> Result<(), AllocError>
     requires { y < 2 ^ 40 }
     ensures { OnOk result
         (string_bytes text.new
-        ≡ string_bytes text.old ++ flat_map (holder_bar header.now frame.now y mutex) spans.now) }
+        ≡ string_bytes text.old ++ flat_map (holder_bar header.now frame.now y mutex) stretches.now) }
 {
-    for span in spans {
-        push_holder(alloc, text, header, frame, y, mutex, *span)?;
+    for stretch in stretches {
+        push_holder(alloc, text, header, frame, y, mutex, *stretch)?;
     }
     Ok(())
 }
@@ -186,8 +194,8 @@ fn push_mutex_row(
     let mut name = String::new(alloc);
     write!(name, "mutex {mutex}")?;
     push_word(text, Letters::Small, 8, y + 11, name.as_str())?;
-    let spans = holder_spans(alloc, frame.first, looks, mutex)?;
-    push_holders(alloc, text, header, frame, y, mutex, spans.as_slice())
+    let stretches = holder_stretches(alloc, frame.first, looks, mutex)?;
+    push_holders(alloc, text, header, frame, y, mutex, stretches.as_slice())
 }
 
 // The rows of mutexes, one below another.

@@ -1,7 +1,7 @@
 //! A run as it is drawn.
 
-use crate::film::Film;
 use crate::frame::Frame;
+use crate::run_looks::RunLooks;
 use bench_types::Header;
 
 /// A run as it is drawn.
@@ -11,5 +11,5 @@ pub(crate) struct Panel<'a> {
     /// Where its places stand.
     pub(crate) frame: Frame,
     /// What is seen at them.
-    pub(crate) film: Film,
+    pub(crate) run_looks: RunLooks,
 }

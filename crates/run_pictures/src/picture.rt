@@ -13,12 +13,12 @@ ghost use Rattle.run_pictures.specs.Theorem.{IsTiled};
 
 use crate::axis::{push_axis, push_rules};
 use crate::core_bands::push_core_row;
-use crate::film::Film;
 use crate::frame::{Axis, CORE_ROW, Frame, MUTEX_ROW, Scale, TASK_ROW, column_of, scale_for};
 use crate::marks::push_steps;
 use crate::mutex_lines::{push_taken_rows, taken_mutexes};
 use crate::panel::Panel;
 use crate::pose::detail_for;
+use crate::run_looks::RunLooks;
 use crate::signs::{Sign, legend_height, push_entries, signs_of, signs_of_both};
 use crate::style::{OPENING, STYLE};
 use crate::task_bands::push_task_row;
@@ -211,19 +211,19 @@ fn push_tasks(
     header: &Header,
     frame: &Frame,
     y: u64,
-    film: &Film,
+    run_looks: &RunLooks,
 ) -> Result<(), AllocError>
     requires y { y < 2 ^ 39 }
-    requires few { frame.now.first + length film.now.looks ≤ 2 ^ 32 }
-    requires looks { length film.now.looks < 2 ^ 32 }
+    requires few { frame.now.first + length run_looks.now.looks ≤ 2 ^ 32 }
+    requires looks { length run_looks.now.looks < 2 ^ 32 }
     requires cores { header.now.config.cores ≤ max_cores }
     requires tasks { length header.now.tasks ≤ max_tasks }
     ensures { OnOk result
         (string_bytes text.new
-        ≡ string_bytes text.old ++ task_rows header.now frame.now y film.now) }
+        ≡ string_bytes text.old ++ task_rows header.now frame.now y run_looks.now) }
 {
     let cores = header.config.cores;
-    let detail = detail_for(alloc, header, frame.first, film.looks.as_slice())?;
+    let detail = detail_for(alloc, header, frame.first, run_looks.looks.as_slice())?;
     for user in 0..header.tasks.as_slice().len() as u32 {
         let below = y + TASK_ROW * user as u64;
         push_task_row(
@@ -232,7 +232,7 @@ fn push_tasks(
             header,
             frame,
             below,
-            film,
+            run_looks,
             detail,
             cores + user,
         )?;
@@ -255,7 +255,7 @@ fn push_bands(
 {
     let header = panel.header;
     let frame = &panel.frame;
-    let looks = panel.film.looks.as_slice();
+    let looks = panel.run_looks.looks.as_slice();
     push_axis(alloc, text, frame, top, looks)?;
     push_cores(alloc, text, header, frame, top + 36, looks)?;
     push_tasks(
@@ -264,7 +264,7 @@ fn push_bands(
         header,
         frame,
         top + tasks_down(header),
-        &panel.film,
+        &panel.run_looks,
     )?;
     let down = top + mutexes_down(header);
     push_taken_rows(alloc, text, header, frame, down, looks)
@@ -285,14 +285,14 @@ fn push_marks(
 {
     let header = panel.header;
     let frame = &panel.frame;
-    let looks = panel.film.looks.as_slice();
+    let looks = panel.run_looks.looks.as_slice();
     push_steps(
         alloc,
         text,
         header,
         frame,
         top,
-        panel.film.made.as_slice(),
+        panel.run_looks.made.as_slice(),
         looks.len() as u32,
     )?;
     let bottom = top + panel_height(alloc, header, looks)?;
@@ -323,7 +323,7 @@ fn draw_panel(alloc: Global, panel: &Panel<'_>, count: u64) -> Result<String, Al
     requires count { count ≤ 2 ^ 32 }
     ensures { IfOk result (λ text. string_bytes text ≡ drawn_run count (shown panel.now)) }
 {
-    let height = panel_height(alloc, panel.header, panel.film.looks.as_slice())?;
+    let height = panel_height(alloc, panel.header, panel.run_looks.looks.as_slice())?;
     let signs = signs_of(alloc, panel)?;
     let width = width_of(panel.frame.scale, count);
     let mut text = String::new(alloc);
@@ -351,11 +351,11 @@ fn draw_run(
         (λ text. string_bytes text ≡ picture_text places axis header.now steps.now) }
 {
     let frame = frame_for(alloc, places, axis, count);
-    let film = Film::of_run(alloc, meter, places, header, steps)?;
+    let run_looks = RunLooks::of_run(alloc, meter, places, header, steps)?;
     let panel = Panel {
         header,
         frame,
-        film,
+        run_looks,
     };
     draw_panel(alloc, &panel, count)
 }
@@ -459,11 +459,11 @@ fn panel_of<'a>(
 {
     let header = run.header;
     let frame = frame_of(alloc, places, axis, scale, left, run)?;
-    let film = Film::of_run(alloc, meter, places, header, run.steps)?;
+    let run_looks = RunLooks::of_run(alloc, meter, places, header, run.steps)?;
     Ok(Panel {
         header,
         frame,
-        film,
+        run_looks,
     })
 }
 
@@ -520,8 +520,8 @@ fn draw_panels(
     ensures { IfOk result
         (λ text. string_bytes text ≡ drawn_runs count (shown before.now) (shown after.now)) }
 {
-    let height = panel_height(alloc, before.header, before.film.looks.as_slice())?;
-    let lower = panel_height(alloc, after.header, after.film.looks.as_slice())?;
+    let height = panel_height(alloc, before.header, before.run_looks.looks.as_slice())?;
+    let lower = panel_height(alloc, after.header, after.run_looks.looks.as_slice())?;
     let whole = height + lower;
     let signs = signs_of_both(alloc, before, after)?;
     let width = width_of(before.frame.scale, count);

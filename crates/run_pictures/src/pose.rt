@@ -1,12 +1,12 @@
 //! How a task stands at a place, and what is in its way there.
 ghost use Rattle.std.specs.Prelude.{◌≡◌, ◌+◌, ◌<◌, ◌≤◌, ◌^◌, IfOk, length, map};
 ghost use Rattle.bench_types.specs.Limits.{max_cores, max_tasks};
-ghost use Rattle.run_pictures.specs.Poses.{count_ready, detail_by_pieces, detail_for, most_found, opening, openings, pose_in, pose_spans, stands_ready, told_spans};
+ghost use Rattle.run_pictures.specs.Poses.{count_ready, detail_by_pieces, detail_for, most_found, opening, openings, pose_in, pose_stretches, stands_ready, detailed_stretches};
 ghost use Rattle.run_pictures.specs.Same.{are_same_poses};
 
 use crate::hindrance::{Hindrance, are_same_lists, hindrances_in};
-use crate::span::{Shade, Span, stretches};
-use crate::stance::{Stance, is_same_stance, stance_in, stance_spans};
+use crate::stance::{Stance, is_same_stance, stance_in, stance_stretches};
+use crate::stretch::{Stretch, StretchValue, stretches_of};
 use bench_types::{Header, Items};
 use run_views::Look;
 use std::alloc::{AllocError, Global};
@@ -25,12 +25,12 @@ pub struct Pose {
     pub hindrances: Items<Hindrance>,
 }
 
-impl Shade for Pose {
-    ghost use Rattle.run_pictures.specs.Shades.{poses_told};
+impl StretchValue for Pose {
+    ghost use Rattle.run_pictures.specs.StretchValues.{poses_decided};
 
     ghost same = { are_same_poses };
 
-    ghost tells = { poses_told };
+    ghost tells = { poses_decided };
 
     fn is_same(&self, other: &Self) -> bool {
         is_same_stance(self.stance, other.stance)
@@ -67,18 +67,18 @@ fn poses(alloc: Global, looks: &[Look], task: u32) -> Result<Vec<Pose>, AllocErr
 }
 
 // The spans of how the task stands and of what is in its way.
-#[tactic(auto, unfolding(crate::specs::Poses::pose_spans))]
-fn pose_spans(
+#[tactic(auto, unfolding(crate::specs::Poses::pose_stretches))]
+fn pose_stretches(
     alloc: Global,
     first: u32,
     looks: &[Look],
     task: u32,
-) -> Result<Vec<Span<Pose>>, AllocError>
+) -> Result<Vec<Stretch<Pose>>, AllocError>
     requires { first + length looks.now ≤ 2 ^ 32 }
-    ensures { IfOk result (λ spans. spans.items ≡ pose_spans first looks.now task) }
+    ensures { IfOk result (λ stretches. stretches.items ≡ pose_stretches first looks.now task) }
 {
     let values = poses(alloc, looks, task)?;
-    stretches(alloc, first, values)
+    stretches_of(alloc, first, values)
 }
 
 // The span, with what is in the way at its first place.
@@ -87,19 +87,19 @@ fn opening(
     first: u32,
     looks: &[Look],
     task: u32,
-    span: Span<Stance>,
-) -> Result<Span<Pose>, AllocError>
-    ensures { IfOk result (λ told. told ≡ opening first looks.now task span) }
+    stretch: Stretch<Stance>,
+) -> Result<Stretch<Pose>, AllocError>
+    ensures { IfOk result (λ found. found ≡ opening first looks.now task stretch) }
 {
-    let hindrances = match looks.get(span.first.saturating_sub(first) as usize) {
+    let hindrances = match looks.get(stretch.first.saturating_sub(first) as usize) {
         Some(look) => hindrances_in(alloc, look, task)?,
         None => Vec::new(alloc),
     };
-    Ok(Span {
-        first: span.first,
-        last: span.last,
+    Ok(Stretch {
+        first: stretch.first,
+        last: stretch.last,
         value: Pose {
-            stance: span.value,
+            stance: stretch.value,
             hindrances: Items::new(hindrances),
         },
     })
@@ -110,32 +110,32 @@ fn openings(
     first: u32,
     looks: &[Look],
     task: u32,
-    spans: &[Span<Stance>],
-) -> Result<Vec<Span<Pose>>, AllocError>
-    ensures { IfOk result (λ told. told.items ≡ openings first looks.now task spans.now) }
+    stretches: &[Stretch<Stance>],
+) -> Result<Vec<Stretch<Pose>>, AllocError>
+    ensures { IfOk result (λ found. found.items ≡ openings first looks.now task stretches.now) }
 {
-    let mut told = Vec::with_capacity(alloc, spans.len())?;
-    for span in spans {
-        told.push(opening(alloc, first, looks, task, *span)?)?;
+    let mut found = Vec::with_capacity(alloc, stretches.len())?;
+    for stretch in stretches {
+        found.push(opening(alloc, first, looks, task, *stretch)?)?;
     }
-    Ok(told)
+    Ok(found)
 }
 
 /// The spans of a task that are drawn.
-pub(crate) fn told_spans(
+pub(crate) fn detailed_stretches(
     alloc: Global,
     detail: Detail,
     first: u32,
     looks: &[Look],
     task: u32,
-) -> Result<Vec<Span<Pose>>, AllocError>
+) -> Result<Vec<Stretch<Pose>>, AllocError>
     requires { first + length looks.now ≤ 2 ^ 32 }
-    ensures { IfOk result (λ spans. spans.items ≡ told_spans detail first looks.now task) }
+    ensures { IfOk result (λ stretches. stretches.items ≡ detailed_stretches detail first looks.now task) }
 {
     match detail {
-        Detail::EachPlace => pose_spans(alloc, first, looks, task),
+        Detail::EachPlace => pose_stretches(alloc, first, looks, task),
         Detail::FirstPlace => {
-            let stances = stance_spans(alloc, first, looks, task)?;
+            let stances = stance_stretches(alloc, first, looks, task)?;
             openings(alloc, first, looks, task, stances.as_slice())
         }
     }
@@ -152,12 +152,12 @@ pub(crate) fn stands_ready(stance: Stance) -> bool
 }
 
 // How many of the spans are of a ready task.
-fn count_ready(spans: &[Span<Pose>]) -> usize
-    ensures { result ≡ count_ready spans.now }
+fn count_ready(stretches: &[Stretch<Pose>]) -> usize
+    ensures { result ≡ count_ready stretches.now }
 {
-    spans
+    stretches
         .iter()
-        .filter(|span| stands_ready(span.value.stance))
+        .filter(|stretch| stands_ready(stretch.value.stance))
         .count()
 }
 
@@ -165,10 +165,10 @@ fn count_ready(spans: &[Span<Pose>]) -> usize
 fn count_pieces(alloc: Global, first: u32, looks: &[Look], task: u32) -> Result<usize, AllocError>
     requires { first + length looks.now ≤ 2 ^ 32 }
     ensures { IfOk result
-        (λ count. count ≡ count_ready (pose_spans first looks.now task)) }
+        (λ count. count ≡ count_ready (pose_stretches first looks.now task)) }
 {
-    let spans = pose_spans(alloc, first, looks, task)?;
-    Ok(count_ready(spans.as_slice()))
+    let stretches = pose_stretches(alloc, first, looks, task)?;
+    Ok(count_ready(stretches.as_slice()))
 }
 
 // What is told, as far as there are not too many stretches.

@@ -1,12 +1,12 @@
 //! Where the preemption of a task is off.
 ghost use Rattle.std.specs.Prelude.{◌≡◌, ◌++◌, ◌+◌, ◌≤◌, ◌^◌, IfOk, OnOk, flat_map, length, map, string_bytes};
-ghost use Rattle.run_pictures.specs.Preemption.{off_bar, off_bars, preempt_in, preempt_spans};
+ghost use Rattle.run_pictures.specs.Preemption.{off_bar, off_bars, preempt_in, preempt_stretches};
 
 use crate::bar::{Bar, push_bar, push_over};
 use crate::frame::Frame;
 use crate::ink::Ink;
-use crate::span::{Span, stretches};
 use crate::stance::status_in;
+use crate::stretch::{Stretch, stretches_of};
 use bench_types::Header;
 use run_views::Look;
 use std::alloc::{AllocError, Global};
@@ -20,18 +20,18 @@ fn preempts(alloc: Global, looks: &[Look], task: u32) -> Result<Vec<bool>, Alloc
         .collect(alloc)
 }
 
-#[tactic(auto, unfolding(crate::specs::Preemption::preempt_spans))]
-fn preempt_spans(
+#[tactic(auto, unfolding(crate::specs::Preemption::preempt_stretches))]
+fn preempt_stretches(
     alloc: Global,
     first: u32,
     looks: &[Look],
     task: u32,
-) -> Result<Vec<Span<bool>>, AllocError>
+) -> Result<Vec<Stretch<bool>>, AllocError>
     requires { first + length looks.now ≤ 2 ^ 32 }
-    ensures { IfOk result (λ spans. spans.items ≡ preempt_spans first looks.now task) }
+    ensures { IfOk result (λ stretches. stretches.items ≡ preempt_stretches first looks.now task) }
 {
     let values = preempts(alloc, looks, task)?;
-    stretches(alloc, first, values)
+    stretches_of(alloc, first, values)
 }
 
 // A stretch at which the task has its preemption off.
@@ -43,23 +43,23 @@ fn push_off(
     frame: &Frame,
     y: u64,
     task: u32,
-    span: Span<bool>,
+    stretch: Stretch<bool>,
 ) -> Result<(), AllocError>
     ensures { OnOk result
         (string_bytes text.new
-        ≡ string_bytes text.old ++ off_bar header.now frame.now y task span) }
+        ≡ string_bytes text.old ++ off_bar header.now frame.now y task stretch) }
 {
-    if span.value {
+    if stretch.value {
         return Ok(());
     }
     let mut words = String::new(alloc);
-    push_over(&mut words, span.first, span.last)?;
+    push_over(&mut words, stretch.first, stretch.last)?;
     header.push_name(&mut words, task)?;
     words.push_str(" preemption off")?;
     let bar = Bar {
         ink: Ink::Off,
-        first: span.first,
-        last: span.last,
+        first: stretch.first,
+        last: stretch.last,
         y,
         height: 3,
     };
@@ -73,14 +73,14 @@ fn push_each(
     frame: &Frame,
     y: u64,
     task: u32,
-    spans: &[Span<bool>],
+    stretches: &[Stretch<bool>],
 ) -> Result<(), AllocError>
     ensures { OnOk result
         (string_bytes text.new
-        ≡ string_bytes text.old ++ flat_map (off_bar header.now frame.now y task) spans.now) }
+        ≡ string_bytes text.old ++ flat_map (off_bar header.now frame.now y task) stretches.now) }
 {
-    for span in spans {
-        push_off(alloc, text, header, frame, y, task, *span)?;
+    for stretch in stretches {
+        push_off(alloc, text, header, frame, y, task, *stretch)?;
     }
     Ok(())
 }
@@ -101,6 +101,6 @@ pub(crate) fn push_offs(
         (string_bytes text.new
         ≡ string_bytes text.old ++ off_bars header.now frame.now y looks.now task) }
 {
-    let spans = preempt_spans(alloc, frame.first, looks, task)?;
-    push_each(alloc, text, header, frame, y, task, spans.as_slice())
+    let stretches = preempt_stretches(alloc, frame.first, looks, task)?;
+    push_each(alloc, text, header, frame, y, task, stretches.as_slice())
 }

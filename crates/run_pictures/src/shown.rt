@@ -4,7 +4,7 @@ ghost use Rattle.bench_model.specs.SameTest.{are_same_bools, are_same_holds, are
 ghost use Rattle.run_views.specs.Changes.{are_same_numbers};
 ghost use Rattle.run_pictures.specs.Same.{are_same_dues, are_same_priorities};
 
-use crate::span::Shade;
+use crate::stretch::StretchValue;
 use bench_types::Hold;
 
 /// By whom a core was asked to switch.
@@ -14,24 +14,24 @@ pub(crate) struct Due {
     pub(crate) asked: bool,
 }
 
-impl Shade for Due {
-    ghost use Rattle.run_pictures.specs.Shades.{dues_told};
+impl StretchValue for Due {
+    ghost use Rattle.run_pictures.specs.StretchValues.{dues_decided};
 
     ghost same = { are_same_dues };
 
-    ghost tells = { dues_told };
+    ghost tells = { dues_decided };
 
     fn is_same(&self, other: &Self) -> bool {
         is_same_flag(self.pend, other.pend) && is_same_flag(self.asked, other.asked)
     }
 }
 
-impl Shade for Option<Hold> {
-    ghost use Rattle.run_pictures.specs.Shades.{holds_told};
+impl StretchValue for Option<Hold> {
+    ghost use Rattle.run_pictures.specs.StretchValues.{holds_decided};
 
     ghost same = { are_same_options are_same_holds };
 
-    ghost tells = { holds_told };
+    ghost tells = { holds_decided };
 
     fn is_same(&self, other: &Self) -> bool {
         match (*self, *other) {
@@ -49,36 +49,36 @@ pub(crate) struct Priorities {
     pub(crate) base: u32,
 }
 
-impl Shade for Priorities {
-    ghost use Rattle.run_pictures.specs.Shades.{priorities_told};
+impl StretchValue for Priorities {
+    ghost use Rattle.run_pictures.specs.StretchValues.{priorities_decided};
 
     ghost same = { are_same_priorities };
 
-    ghost tells = { priorities_told };
+    ghost tells = { priorities_decided };
 
     fn is_same(&self, other: &Self) -> bool {
         self.in_use == other.in_use && self.base == other.base
     }
 }
 
-impl Shade for Option<u32> {
-    ghost use Rattle.run_pictures.specs.Shades.{holders_told};
+impl StretchValue for Option<u32> {
+    ghost use Rattle.run_pictures.specs.StretchValues.{holders_decided};
 
     ghost same = { are_same_numbers };
 
-    ghost tells = { holders_told };
+    ghost tells = { holders_decided };
 
     fn is_same(&self, other: &Self) -> bool {
         is_same_number(*self, *other)
     }
 }
 
-impl Shade for bool {
-    ghost use Rattle.run_pictures.specs.Shades.{flags_told};
+impl StretchValue for bool {
+    ghost use Rattle.run_pictures.specs.StretchValues.{flags_decided};
 
     ghost same = { are_same_bools };
 
-    ghost tells = { flags_told };
+    ghost tells = { flags_decided };
 
     fn is_same(&self, other: &Self) -> bool {
         is_same_flag(*self, *other)

@@ -219,8 +219,8 @@ fn is_used(panel: &Panel<'_>, sign: Sign) -> bool
 {
     let header = panel.header;
     let cores = header.config.cores;
-    let looks = panel.film.looks.as_slice();
-    let made = panel.film.made.as_slice();
+    let looks = panel.run_looks.looks.as_slice();
+    let made = panel.run_looks.made.as_slice();
     let first = panel.frame.first;
     let count = looks.len() as u32;
     match sign {

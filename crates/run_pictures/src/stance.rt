@@ -2,11 +2,11 @@
 ghost use Rattle.std.specs.Prelude.{◌≡◌, ◌+◌, ◌≤◌, ◌^◌, IfOk, length, map};
 ghost use Rattle.run_views.specs.Changes.{are_same_numbers};
 ghost use Rattle.run_pictures.specs.Same.{are_same_stances};
-ghost use Rattle.run_pictures.specs.Spans.{stance_spans};
+ghost use Rattle.run_pictures.specs.TaskStretches.{stance_stretches};
 ghost use Rattle.run_pictures.specs.Stances.{core_of, stance_in, status_in};
 
 use crate::shown::is_same_number;
-use crate::span::{Shade, Span, stretches};
+use crate::stretch::{Stretch, StretchValue, stretches_of};
 use bench_types::NoteState;
 use run_views::{Look, Standing, TaskStatus};
 use std::alloc::{AllocError, Global};
@@ -22,12 +22,12 @@ pub enum Stance {
     Blocked { wake: Option<u32> },
 }
 
-impl Shade for Stance {
-    ghost use Rattle.run_pictures.specs.Shades.{stances_told};
+impl StretchValue for Stance {
+    ghost use Rattle.run_pictures.specs.StretchValues.{stances_decided};
 
     ghost same = { are_same_stances };
 
-    ghost tells = { stances_told };
+    ghost tells = { stances_decided };
 
     fn is_same(&self, other: &Self) -> bool {
         is_same_stance(*self, *other)
@@ -96,16 +96,16 @@ fn stances(alloc: Global, looks: &[Look], task: u32) -> Result<Vec<Stance>, Allo
 }
 
 /// The spans of how the task stands.
-#[tactic(auto, unfolding(crate::specs::Spans::stance_spans))]
-pub(crate) fn stance_spans(
+#[tactic(auto, unfolding(crate::specs::TaskStretches::stance_stretches))]
+pub(crate) fn stance_stretches(
     alloc: Global,
     first: u32,
     looks: &[Look],
     task: u32,
-) -> Result<Vec<Span<Stance>>, AllocError>
+) -> Result<Vec<Stretch<Stance>>, AllocError>
     requires { first + length looks.now ≤ 2 ^ 32 }
-    ensures { IfOk result (λ spans. spans.items ≡ stance_spans first looks.now task) }
+    ensures { IfOk result (λ stretches. stretches.items ≡ stance_stretches first looks.now task) }
 {
     let values = stances(alloc, looks, task)?;
-    stretches(alloc, first, values)
+    stretches_of(alloc, first, values)
 }

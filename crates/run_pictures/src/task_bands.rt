@@ -1,21 +1,21 @@
 //! The bands of the tasks: where each runs, is ready or is blocked, and where it inherits a
 //! priority.
 ghost use Rattle.std.specs.Prelude.{◌≡◌, ◌++◌, ◌+◌, ◌<◌, ◌≤◌, ◌^◌, IfOk, OnOk, flat_map, length, map, string_bytes};
-ghost use Rattle.run_pictures.specs.Spans.{priorities_in, priority_spans};
-ghost use Rattle.run_pictures.specs.TaskBands.{blocked_label, inherited_bar, pose_bar, pose_words, reason_text, stance_label, stance_shape, stance_span, stance_text, stance_words, task_row, wait_name};
+ghost use Rattle.run_pictures.specs.TaskStretches.{priorities_in, priority_stretches};
+ghost use Rattle.run_pictures.specs.TaskBands.{blocked_label, inherited_bar, pose_bar, pose_words, reason_text, stance_label, stance_shape, stance_stretch, stance_text, stance_words, task_row, wait_name};
 
 use crate::bar::{Bar, Letters, push_bar, push_label, push_over};
 use crate::frame::Frame;
 use crate::hindrance_words::push_hindered;
 use crate::ink::Ink;
-use crate::pose::{Detail, Pose, told_spans};
+use crate::pose::{Detail, Pose, detailed_stretches};
 use crate::preemption::push_offs;
 use crate::shown::Priorities;
-use crate::span::{Span, stretches};
 use crate::stance::{Stance, status_in};
+use crate::stretch::{Stretch, stretches_of};
 use crate::task_names::push_task_name;
 use crate::waits::{Wait, last_wait};
-use crate::{Film, Made};
+use crate::{Made, RunLooks};
 use bench_types::Header;
 use run_views::{Look, Standing, push_standing};
 use std::alloc::{AllocError, Global};
@@ -39,18 +39,18 @@ fn priorities(alloc: Global, looks: &[Look], task: u32) -> Result<Vec<Priorities
         .collect(alloc)
 }
 
-#[tactic(auto, unfolding(crate::specs::Spans::priority_spans))]
-fn priority_spans(
+#[tactic(auto, unfolding(crate::specs::TaskStretches::priority_stretches))]
+fn priority_stretches(
     alloc: Global,
     first: u32,
     looks: &[Look],
     task: u32,
-) -> Result<Vec<Span<Priorities>>, AllocError>
+) -> Result<Vec<Stretch<Priorities>>, AllocError>
     requires { first + length looks.now ≤ 2 ^ 32 }
-    ensures { IfOk result (λ spans. spans.items ≡ priority_spans first looks.now task) }
+    ensures { IfOk result (λ stretches. stretches.items ≡ priority_stretches first looks.now task) }
 {
     let values = priorities(alloc, looks, task)?;
-    stretches(alloc, first, values)
+    stretches_of(alloc, first, values)
 }
 
 fn push_wait(text: &mut String, wait: Wait) -> Result<(), AllocError>
@@ -93,31 +93,31 @@ fn push_stance_words(
     header: &Header,
     task: u32,
     wait: Option<Wait>,
-    span: Span<Stance>,
+    stretch: Stretch<Stance>,
 ) -> Result<(), AllocError>
     ensures { OnOk result
         (string_bytes words.new
-        ≡ string_bytes words.old ++ stance_words header.now task wait span) }
+        ≡ string_bytes words.old ++ stance_words header.now task wait stretch) }
 {
-    push_over(words, span.first, span.last)?;
+    push_over(words, stretch.first, stretch.last)?;
     header.push_name(words, task)?;
-    push_stance_text(words, span.value, wait)
+    push_stance_text(words, stretch.value, wait)
 }
 
 // The bar of the user task of that index.
-fn stance_shape(user: u32, y: u64, span: Span<Stance>) -> Bar
+fn stance_shape(user: u32, y: u64, stretch: Stretch<Stance>) -> Bar
     requires { y < 2 ^ 40 }
-    ensures { result ≡ stance_shape user y span }
+    ensures { result ≡ stance_shape user y stretch }
 {
-    let (ink, down, height) = match span.value {
+    let (ink, down, height) = match stretch.value {
         Stance::Runs { .. } => (Ink::Runs(user), 4, 16),
         Stance::Ready => (Ink::Ready(user), 8, 8),
         Stance::Blocked { .. } => (Ink::Waits, 15, 4),
     };
     Bar {
         ink,
-        first: span.first,
-        last: span.last,
+        first: stretch.first,
+        last: stretch.last,
         y: y + down,
         height,
     }
@@ -161,13 +161,13 @@ fn push_stance_label(
     frame: &Frame,
     y: u64,
     wait: Option<Wait>,
-    span: Span<Stance>,
+    stretch: Stretch<Stance>,
 ) -> Result<(), AllocError>
     requires { y < 2 ^ 40 }
     ensures { OnOk result
-        (string_bytes text.new ≡ string_bytes text.old ++ stance_label frame.now y wait span) }
+        (string_bytes text.new ≡ string_bytes text.old ++ stance_label frame.now y wait stretch) }
 {
-    match span.value {
+    match stretch.value {
         Stance::Runs { core } => {
             let mut name = String::new(alloc);
             write!(name, "core {core}")?;
@@ -175,27 +175,27 @@ fn push_stance_label(
                 text,
                 frame,
                 Letters::Dark,
-                span.first,
-                span.last,
+                stretch.first,
+                stretch.last,
                 y + 16,
                 name.as_str(),
             )
         }
         Stance::Ready => Ok(()),
         Stance::Blocked { .. } => {
-            push_blocked_label(alloc, text, frame, y, span.first, span.last, wait)
+            push_blocked_label(alloc, text, frame, y, stretch.first, stretch.last, wait)
         }
     }
 }
 
 // The span without what is in the way.
-fn stance_span(span: &Span<Pose>) -> Span<Stance>
-    ensures { result ≡ stance_span span.now }
+fn stance_stretch(stretch: &Stretch<Pose>) -> Stretch<Stance>
+    ensures { result ≡ stance_stretch stretch.now }
 {
-    Span {
-        first: span.first,
-        last: span.last,
-        value: span.value.stance,
+    Stretch {
+        first: stretch.first,
+        last: stretch.last,
+        value: stretch.value.stance,
     }
 }
 
@@ -206,15 +206,15 @@ fn push_pose_words(
     task: u32,
     wait: Option<Wait>,
     detail: Detail,
-    span: &Span<Pose>,
+    stretch: &Stretch<Pose>,
 ) -> Result<(), AllocError>
     ensures { OnOk result
         (string_bytes words.new
-        ≡ string_bytes words.old ++ pose_words header.now task wait detail span.now) }
+        ≡ string_bytes words.old ++ pose_words header.now task wait detail stretch.now) }
 {
-    push_stance_words(words, header, task, wait, stance_span(span))?;
-    let hindrances = span.value.hindrances.as_slice();
-    push_hindered(alloc, words, header, detail, span.first, hindrances)
+    push_stance_words(words, header, task, wait, stance_stretch(stretch))?;
+    let hindrances = stretch.value.hindrances.as_slice();
+    push_hindered(alloc, words, header, detail, stretch.first, hindrances)
 }
 
 // A stretch at which the task stands alike, and the same is in its way.
@@ -228,18 +228,18 @@ fn push_pose(
     task: u32,
     made: &[Made],
     detail: Detail,
-    span: &Span<Pose>,
+    stretch: &Stretch<Pose>,
 ) -> Result<(), AllocError>
     requires { y < 2 ^ 40 }
     ensures { OnOk result
         (string_bytes text.new
         ≡ string_bytes text.old
-        ++ pose_bar header.now frame.now y task made.now detail span.now) }
+        ++ pose_bar header.now frame.now y task made.now detail stretch.now) }
 {
-    let wait = last_wait(task, made, span.first);
-    let standing = stance_span(span);
+    let wait = last_wait(task, made, stretch.first);
+    let standing = stance_stretch(stretch);
     let mut words = String::new(alloc);
-    push_pose_words(alloc, &mut words, header, task, wait, detail, span)?;
+    push_pose_words(alloc, &mut words, header, task, wait, detail, stretch)?;
     let user = task.saturating_sub(header.config.cores);
     push_bar(text, frame, stance_shape(user, y, standing), words.as_str())?;
     push_stance_label(alloc, text, frame, y, wait, standing)
@@ -254,16 +254,16 @@ fn push_poses(
     task: u32,
     made: &[Made],
     detail: Detail,
-    spans: &[Span<Pose>],
+    stretches: &[Stretch<Pose>],
 ) -> Result<(), AllocError>
     requires { y < 2 ^ 40 }
     ensures { OnOk result
         (string_bytes text.new
         ≡ string_bytes text.old
-        ++ flat_map (pose_bar header.now frame.now y task made.now detail) spans.now) }
+        ++ flat_map (pose_bar header.now frame.now y task made.now detail) stretches.now) }
 {
-    for span in spans {
-        push_pose(alloc, text, header, frame, y, task, made, detail, span)?;
+    for stretch in stretches {
+        push_pose(alloc, text, header, frame, y, task, made, detail, stretch)?;
     }
     Ok(())
 }
@@ -277,25 +277,25 @@ fn push_inherited(
     frame: &Frame,
     y: u64,
     task: u32,
-    span: Span<Priorities>,
+    stretch: Stretch<Priorities>,
 ) -> Result<(), AllocError>
     requires { y < 2 ^ 40 }
     ensures { OnOk result
         (string_bytes text.new
-        ≡ string_bytes text.old ++ inherited_bar header.now frame.now y task span) }
+        ≡ string_bytes text.old ++ inherited_bar header.now frame.now y task stretch) }
 {
-    let Priorities { in_use, base } = span.value;
+    let Priorities { in_use, base } = stretch.value;
     if in_use == base {
         return Ok(());
     }
     let mut words = String::new(alloc);
-    push_over(&mut words, span.first, span.last)?;
+    push_over(&mut words, stretch.first, stretch.last)?;
     header.push_name(&mut words, task)?;
     write!(words, " priority in use {in_use}, base priority {base}")?;
     let bar = Bar {
         ink: Ink::Inherited,
-        first: span.first,
-        last: span.last,
+        first: stretch.first,
+        last: stretch.last,
         y: y + 20,
         height: 3,
     };
@@ -309,15 +309,15 @@ fn push_inheritances(
     frame: &Frame,
     y: u64,
     task: u32,
-    spans: &[Span<Priorities>],
+    stretches: &[Stretch<Priorities>],
 ) -> Result<(), AllocError>
     requires { y < 2 ^ 40 }
     ensures { OnOk result
         (string_bytes text.new
-        ≡ string_bytes text.old ++ flat_map (inherited_bar header.now frame.now y task) spans.now) }
+        ≡ string_bytes text.old ++ flat_map (inherited_bar header.now frame.now y task) stretches.now) }
 {
-    for span in spans {
-        push_inherited(alloc, text, header, frame, y, task, *span)?;
+    for stretch in stretches {
+        push_inherited(alloc, text, header, frame, y, task, *stretch)?;
     }
     Ok(())
 }
@@ -330,23 +330,23 @@ pub(crate) fn push_task_row(
     header: &Header,
     frame: &Frame,
     y: u64,
-    film: &Film,
+    run_looks: &RunLooks,
     detail: Detail,
     task: u32,
 ) -> Result<(), AllocError>
     requires y { y < 2 ^ 40 }
-    requires few { frame.now.first + length film.now.looks ≤ 2 ^ 32 }
+    requires few { frame.now.first + length run_looks.now.looks ≤ 2 ^ 32 }
     ensures { OnOk result
         (string_bytes text.new
-        ≡ string_bytes text.old ++ task_row header.now frame.now y film.now detail task) }
+        ≡ string_bytes text.old ++ task_row header.now frame.now y run_looks.now detail task) }
 {
-    let looks = film.looks.as_slice();
-    let made = film.made.as_slice();
+    let looks = run_looks.looks.as_slice();
+    let made = run_looks.made.as_slice();
     push_task_name(alloc, text, header, frame.first, y, looks, task)?;
-    let poses = told_spans(alloc, detail, frame.first, looks, task)?;
-    let spans = poses.as_slice();
-    push_poses(alloc, text, header, frame, y, task, made, detail, spans)?;
-    let priorities = priority_spans(alloc, frame.first, looks, task)?;
+    let poses = detailed_stretches(alloc, detail, frame.first, looks, task)?;
+    let stretches = poses.as_slice();
+    push_poses(alloc, text, header, frame, y, task, made, detail, stretches)?;
+    let priorities = priority_stretches(alloc, frame.first, looks, task)?;
     push_inheritances(alloc, text, header, frame, y, task, priorities.as_slice())?;
     push_offs(alloc, text, header, frame, y, looks, task)
 }

@@ -3,13 +3,13 @@ ghost use Rattle.std.specs.Prelude.{◌≡◌, ◌++◌, ◌+◌, ◌<◌, ◌�
 ghost use Rattle.std.specs.List.{list_all};
 ghost use Rattle.list_orders.specs.Search.{numbers};
 ghost use Rattle.run_pictures.specs.Same.{are_same_terms};
-ghost use Rattle.run_pictures.specs.TaskNames.{all_told, has_all, later_text, line_text, mask_text, task_name, terms_in, terms_line, terms_part, terms_spans, terms_text, title_text};
+ghost use Rattle.run_pictures.specs.TaskNames.{all_printed, has_all, later_text, line_text, mask_text, task_name, terms_in, terms_line, terms_part, terms_stretches, terms_text, title_text};
 
 use crate::bar::{Letters, push_name, push_origin, push_over};
 use crate::escape::push_escaped;
 use crate::hindrance::has_core;
-use crate::span::{Shade, Span, stretches};
 use crate::stance::status_in;
+use crate::stretch::{Stretch, StretchValue, stretches_of};
 use bench_types::Header;
 use run_views::Look;
 use std::alloc::{AllocError, Global};
@@ -22,12 +22,12 @@ pub(crate) struct Terms {
     pub(crate) mask: u32,
 }
 
-impl Shade for Terms {
-    ghost use Rattle.run_pictures.specs.Shades.{terms_told};
+impl StretchValue for Terms {
+    ghost use Rattle.run_pictures.specs.StretchValues.{terms_decided};
 
     ghost same = { are_same_terms };
 
-    ghost tells = { terms_told };
+    ghost tells = { terms_decided };
 
     fn is_same(&self, other: &Self) -> bool {
         self.base == other.base && self.mask == other.mask
@@ -50,18 +50,18 @@ fn all_terms(alloc: Global, looks: &[Look], task: u32) -> Result<Vec<Terms>, All
     looks.iter().map(|look| terms_in(look, task)).collect(alloc)
 }
 
-#[tactic(auto, unfolding(crate::specs::TaskNames::terms_spans))]
-fn terms_spans(
+#[tactic(auto, unfolding(crate::specs::TaskNames::terms_stretches))]
+fn terms_stretches(
     alloc: Global,
     first: u32,
     looks: &[Look],
     task: u32,
-) -> Result<Vec<Span<Terms>>, AllocError>
+) -> Result<Vec<Stretch<Terms>>, AllocError>
     requires { first + length looks.now ≤ 2 ^ 32 }
-    ensures { IfOk result (λ spans. spans.items ≡ terms_spans first looks.now task) }
+    ensures { IfOk result (λ stretches. stretches.items ≡ terms_stretches first looks.now task) }
 {
     let values = all_terms(alloc, looks, task)?;
-    stretches(alloc, first, values)
+    stretches_of(alloc, first, values)
 }
 
 fn has_all(mask: u32, cores: u32) -> bool
@@ -91,37 +91,37 @@ fn push_terms(text: &mut String, cores: u32, terms: Terms) -> Result<(), AllocEr
 
 // A stretch, on a line of its own.
 #[tactic(auto, unfolding(crate::specs::TaskNames::terms_part))]
-fn push_part(text: &mut String, cores: u32, span: Span<Terms>) -> Result<(), AllocError>
-    ensures { OnOk result (string_bytes text.new ≡ string_bytes text.old ++ terms_part cores span) }
+fn push_part(text: &mut String, cores: u32, stretch: Stretch<Terms>) -> Result<(), AllocError>
+    ensures { OnOk result (string_bytes text.new ≡ string_bytes text.old ++ terms_part cores stretch) }
 {
     text.push_str("\n")?;
-    push_over(text, span.first, span.last)?;
-    push_terms(text, cores, span.value)
+    push_over(text, stretch.first, stretch.last)?;
+    push_terms(text, cores, stretch.value)
 }
 
-#[tactic(auto, unfolding(crate::specs::TaskNames::all_told))]
-fn push_told(
+#[tactic(auto, unfolding(crate::specs::TaskNames::all_printed))]
+fn push_printed(
     text: &mut String,
     header: &Header,
     task: u32,
-    spans: &[Span<Terms>],
+    stretches: &[Stretch<Terms>],
 ) -> Result<(), AllocError>
     ensures { OnOk result
-        (string_bytes text.new ≡ string_bytes text.old ++ all_told header.now task spans.now) }
+        (string_bytes text.new ≡ string_bytes text.old ++ all_printed header.now task stretches.now) }
 {
     header.push_name(text, task)?;
-    for span in spans {
-        push_part(text, header.config.cores, *span)?;
+    for stretch in stretches {
+        push_part(text, header.config.cores, *stretch)?;
     }
     Ok(())
 }
 
 // That there are later stretches.
 #[tactic(auto, unfolding(crate::specs::TaskNames::later_text))]
-fn push_later(text: &mut String, spans: &[Span<Terms>]) -> Result<(), AllocError>
-    ensures { OnOk result (string_bytes text.new ≡ string_bytes text.old ++ later_text spans.now) }
+fn push_later(text: &mut String, stretches: &[Stretch<Terms>]) -> Result<(), AllocError>
+    ensures { OnOk result (string_bytes text.new ≡ string_bytes text.old ++ later_text stretches.now) }
 {
-    if spans.len() < 2 {
+    if stretches.len() < 2 {
         return Ok(());
     }
     text.push_str(" ..")
@@ -146,17 +146,17 @@ fn push_line(
     y: u64,
     task: u32,
     terms: Terms,
-    spans: &[Span<Terms>],
+    stretches: &[Stretch<Terms>],
 ) -> Result<(), AllocError>
     ensures { OnOk result
         (string_bytes text.new
-        ≡ string_bytes text.old ++ line_text header.now y task terms spans.now) }
+        ≡ string_bytes text.old ++ line_text header.now y task terms stretches.now) }
 {
     push_origin(text, Letters::Small, 8, y)?;
     push_terms(text, header.config.cores, terms)?;
-    push_later(text, spans)?;
+    push_later(text, stretches)?;
     let mut words = String::new(alloc);
-    push_told(&mut words, header, task, spans)?;
+    push_printed(&mut words, header, task, stretches)?;
     push_title(text, words.as_str())
 }
 
@@ -166,14 +166,14 @@ fn push_terms_line(
     header: &Header,
     y: u64,
     task: u32,
-    spans: &[Span<Terms>],
+    stretches: &[Stretch<Terms>],
 ) -> Result<(), AllocError>
     ensures { OnOk result
         (string_bytes text.new
-        ≡ string_bytes text.old ++ terms_line header.now y task spans.now) }
+        ≡ string_bytes text.old ++ terms_line header.now y task stretches.now) }
 {
-    match spans.first() {
-        Some(span) => push_line(alloc, text, header, y, task, span.value, spans),
+    match stretches.first() {
+        Some(stretch) => push_line(alloc, text, header, y, task, stretch.value, stretches),
         None => Ok(()),
     }
 }
@@ -198,6 +198,6 @@ pub(crate) fn push_task_name(
     let mut name = String::new(alloc);
     header.push_name(&mut name, task)?;
     push_name(text, y + 16, name.as_str())?;
-    let spans = terms_spans(alloc, first, looks, task)?;
-    push_terms_line(alloc, text, header, y + 32, task, spans.as_slice())
+    let stretches = terms_stretches(alloc, first, looks, task)?;
+    push_terms_line(alloc, text, header, y + 32, task, stretches.as_slice())
 }

@@ -1,6 +1,6 @@
 //! What a blocked task waits for.
 ghost use Rattle.std.specs.Prelude.{◌≡◌};
-ghost use Rattle.run_pictures.specs.Waits.{is_refused, last_wait, wait_at, wait_begun, wait_of};
+ghost use Rattle.run_pictures.specs.Waits.{is_refused, last_wait, wait_at, wait_entered, wait_of};
 
 use crate::Made;
 use bench_types::{Call, Reply, Step};
@@ -37,8 +37,8 @@ pub(crate) fn is_refused(reply: Reply) -> bool
     }
 }
 
-fn wait_begun(task: u32, made: Made) -> Option<Wait>
-    ensures { result ≡ wait_begun task made }
+fn wait_entered(task: u32, made: Made) -> Option<Wait>
+    ensures { result ≡ wait_entered task made }
 {
     let Step::Call {
         task: caller,
@@ -59,7 +59,7 @@ fn wait_at(task: u32, made: &[Made], place: u32) -> Option<Wait>
     ensures { result ≡ wait_at task made.now place }
 {
     match made.get(place as usize) {
-        Some(made) => wait_begun(task, *made),
+        Some(made) => wait_entered(task, *made),
         None => None,
     }
 }

@@ -1,5 +1,6 @@
 -- The JSON of figures has no floats.
-use Rattle.std.proofs.Common.{◌≡◌, ℕ, ℤ, pos, negsuc, Bool, true, false, ◌||◌, List, [], ◌∷◌, length, refl, Option, Some, None, Ordering, Less, Equal, Greater, nat_cmp}
+use Rattle.std.proofs.Common.{◌≡◌, ℕ, ℤ, pos, negsuc, Bool, true, false, ◌||◌, List, [], ◌∷◌, length, refl, Option, Some, None, Ordering, Less, Equal, Greater}
+use Rattle.std.proofs.Common.{nat_cmp}
 use Rattle.std.specs.Prelude.{fold}
 use Rattle.std.specs.Ordering.{match_ordering}
 use Rattle.std.specs.Cmp.Lexicographic.{slice_cmp}
@@ -12,7 +13,8 @@ use Rattle.run_reports.specs.declared.figures.Figure.{Figure}
 use Rattle.run_reports.specs.declared.figures.Part.{Part}
 use Rattle.run_reports.specs.declared.figures.Part.TheVariants.{Total, Longest}
 use Rattle.run_reports.specs.Names.{figure_name}
-use Rattle.run_reports.specs.Objects.{change_at, changes_data, figures_data, pair_data, places_data, put_place, run_data, values_data, with_change, with_place, with_value}
+use Rattle.run_reports.specs.Objects.{change_at, changes_data, figures_data, pair_data, places_data, put_place, run_data, values_data, with_change, with_place}
+use Rattle.run_reports.specs.Objects.{with_value}
 use Rattle.run_reports.specs.Table.{name_at}
 
 abbrev IsFree : Members → Type 0
@@ -39,7 +41,8 @@ put_free k d (member l e rest) whole free =
     (both_free (has_float d) (members_have_float rest) whole parts.1)
     (both_free (has_float e) (members_have_float (put k d rest)) parts.0 (put_free k d rest whole parts.1))
 
-fold_free : {X : Type 0} (f : Members → X → Members) (xs : List X) (start : Members) → ((members : Members) (x : X) → IsFree members → IsFree (f members x)) → IsFree start → IsFree (fold f start xs)
+fold_free : {X : Type 0} (f : Members → X → Members) (xs : List X) (start : Members) → ((members : Members) (x : X) → IsFree members → IsFree (f members x)) →
+    IsFree start → IsFree (fold f start xs)
 fold_free f [] start keeps free = free
 fold_free f (x ∷ xs) start keeps free = fold_free f xs (f start x) keeps (keeps start x free)
 
@@ -67,7 +70,8 @@ module _ (header : Header) where
   changes_free : (before after : List Figure) → has_float (changes_data header before after) ≡ false
   changes_free before after =
       fold_free (with_change header before after) (numbers (length before)) no_members
-      (λ members index free. put_free (name_at header before index) (number (of_integer (change_at before after index))) members (integer_free (change_at before after index)) free) refl
+      (λ members index free. put_free (name_at header before index) (number (of_integer (change_at before after index))) members
+      (integer_free (change_at before after index)) free) refl
 
   pub run_free : (figures : List Figure) (settled : Bool) → has_float (run_data header figures settled) ≡ false
   run_free figures settled = rw (places_free figures, values_free figures) refl

@@ -12,7 +12,8 @@ use Rattle.run_numbers.specs.declared.subject.Condition.TheVariants.{RunningOn, 
 use Rattle.run_numbers.specs.declared.subject.Subject.{Subject}
 use Rattle.run_numbers.specs.declared.subject.Subject.TheVariants.{Ticks, NotMade}
 use Rattle.run_numbers.specs.Readings.{IsSubjectOf}
-use Rattle.run_reports.specs.Subjects.{on_core, off_core, blocked_on, steps_of, refusals_of, task_subjects, user_subjects, core_subjects, mutex_subjects, subjects_of}
+use Rattle.run_reports.specs.Subjects.{on_core, off_core, blocked_on, steps_of, refusals_of, task_subjects, user_subjects, core_subjects, mutex_subjects}
+use Rattle.run_reports.specs.Subjects.{subjects_of}
 
 all_map : {X : Type 0} (P : X → Type 0) (f : ℕ → X) (ns : List ℕ) → AllByRecursion (λ n. P (f n)) ns → AllByRecursion P (map f ns)
 all_map P f [] each = tt
@@ -33,7 +34,8 @@ module _ (header : Header) where
       (below, all_map Fits (λ core. Ticks (RunningOn task core)) (numbers header.config.cores) (numbers_below header.config.cores)) in
       let off : AllByRecursion Fits (off_core task) = (below, (below, (below, (below, (below, (below, tt)))))) in
       let blocked : AllByRecursion Fits (blocked_on header.config.mutexes task) =
-      all_map Fits (λ mutex. Ticks (Blocked task (Mutex mutex))) (numbers header.config.mutexes) (All_each (λ (mutex : ℕ). task < header.config.cores + length header.tasks) (λ mutex. below) (numbers header.config.mutexes)) in
+      all_map Fits (λ mutex. Ticks (Blocked task (Mutex mutex))) (numbers header.config.mutexes)
+      (All_each (λ (mutex : ℕ). task < header.config.cores + length header.tasks) (λ mutex. below) (numbers header.config.mutexes)) in
       let steps : AllByRecursion Fits (steps_of task) = (tt, (below, (below, (tt, tt)))) in
       let refused : AllByRecursion Fits (refusals_of task) = (tt, (tt, (tt, (tt, (tt, (tt, (tt, (tt, (tt, tt))))))))) in
       let last : AllByRecursion Fits (NotMade task ∷ []) = (tt, tt) in
@@ -52,17 +54,20 @@ module _ (header : Header) where
   users_fit : AllByRecursion Fits (user_subjects header.config (length header.tasks))
   users_fit =
       all_flat_map Fits (λ user. task_subjects header.config (header.config.cores + user)) (numbers (length header.tasks))
-      (All-weaker (λ user. user < length header.tasks) (λ user. AllByRecursion Fits (task_subjects header.config (header.config.cores + user))) (λ user below. task_fits (header.config.cores + user) (omega arith)) (numbers (length header.tasks)) (numbers_below (length header.tasks)))
+      (All-weaker (λ user. user < length header.tasks) (λ user. AllByRecursion Fits (task_subjects header.config (header.config.cores + user)))
+      (λ user below. task_fits (header.config.cores + user) (omega arith)) (numbers (length header.tasks)) (numbers_below (length header.tasks)))
 
   cores_fit : AllByRecursion Fits (flat_map core_subjects (numbers header.config.cores))
   cores_fit =
       all_flat_map Fits core_subjects (numbers header.config.cores)
-      (All-weaker (λ core. core < header.config.cores) (λ core. AllByRecursion Fits (core_subjects core)) (λ core below. (below, (below, (below, tt)))) (numbers header.config.cores) (numbers_below header.config.cores))
+      (All-weaker (λ core. core < header.config.cores) (λ core. AllByRecursion Fits (core_subjects core)) (λ core below. (below, (below, (below, tt))))
+      (numbers header.config.cores) (numbers_below header.config.cores))
 
   mutexes_fit : AllByRecursion Fits (flat_map mutex_subjects (numbers header.config.mutexes))
   mutexes_fit =
       all_flat_map Fits mutex_subjects (numbers header.config.mutexes)
-      (All-weaker (λ mutex. mutex < header.config.mutexes) (λ mutex. AllByRecursion Fits (mutex_subjects mutex)) (λ mutex below. (below, (tt, tt))) (numbers header.config.mutexes) (numbers_below header.config.mutexes))
+      (All-weaker (λ mutex. mutex < header.config.mutexes) (λ mutex. AllByRecursion Fits (mutex_subjects mutex)) (λ mutex below. (below, (tt, tt)))
+      (numbers header.config.mutexes) (numbers_below header.config.mutexes))
 
   pub subjects_fit : All (IsSubjectOf (settings_of header)) (subjects_of header)
   subjects_fit =

@@ -13,7 +13,8 @@ module _ {X C : Type 0} (of_item : ℕ → C → Change) (changes : X → X → 
   changes_from i olds news = changes_each of_item changes i (drop i olds) (drop i news)
 
   -- the changes of an item that both lists have, and then those of the items after it
-  pub item_named : (i : ℕ) (olds news : List X) (d e : X) (before after all : List Change) → i < length olds → i < length news → after ≡ before ++ map (of_item i) (changes (get_or olds i d) (get_or news i e)) → before ++ changes_from i olds news ≡ all → after ++ changes_from (i + 1) olds news ≡ all
+  pub item_named : (i : ℕ) (olds news : List X) (d e : X) (before after all : List Change) → i < length olds → i < length news → after ≡ before ++ map
+      (of_item i) (changes (get_or olds i d) (get_or news i e)) → before ++ changes_from i olds news ≡ all → after ++ changes_from (i + 1) olds news ≡ all
   item_named i olds news d e before after all early there named were =
       let here : changes_from i olds news ≡ map (of_item i) (changes (get_or olds i d) (get_or news i e)) ++ changes_from (i + 1) olds news =
       rw (add-one, drop-cons olds i d early, drop-cons news i e there) in
@@ -26,18 +27,23 @@ module _ {X C : Type 0} (of_item : ℕ → C → Change) (changes : X → X → 
   ended number (old ∷ olds) = λ i. []
 
   -- no change of an item that the second list has not
-  pub item_missing : (i : ℕ) (olds news : List X) (before after all : List Change) → length news ≤ i → after ≡ before → before ++ changes_from i olds news ≡ all → after ++ changes_from (i + 1) olds news ≡ all
+  pub item_missing : (i : ℕ) (olds news : List X) (before after all : List Change) → length news ≤ i → after ≡ before → before ++ changes_from i olds news ≡ all
+      → after ++ changes_from (i + 1) olds news ≡ all
   item_missing i olds news before after all past kept were =
       let later : length news ≤ i + 1 = omega arith in
-      let none : changes_from i olds news ≡ [] = ap (λ rest. changes_each of_item changes i (drop i olds) rest) (drop_all i news past) ∙ ended i (drop i olds) in
-      let no_more : changes_from (i + 1) olds news ≡ [] = ap (λ rest. changes_each of_item changes (i + 1) (drop (i + 1) olds) rest) (drop_all (i + 1) news later) ∙ ended (i + 1) (drop (i + 1) olds) in
+      let none : changes_from i olds news ≡ [] = ap (λ rest. changes_each of_item changes i (drop i olds) rest) (drop_all i news past) ∙ ended i (drop i olds)
+      in
+      let no_more : changes_from (i + 1) olds news ≡ [] = ap (λ rest. changes_each of_item changes (i + 1) (drop (i + 1) olds) rest)
+      (drop_all (i + 1) news later) ∙ ended (i + 1) (drop (i + 1) olds) in
       cc (were, kept, none, no_more)
 
 -- the changes of the notifications from the index behind one on
 abbrev pub further_from : ℕ → List (List Notification) → List (List Notification) → List Change
 further_from i olds news = further_changes (i + 1) (drop i olds) (drop i news)
 
-pub further_named : (i : ℕ) (olds news : List (List Notification)) (d e : List Notification) (before after all : List Change) → i < length olds → i < length news → after ≡ before ++ changes_each (Further (i + 1)) note_changes 0 (get_or olds i d) (get_or news i e) → before ++ further_from i olds news ≡ all → after ++ further_from (i + 1) olds news ≡ all
+pub further_named : (i : ℕ) (olds news : List (List Notification)) (d e : List Notification) (before after all : List Change) → i < length olds → i < length
+    news → after ≡ before ++ changes_each (Further (i + 1)) note_changes 0 (get_or olds i d) (get_or news i e) → before ++ further_from i olds news ≡ all →
+    after ++ further_from (i + 1) olds news ≡ all
 further_named i olds news d e before after all early there named were =
     let here : further_from i olds news ≡ changes_each (Further (i + 1)) note_changes 0 (get_or olds i d) (get_or news i e) ++ further_from (i + 1) olds news =
     rw (add-one, add-one, drop-cons olds i d early, drop-cons news i e there) in
@@ -50,9 +56,12 @@ none_further index [] = λ i. []
 none_further index (old ∷ olds) = λ i. []
 
 -- no change of notifications that the second look has not
-pub further_missing : (i : ℕ) (olds news : List (List Notification)) (before after all : List Change) → length news ≤ i → after ≡ before → before ++ further_from i olds news ≡ all → after ++ further_from (i + 1) olds news ≡ all
+pub further_missing : (i : ℕ) (olds news : List (List Notification)) (before after all : List Change) → length news ≤ i → after ≡ before → before ++
+    further_from i olds news ≡ all → after ++ further_from (i + 1) olds news ≡ all
 further_missing i olds news before after all past kept were =
     let later : length news ≤ i + 1 = omega arith in
-    let none : further_from i olds news ≡ [] = ap (λ rest. further_changes (i + 1) (drop i olds) rest) (drop_all i news past) ∙ none_further (i + 1) (drop i olds) in
-    let no_more : further_from (i + 1) olds news ≡ [] = ap (λ rest. further_changes (i + 1 + 1) (drop (i + 1) olds) rest) (drop_all (i + 1) news later) ∙ none_further (i + 1 + 1) (drop (i + 1) olds) in
+    let none : further_from i olds news ≡ [] = ap (λ rest. further_changes (i + 1) (drop i olds) rest) (drop_all i news past) ∙ none_further (i + 1)
+    (drop i olds) in
+    let no_more : further_from (i + 1) olds news ≡ [] = ap (λ rest. further_changes (i + 1 + 1) (drop (i + 1) olds) rest) (drop_all (i + 1) news later) ∙
+    none_further (i + 1 + 1) (drop (i + 1) olds) in
     cc (were, kept, none, no_more)

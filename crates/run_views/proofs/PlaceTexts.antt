@@ -1,5 +1,6 @@
 -- What a trace tells of the places so far, and of all of them.
-use Rattle.std.proofs.Common.{◌≡◌, ℕ, zero, suc, ◌+◌, ◌<◌, ◌≤◌, ◌^◌, List, [], ◌∷◌, ◌++◌, length, map, filter, flat_map, drop, get_or, Bool, true, false, refl, subst, sym, ap, ◌∙◌, append_assoc, add-one, arith}
+use Rattle.std.proofs.Common.{◌≡◌, ℕ, zero, suc, ◌+◌, ◌<◌, ◌≤◌, ◌^◌, List, [], ◌∷◌, ◌++◌, length, map, filter, flat_map, drop, get_or, Bool, true, false, refl}
+use Rattle.std.proofs.Common.{subst, sym, ap, ◌∙◌, append_assoc, add-one, arith}
 use Rattle.std.specs.Prelude.{◌&&◌, Option, if◌then◌else◌}
 use Rattle.std.proofs.Math.Seq.{drop-cons}
 use Rattle.std.proofs.lemmas.Grind.{flat_map-append}
@@ -21,24 +22,28 @@ use Rattle.run_views.specs.declared.places.Places.{Places}
 use Rattle.run_views.specs.Changes.{changes}
 use Rattle.run_views.specs.Looks.{look_of}
 use Rattle.run_views.specs.PlaceTexts.{everything, lines_of_step, place_text, place_texts, shown_text}
-use Rattle.run_views.specs.Trace.{place_line, place_part, shows, step_lines, step_part, told_at, told_from, told_part, trace_text, Shows}
+use Rattle.run_views.specs.Trace.{place_line, place_part, shows, step_lines, step_part, printed_at, printed_from, printed_part, trace_text, Shows}
 use Rattle.run_views.proofs.States.{made_of, made_of_more, next_state, shown_few}
 
 -- ---- a loop over the steps
 
-pub record TextsSoFar (places : Places) (header : Header) (first : View) (steps : List Step) (old texts : List (List ℕ)) (kernel : View) (look : Look) (place : ℕ) : Type 0 where
+pub record TextsSoFar (places : Places) (header : Header) (first : View) (steps : List Step) (old texts : List (List ℕ)) (kernel : View) (look : Look)
+    (place : ℕ) : Type 0 where
   pub seen : Shows kernel look
   pub settings : kernel.settings ≡ first.settings
   pub stands : StandsFor kernel (state_at header steps place)
-  pub told : texts ≡ old ++ made_of (shows places) (place_text places header steps) place
+  pub printed : texts ≡ old ++ made_of (shows places) (place_text places header steps) place
 
-pub none_told : (places : Places) (header : Header) (first : View) (steps : List Step) (texts : List (List ℕ)) (look : Look) → StandsFor first (start header) → Shows first look → TextsSoFar places header first steps texts texts first look 0
+pub none_printed : (places : Places) (header : Header) (first : View) (steps : List Step) (texts : List (List ℕ)) (look : Look) → StandsFor first (start header)
+    → Shows first look → TextsSoFar places header first steps texts texts first look 0
 unfolding state_at
-none_told places header first steps texts look starts seen = record { seen = seen; settings = refl; stands = starts; told = sym (append-nil texts) }
+none_printed places header first steps texts look starts seen = record { seen = seen; settings = refl; stands = starts; printed = sym (append-nil texts) }
 
 -- a place at which a step is made
-text_here : (places : Places) (header : Header) (steps : List Step) (place : ℕ) (d : Step) (look : Look) (reply : Reply) (some : List Change) → place < length steps → look ≡ look_of (state_at header steps place) → reply ≡ (step_of (get_or steps place d) (state_at header steps place)).0
-    → some ≡ changes (look_of (state_at header steps place)) (look_of (step_of (get_or steps place d) (state_at header steps place)).1) → place_line header place look ++ step_part places header place (get_or steps place d) reply some ≡ place_text places header steps place
+text_here : (places : Places) (header : Header) (steps : List Step) (place : ℕ) (d : Step) (look : Look) (reply : Reply) (some : List Change) → place < length
+    steps → look ≡ look_of (state_at header steps place) → reply ≡ (step_of (get_or steps place d) (state_at header steps place)).0
+    → some ≡ changes (look_of (state_at header steps place)) (look_of (step_of (get_or steps place d) (state_at header steps place)).1) → place_line header
+    place look ++ step_part places header place (get_or steps place d) reply some ≡ place_text places header steps place
 unfolding place_text
 text_here places header steps place d look reply some early look_is reply_is some_is =
     let state = state_at header steps place in
@@ -46,10 +51,12 @@ text_here places header steps place d look reply some early look_is reply_is som
     ap (λ (l : Look). place_line header place l ++ step_part places header place step reply some) look_is
     ∙ ap (λ (r : Reply). place_line header place (look_of state) ++ step_part places header place step r some) reply_is
     ∙ ap (λ (cs : List Change). place_line header place (look_of state) ++ step_part places header place step (step_of step state).0 cs) some_is
-    ∙ ap (λ (one : Option Step). place_line header place (look_of state) ++ lines_of_step places header place state one) (sym (slice_get-get_or steps place d early))
+    ∙ ap (λ (one : Option Step). place_line header place (look_of state) ++ lines_of_step places header place state one)
+    (sym (slice_get-get_or steps place d early))
 
 -- the end, at which none is made
-text_there : (places : Places) (header : Header) (steps : List Step) (place : ℕ) (look : Look) → length steps ≤ place → look ≡ look_of (state_at header steps place) → place_line header place look ≡ place_text places header steps place
+text_there : (places : Places) (header : Header) (steps : List Step) (place : ℕ) (look : Look) → length steps ≤ place → look ≡ look_of
+    (state_at header steps place) → place_line header place look ≡ place_text places header steps place
 unfolding place_text
 text_there places header steps place look late look_is =
     let state = state_at header steps place in
@@ -58,7 +65,8 @@ text_there places header steps place look late look_is =
     ∙ ap (λ (one : Option Step). place_line header place (look_of state) ++ lines_of_step places header place state one) (sym (slice_get_past steps place late))
 
 -- the text of one place more
-one_more : (places : Places) (header : Header) (steps : List Step) (old texts next : List (List ℕ)) (place : ℕ) (text : List ℕ) → texts ≡ old ++ made_of (shows places) (place_text places header steps) place → next ≡ texts ++ shown_text places place text → text ≡ place_text places header steps place
+one_more : (places : Places) (header : Header) (steps : List Step) (old texts next : List (List ℕ)) (place : ℕ) (text : List ℕ) → texts ≡ old ++ made_of
+    (shows places) (place_text places header steps) place → next ≡ texts ++ shown_text places place text → text ≡ place_text places header steps place
     → next ≡ old ++ made_of (shows places) (place_text places header steps) (place + 1)
 one_more places header steps old texts next place text were pushed is =
     let f = place_text places header steps in
@@ -66,7 +74,9 @@ one_more places header steps old texts next place text were pushed is =
     ∙ append_assoc old (made_of (shows places) f place) (shown_text places place (f place))
     ∙ ap (λ ts. old ++ ts) (sym (made_of_more (shows places) f place))
 
-pub step_told : {places : Places} {header : Header} {first : View} {steps : List Step} {old texts : List (List ℕ)} {kernel : View} {look : Look} {place : ℕ} (later : View) (later_look before : Look) (next : List (List ℕ)) (d : Step) (reply : Reply) (some : List Change) → TextsSoFar places header first steps old texts kernel look place → place < length steps
+pub step_printed : {places : Places} {header : Header} {first : View} {steps : List Step} {old texts : List (List ℕ)} {kernel : View} {look : Look} {place : ℕ}
+    (later : View) (later_look before : Look) (next : List (List ℕ)) (d : Step) (reply : Reply) (some : List Change) → TextsSoFar places header first steps old
+    texts kernel look place → place < length steps
     → before ≡ look
     → ((table : Table) → StandsFor kernel table → reply ≡ (step_of (get_or steps place d) table).0)
     → ((table : Table) → StandsFor kernel table → some ≡ changes (look_of table) (look_of (step_of (get_or steps place d) table).1))
@@ -74,51 +84,60 @@ pub step_told : {places : Places} {header : Header} {first : View} {steps : List
     → Shows later later_look → later.settings ≡ kernel.settings
     → next ≡ texts ++ shown_text places place (place_line header place before ++ step_part places header place (get_or steps place d) reply some)
     → TextsSoFar places header first steps old next later later_look (place + 1)
-step_told {places} {header} {first} {steps} {old} {texts} {kernel} {look} {place} later later_look before next d reply some were early same replied changed moves seen settings pushed =
+step_printed {places} {header} {first} {steps} {old} {texts} {kernel} {look} {place} later later_look before next d reply some were early same replied changed
+    moves seen settings pushed =
     let now = state_at header steps place in
     record {
       seen = seen;
       settings = settings ∙ were.settings;
       stands = rw add-one (subst (λ (t : Table). StandsFor later t) (sym (next_state header steps place d early)) (moves now were.stands));
-      told = one_more places header steps old texts next place (place_line header place before ++ step_part places header place (get_or steps place d) reply some) were.told pushed
-          (text_here places header steps place d before reply some early (same ∙ were.seen.shown now were.stands) (replied now were.stands) (changed now were.stands));
+      printed = one_more places header steps old texts next place (place_line header place before ++ step_part places header place (get_or steps place d) reply
+          some) were.printed pushed
+          (text_here places header steps place d before reply some early (same ∙ were.seen.shown now were.stands) (replied now were.stands)
+          (changed now were.stands));
     }
 
-pub end_told : {places : Places} {header : Header} {first : View} {steps : List Step} {old texts : List (List ℕ)} {kernel : View} {look : Look} {place : ℕ} (next : List (List ℕ)) → TextsSoFar places header first steps old texts kernel look place → place ≡ length steps
+pub end_printed : {places : Places} {header : Header} {first : View} {steps : List Step} {old texts : List (List ℕ)} {kernel : View} {look : Look} {place : ℕ}
+    (next : List (List ℕ)) → TextsSoFar places header first steps old texts kernel look place → place ≡ length steps
     → next ≡ texts ++ shown_text places (length steps) (place_line header (length steps) look) → next ≡ old ++ place_texts places header steps
 unfolding place_texts
-end_told {places} {header} {first} {steps} {old} {texts} {kernel} {look} {place} next were end pushed =
+end_printed {places} {header} {first} {steps} {old} {texts} {kernel} {look} {place} next were end pushed =
     let f = place_text places header steps in
-    one_more places header steps old texts next place (place_line header place look) were.told (pushed ∙ ap (λ n. texts ++ shown_text places n (place_line header n look)) (sym end))
+    one_more places header steps old texts next place (place_line header place look) were.printed
+    (pushed ∙ ap (λ n. texts ++ shown_text places n (place_line header n look)) (sym end))
     (text_there places header steps place look (omega (arith, end)) (were.seen.shown (state_at header steps place) were.stands))
     ∙ ap (λ n. old ++ made_of (shows places) f n) (add-one place ∙ ap suc end)
 
 -- ---- one after another they are the trace
 
 -- what is told of the first places
-abbrev told_before : Places → Header → List Step → ℕ → List ℕ
-told_before places header steps place = flat_map (λ text. text) (made_of (shows places) (place_text places header steps) place)
+abbrev printed_before : Places → Header → List Step → ℕ → List ℕ
+printed_before places header steps place = flat_map (λ text. text) (made_of (shows places) (place_text places header steps) place)
 
 flat_one : (b : Bool) (text : List ℕ) → flat_map (λ (t : List ℕ). t) (if b then text ∷ [] else []) ≡ (if b then text else [])
 flat_one true text = append-nil text
 flat_one false text = refl
 
-told_more : (places : Places) (header : Header) (steps : List Step) (place : ℕ) → told_before places header steps (suc place) ≡ told_before places header steps place ++ (if shows places place then place_text places header steps place else [])
-told_more places header steps place =
+printed_more : (places : Places) (header : Header) (steps : List Step) (place : ℕ) → printed_before places header steps (suc place) ≡ printed_before places
+    header steps place ++ (if shows places place then place_text places header steps place else [])
+printed_more places header steps place =
     let f = place_text places header steps in
-    ap (λ n. told_before places header steps n) (sym (add-one place))
+    ap (λ n. printed_before places header steps n) (sym (add-one place))
     ∙ ap (flat_map (λ (t : List ℕ). t)) (made_of_more (shows places) f place)
     ∙ flat_map-append (λ (t : List ℕ). t) (made_of (shows places) f place) (if shows places place then f place ∷ [] else [])
-    ∙ ap (λ ts. told_before places header steps place ++ ts) (flat_one (shows places place) (f place))
+    ∙ ap (λ ts. printed_before places header steps place ++ ts) (flat_one (shows places place) (f place))
 
-shown_parts : (b c : Bool) (line lines : List ℕ) → (if b then line ++ (if b && c then lines else []) else []) ≡ (if b then line else []) ++ (if b && c then lines else [])
+shown_parts : (b c : Bool) (line lines : List ℕ) → (if b then line ++ (if b && c then lines else []) else []) ≡ (if b then line else []) ++
+    (if b && c then lines else [])
 shown_parts true c line lines = refl
 shown_parts false c line lines = refl
 
 -- what is told of a place and its step is what a trace of everything tells there
-told_here : (places : Places) (header : Header) (steps : List Step) (place : ℕ) (d : Step) → place < length steps → (if shows places place then place_text places header steps place else []) ≡ told_at places everything header place (state_at header steps place) (get_or steps place d)
-unfolding place_part step_part told_part
-told_here places header steps place d early =
+printed_here : (places : Places) (header : Header) (steps : List Step) (place : ℕ) (d : Step) → place < length steps →
+    (if shows places place then place_text places header steps place else []) ≡ printed_at places everything header place (state_at header steps place)
+    (get_or steps place d)
+unfolding place_part step_part printed_part
+printed_here places header steps place d early =
     let state = state_at header steps place in
     let step = get_or steps place d in
     let outcome = step_of step state in
@@ -126,57 +145,67 @@ told_here places header steps place d early =
     ap (λ (t : List ℕ). if shows places place then t else []) (sym (text_here places header steps place d (look_of state) outcome.0 some early refl refl refl))
     ∙ shown_parts (shows places place) (shows places (suc place)) (place_line header place (look_of state)) (step_lines header place step outcome.0 some)
 
-told_so_far : (places : Places) (header : Header) (steps : List Step) (d : Step) (place : ℕ) → place ≤ length steps → told_before places header steps place ++ told_from places everything header place (state_at header steps place) (drop place steps) ≡ told_from places everything header 0 (start header) steps
+printed_so_far : (places : Places) (header : Header) (steps : List Step) (d : Step) (place : ℕ) → place ≤ length steps → printed_before places header steps
+    place ++ printed_from places everything header place (state_at header steps place) (drop place steps) ≡ printed_from places everything header 0
+    (start header) steps
 unfolding state_at
-told_so_far places header steps d zero early = refl
-told_so_far places header steps d (suc place) early =
+printed_so_far places header steps d zero early = refl
+printed_so_far places header steps d (suc place) early =
     let within : place < length steps = omega (arith, early) in
-    let before = told_before places header steps place in
+    let before = printed_before places header steps place in
     let step = get_or steps place d in
     let state = state_at header steps place in
-    let rest = told_from places everything header (suc place) (step_of step state).1 (drop (suc place) steps) in
-    ap (λ (t : Table). told_before places header steps (suc place) ++ told_from places everything header (suc place) t (drop (suc place) steps)) (next_state header steps place d within)
-    ∙ ap (λ ts. ts ++ rest) (told_more places header steps place ∙ ap (λ ts. before ++ ts) (told_here places header steps place d within))
-    ∙ append_assoc before (told_at places everything header place state step) rest
-    ∙ ap (λ ss. before ++ told_from places everything header place state ss) (sym (drop-cons steps place d within))
-    ∙ told_so_far places header steps d place (omega (arith, early))
+    let rest = printed_from places everything header (suc place) (step_of step state).1 (drop (suc place) steps) in
+    ap (λ (t : Table). printed_before places header steps (suc place) ++ printed_from places everything header (suc place) t (drop (suc place) steps))
+    (next_state header steps place d within)
+    ∙ ap (λ ts. ts ++ rest) (printed_more places header steps place ∙ ap (λ ts. before ++ ts) (printed_here places header steps place d within))
+    ∙ append_assoc before (printed_at places everything header place state step) rest
+    ∙ ap (λ ss. before ++ printed_from places everything header place state ss) (sym (drop-cons steps place d within))
+    ∙ printed_so_far places header steps d place (omega (arith, early))
 
-all_told : (places : Places) (header : Header) (steps : List Step) → told_before places header steps (length steps) ≡ told_from places everything header 0 (start header) steps
-all_told places header [] = refl
-all_told places header (step ∷ rest) =
+all_printed : (places : Places) (header : Header) (steps : List Step) → printed_before places header steps (length steps) ≡ printed_from places everything
+    header 0 (start header) steps
+all_printed places header [] = refl
+all_printed places header (step ∷ rest) =
     let steps = step ∷ rest in
     let state = state_at header steps (length steps) in
-    sym (append-nil (told_before places header steps (length steps)))
-    ∙ ap (λ ss. told_before places header steps (length steps) ++ told_from places everything header (length steps) state ss) (sym (drop_all (length steps) steps (omega arith)))
-    ∙ told_so_far places header steps step (length steps) (omega arith)
+    sym (append-nil (printed_before places header steps (length steps)))
+    ∙ ap (λ ss. printed_before places header steps (length steps) ++ printed_from places everything header (length steps) state ss)
+    (sym (drop_all (length steps) steps (omega arith)))
+    ∙ printed_so_far places header steps step (length steps) (omega arith)
 
 -- the end of a trace
-told_last : (places : Places) (header : Header) (steps : List Step) → (if shows places (length steps) then place_text places header steps (length steps) else []) ≡ place_part places header (length steps) (look_of (state_after (start header) steps))
+printed_last : (places : Places) (header : Header) (steps : List Step) →
+    (if shows places (length steps) then place_text places header steps (length steps) else []) ≡ place_part places header (length steps)
+    (look_of (state_after (start header) steps))
 unfolding place_part state_at
-told_last places header steps =
+printed_last places header steps =
     let place = length steps in
     ap (λ (t : List ℕ). if shows places place then t else [])
     (sym (text_there places header steps place (look_of (state_at header steps place)) (omega arith) refl)
     ∙ ap (λ ss. place_line header place (look_of (state_after (start header) ss))) (take_all place steps (omega arith)))
 
 -- the whole trace
-pub texts_are_trace : (places : Places) (header : Header) (steps : List Step) → flat_map (λ text. text) (place_texts places header steps) ≡ trace_text places everything header steps
+pub texts_are_trace : (places : Places) (header : Header) (steps : List Step) → flat_map (λ text. text) (place_texts places header steps) ≡ trace_text places
+    everything header steps
 unfolding place_texts trace_text
 texts_are_trace places header steps =
-    told_more places header steps (length steps)
-    ∙ ap (λ ts. told_before places header steps (length steps) ++ ts) (told_last places header steps)
-    ∙ ap (λ ts. ts ++ place_part places header (length steps) (look_of (state_after (start header) steps))) (all_told places header steps)
+    printed_more places header steps (length steps)
+    ∙ ap (λ ts. printed_before places header steps (length steps) ++ ts) (printed_last places header steps)
+    ∙ ap (λ ts. ts ++ place_part places header (length steps) (look_of (state_after (start header) steps))) (all_printed places header steps)
 
 -- ---- all of them
 
 flat_of : {X : Type 0} (bytes : X → List ℕ) (xs : List X) → flat_map bytes xs ≡ flat_map (λ (t : List ℕ). t) (map bytes xs)
 flat_of bytes xs = sym (flat_map-map (λ (t : List ℕ). t) bytes xs)
 
-pub whole_told : {X : Type 0} (bytes : X → List ℕ) (places : Places) (header : Header) (steps : List Step) (items : List X) → map bytes items ≡ place_texts places header steps → flat_map bytes items ≡ trace_text places everything header steps
-whole_told bytes places header steps items are = flat_of bytes items ∙ ap (flat_map (λ (t : List ℕ). t)) are ∙ texts_are_trace places header steps
+pub whole_printed : {X : Type 0} (bytes : X → List ℕ) (places : Places) (header : Header) (steps : List Step) (items : List X) → map bytes items ≡ place_texts
+    places header steps → flat_map bytes items ≡ trace_text places everything header steps
+whole_printed bytes places header steps items are = flat_of bytes items ∙ ap (flat_map (λ (t : List ℕ). t)) are ∙ texts_are_trace places header steps
 
 -- they have numbers of 32 bits
-pub texts_numbered : (places : Places) (header : Header) (steps : List Step) (count : ℕ) → places.from < 2 ^ 32 → length steps + 1 < 2 ^ 32 → count ≡ length (place_texts places header steps) → places.from + count ≤ 2 ^ 32
+pub texts_numbered : (places : Places) (header : Header) (steps : List Step) (count : ℕ) → places.from < 2 ^ 32 → length steps + 1 < 2 ^ 32 → count ≡ length
+    (place_texts places header steps) → places.from + count ≤ 2 ^ 32
 unfolding place_texts
 texts_numbered places header steps count from few many =
     let shown = shown_few places (suc (length steps)) in

@@ -20,11 +20,13 @@ pub record AreShown {X : Type 0} (kernel : View) (of_table : Table → ℕ → X
 pub none_shown : {X : Type 0} (kernel : View) (of_table : Table → ℕ → X) (items : List X) → items ≡ [] → AreShown kernel of_table items 0
 none_shown kernel of_table items none = record { many = ap length none; shown = λ table stands. none }
 
-pub more_shown : {X : Type 0} {kernel : View} {of_table : Table → ℕ → X} {items later : List X} {count : ℕ} (item : X) → AreShown kernel of_table items count → later ≡ items ++ item ∷ [] → ((table : Table) → StandsFor kernel table → item ≡ of_table table count) → AreShown kernel of_table later (count + 1)
+pub more_shown : {X : Type 0} {kernel : View} {of_table : Table → ℕ → X} {items later : List X} {count : ℕ} (item : X) → AreShown kernel of_table items count →
+    later ≡ items ++ item ∷ [] → ((table : Table) → StandsFor kernel table → item ≡ of_table table count) → AreShown kernel of_table later (count + 1)
 more_shown {of_table = of_table} {items} {later} {count} item are pushed is = record {
   many = ap length pushed ∙ length-append items (item ∷ []) ∙ ap (λ n. n + 1) are.many;
   shown = λ table stands.
-      let more : map (of_table table) (numbers count ++ count ∷ []) ≡ map (of_table table) (numbers count) ++ of_table table count ∷ [] = map-append (of_table table) (numbers count) (count ∷ []) in
+      let more : map (of_table table) (numbers count ++ count ∷ []) ≡ map (of_table table) (numbers count) ++ of_table table count ∷ [] = map-append
+      (of_table table) (numbers count) (count ∷ []) in
       let next = ap (map (of_table table)) (numbers_more count) in
       let were = are.shown table stands in
       let here = is table stands in
@@ -54,9 +56,13 @@ none_further kernel further none = record {
   few = all_of_none (λ notes. length notes < 2 ^ 32) further none;
 }
 
-pub more_further : {kernel : View} {further later : List (List Notification)} {count : ℕ} (notes : List Notification) → AreFurther kernel further count → later ≡ further ++ notes ∷ [] → ((table : Table) → StandsFor kernel table → notes ≡ notes_of table (count + 1)) → length notes ≡ kernel.settings.tasks → length notes < 2 ^ 32 → AreFurther kernel later (count + 1)
+pub more_further : {kernel : View} {further later : List (List Notification)} {count : ℕ} (notes : List Notification) → AreFurther kernel further count → later
+    ≡ further ++ notes ∷ [] → ((table : Table) → StandsFor kernel table → notes ≡ notes_of table (count + 1)) → length notes ≡ kernel.settings.tasks → length
+    notes < 2 ^ 32 → AreFurther kernel later (count + 1)
 more_further {kernel} {further} notes are pushed is many few = record {
   shown = more_shown notes are.shown pushed is;
-  notes = subst (λ (further : List (List Notification)). All (λ notes. length notes ≡ kernel.settings.tasks) further) (sym pushed) (All-push (λ notes. length notes ≡ kernel.settings.tasks) further notes are.notes many);
-  few = subst (λ (further : List (List Notification)). All (λ notes. length notes < 2 ^ 32) further) (sym pushed) (All-push (λ notes. length notes < 2 ^ 32) further notes are.few few);
+  notes = subst (λ (further : List (List Notification)). All (λ notes. length notes ≡ kernel.settings.tasks) further) (sym pushed)
+      (All-push (λ notes. length notes ≡ kernel.settings.tasks) further notes are.notes many);
+  few = subst (λ (further : List (List Notification)). All (λ notes. length notes < 2 ^ 32) further) (sym pushed)
+      (All-push (λ notes. length notes < 2 ^ 32) further notes are.few few);
 }

@@ -1,5 +1,6 @@
 -- The states at places, and what is made of the places that pass a test.
-use Rattle.std.proofs.Common.{◌≡◌, ℕ, zero, suc, ◌+◌, ◌<◌, ◌≤◌, max, List, [], ◌∷◌, ◌++◌, length, length-append, map, filter, take, get_or, Bool, true, false, refl, subst, sym, ap, ◌∙◌, add-one, arith}
+use Rattle.std.proofs.Common.{◌≡◌, ℕ, zero, suc, ◌+◌, ◌<◌, ◌≤◌, max, List, [], ◌∷◌, ◌++◌, length, length-append, map, filter, take, get_or, Bool, true, false}
+use Rattle.std.proofs.Common.{refl, subst, sym, ap, ◌∙◌, add-one, arith}
 use Rattle.std.specs.Prelude.{if◌then◌else◌}
 use Rattle.std.proofs.Math.Seq.{take-suc}
 use Rattle.std.specs.Cmp.{first_so}
@@ -23,7 +24,8 @@ pub filter_more : (p : ℕ → Bool) (xs : List ℕ) (x : ℕ) → filter p (xs 
 filter_more p [] x = refl
 filter_more p (y ∷ xs) x = at (p y) (filter_more p xs x)
   where
-    at : (b : Bool) → filter p (xs ++ x ∷ []) ≡ filter p xs ++ (if p x then x ∷ [] else []) → (if b then y ∷ filter p (xs ++ x ∷ []) else filter p (xs ++ x ∷ [])) ≡ (if b then y ∷ filter p xs else filter p xs) ++ (if p x then x ∷ [] else [])
+    at : (b : Bool) → filter p (xs ++ x ∷ []) ≡ filter p xs ++ (if p x then x ∷ [] else []) →
+        (if b then y ∷ filter p (xs ++ x ∷ []) else filter p (xs ++ x ∷ [])) ≡ (if b then y ∷ filter p xs else filter p xs) ++ (if p x then x ∷ [] else [])
     at true rest = ap (λ ys. y ∷ ys) rest
     at false rest = rest
 
@@ -42,11 +44,14 @@ after_more : (table : Table) (steps : List Step) (step : Step) → state_after t
 after_more table [] step = refl
 after_more table (one ∷ steps) step = after_more (step_of one table).1 steps step
 
-pub next_state : (header : Header) (steps : List Step) (place : ℕ) (d : Step) → place < length steps → state_at header steps (suc place) ≡ (step_of (get_or steps place d) (state_at header steps place)).1
+pub next_state : (header : Header) (steps : List Step) (place : ℕ) (d : Step) → place < length steps → state_at header steps (suc place) ≡
+    (step_of (get_or steps place d) (state_at header steps place)).1
 unfolding state_at
-next_state header steps place d early = ap (state_after (start header)) (take-suc steps place d early) ∙ after_more (start header) (take place steps) (get_or steps place d)
+next_state header steps place d early = ap (state_after (start header)) (take-suc steps place d early) ∙ after_more (start header) (take place steps)
+    (get_or steps place d)
 
-within_few : (from count : ℕ) (b : Bool) (xs : List ℕ) → (b ≡ true → from ≤ count) → from + length xs ≤ max from count → from + length (xs ++ (if b then count ∷ [] else [])) ≤ max from (count + 1)
+within_few : (from count : ℕ) (b : Bool) (xs : List ℕ) → (b ≡ true → from ≤ count) → from + length xs ≤ max from count → from + length
+    (xs ++ (if b then count ∷ [] else [])) ≤ max from (count + 1)
 within_few from count true xs shown were = let early : from ≤ count = shown refl in omega (arith, length-append xs (count ∷ []))
 within_few from count false xs shown were = let same : length (xs ++ []) ≡ length xs = ap length (append-nil xs) in omega arith
 
@@ -55,5 +60,6 @@ pub shown_few : (places : Places) (count : ℕ) → places.from + length (filter
 shown_few places zero = omega arith
 shown_few places (suc count) =
     subst (λ n. places.from + length (filter (shows places) (numbers n)) ≤ max places.from n) (add-one count)
-    (subst (λ ns. places.from + length ns ≤ max places.from (count + 1)) (sym (ap (filter (shows places)) (numbers_more count) ∙ filter_more (shows places) (numbers count) count))
+    (subst (λ ns. places.from + length ns ≤ max places.from (count + 1))
+    (sym (ap (filter (shows places)) (numbers_more count) ∙ filter_more (shows places) (numbers count) count))
     (within_few places.from count (shows places count) (filter (shows places) (numbers count)) (λ e. leb-true _ _ (first_so _ _ e)) (shown_few places count)))

@@ -18,87 +18,104 @@ use Rattle.run_views.specs.declared.change.TaskChange.{TaskChange}
 use Rattle.run_views.specs.declared.change.TaskChange.TheVariants.{Stands, InUse, Base, Mask, Preempt, InCall, Note}
 use Rattle.run_views.specs.declared.look.Look.{Look}
 use Rattle.run_views.specs.declared.look.TaskStatus.{TaskStatus}
-use Rattle.run_views.specs.Changes.{are_same_numbers, are_same_standings, changes, changes_each, core_changes, further_changes, mutex_changes, note_changes, task_changes, TellsOf, TellsOfCore, TellsOfItem, TellsOfMutex, TellsOfNote, TellsOfTask, unless}
-use Rattle.run_views.proofs.Tests.{Tells, bools_told, holds_told, numbers_told, standings_told, states_told}
+use Rattle.run_views.specs.Changes.{are_same_numbers, are_same_standings, changes, changes_each, core_changes, further_changes, mutex_changes, note_changes}
+use Rattle.run_views.specs.Changes.{task_changes, TellsOf, TellsOfCore, TellsOfItem, TellsOfMutex, TellsOfNote, TellsOfTask, unless}
+use Rattle.run_views.proofs.Tests.{Tells, bools_decided, holds_decided, numbers_decided, standings_decided, states_decided}
 
 joined : {X : Type 0} (P : X → Type 0) (xs ys : List X) → AllByRecursion P xs → AllByRecursion P ys → AllByRecursion P (xs ++ ys)
 joined P [] ys first second = second
 joined P (x ∷ xs) ys first second = (first.0, joined P xs ys first.1 second)
 
 -- a change that is named unless the two are the same
-one_told : {C V : Type 0} (P : C → Type 0) (same : V → V → Bool) → Tells same → (old new : V) (change : C) → (old ≢ new → P change) → AllByRecursion P (unless (same old new) change)
-one_told P same tells old new change told = go (same old new) (tells old new).1
+one_printed : {C V : Type 0} (P : C → Type 0) (same : V → V → Bool) → Tells same → (old new : V) (change : C) → (old ≢ new → P change) → AllByRecursion P
+    (unless (same old new) change)
+one_printed P same tells old new change printed = go (same old new) (tells old new).1
   where
     go : (b : Bool) → (old ≡ new → b ≡ true) → AllByRecursion P (unless b change)
     go true equal = tt
-    go false equal = (told (λ e. true≢false (sym (equal e))), tt)
+    go false equal = (printed (λ e. true≢false (sym (equal e))), tt)
 
-core_told : (old new : CoreLook) → AllByRecursion (λ change. TellsOfCore change old new) (core_changes old new)
-core_told old new =
+core_printed : (old new : CoreLook) → AllByRecursion (λ change. TellsOfCore change old new) (core_changes old new)
+core_printed old new =
     let P : CoreChange → Type 0 = λ change. TellsOfCore change old new in
     joined P _ _ (joined P _ _
-    (one_told P nat_eq Decides-eqb old.current new.current (Current old.current new.current) (λ differ. (refl, refl, differ)))
-    (one_told P are_same_bools bools_told old.pend new.pend (Pend new.pend) (λ differ. (refl, differ))))
-    (one_told P are_same_bools bools_told old.asked new.asked (Asked new.asked) (λ differ. (refl, differ)))
+    (one_printed P nat_eq Decides-eqb old.current new.current (Current old.current new.current) (λ differ. (refl, refl, differ)))
+    (one_printed P are_same_bools bools_decided old.pend new.pend (Pend new.pend) (λ differ. (refl, differ))))
+    (one_printed P are_same_bools bools_decided old.asked new.asked (Asked new.asked) (λ differ. (refl, differ)))
 
-task_told : (old new : TaskStatus) → AllByRecursion (λ change. TellsOfTask change old new) (task_changes old new)
-task_told old new =
+task_printed : (old new : TaskStatus) → AllByRecursion (λ change. TellsOfTask change old new) (task_changes old new)
+task_printed old new =
     let P : TaskChange → Type 0 = λ change. TellsOfTask change old new in
     joined P _ _
     (joined P _ _ (joined P _ _ (joined P _ _ (joined P _ _
-    (one_told P are_same_standings standings_told old.standing new.standing (Stands old.standing new.standing) (λ differ. (refl, refl, differ)))
-    (one_told P nat_eq Decides-eqb old.in_use new.in_use (InUse old.in_use new.in_use) (λ differ. (refl, refl, differ))))
-    (one_told P nat_eq Decides-eqb old.base new.base (Base old.base new.base) (λ differ. (refl, refl, differ))))
-    (one_told P nat_eq Decides-eqb old.mask new.mask (Mask old.mask new.mask) (λ differ. (refl, refl, differ))))
-    (one_told P are_same_bools bools_told old.preempt new.preempt (Preempt new.preempt) (λ differ. (refl, differ))))
+    (one_printed P are_same_standings standings_decided old.standing new.standing (Stands old.standing new.standing) (λ differ. (refl, refl, differ)))
+    (one_printed P nat_eq Decides-eqb old.in_use new.in_use (InUse old.in_use new.in_use) (λ differ. (refl, refl, differ))))
+    (one_printed P nat_eq Decides-eqb old.base new.base (Base old.base new.base) (λ differ. (refl, refl, differ))))
+    (one_printed P nat_eq Decides-eqb old.mask new.mask (Mask old.mask new.mask) (λ differ. (refl, refl, differ))))
+    (one_printed P are_same_bools bools_decided old.preempt new.preempt (Preempt new.preempt) (λ differ. (refl, differ))))
     (joined P _ _ (joined P _ _
-    (one_told P are_same_bools bools_told old.in_call new.in_call (InCall new.in_call) (λ differ. (refl, differ)))
-    (one_told P nat_eq Decides-eqb old.value new.value (Note (Value old.value new.value)) (λ differ. (refl, refl, differ))))
-    (one_told P are_same_states states_told old.state new.state (Note (State old.state new.state)) (λ differ. (refl, refl, differ))))
+    (one_printed P are_same_bools bools_decided old.in_call new.in_call (InCall new.in_call) (λ differ. (refl, differ)))
+    (one_printed P nat_eq Decides-eqb old.value new.value (Note (Value old.value new.value)) (λ differ. (refl, refl, differ))))
+    (one_printed P are_same_states states_decided old.state new.state (Note (State old.state new.state)) (λ differ. (refl, refl, differ))))
 
-note_told : (old new : Notification) → AllByRecursion (λ change. TellsOfNote change old new) (note_changes old new)
-note_told old new =
+note_printed : (old new : Notification) → AllByRecursion (λ change. TellsOfNote change old new) (note_changes old new)
+note_printed old new =
     joined (λ change. TellsOfNote change old new) _ _
-    (one_told (λ change. TellsOfNote change old new) nat_eq Decides-eqb old.value new.value (Value old.value new.value) (λ differ. (refl, refl, differ)))
-    (one_told (λ change. TellsOfNote change old new) are_same_states states_told old.state new.state (State old.state new.state) (λ differ. (refl, refl, differ)))
+    (one_printed (λ change. TellsOfNote change old new) nat_eq Decides-eqb old.value new.value (Value old.value new.value) (λ differ. (refl, refl, differ)))
+    (one_printed (λ change. TellsOfNote change old new) are_same_states states_decided old.state new.state (State old.state new.state)
+    (λ differ. (refl, refl, differ)))
 
-holder_told : (old new : Option ℕ) → AllByRecursion (λ change. TellsOfMutex change old new) (mutex_changes old new)
-holder_told old new = one_told (λ change. TellsOfMutex change old new) are_same_numbers numbers_told old new (Holder old new) (λ differ. (refl, refl, differ))
+holder_printed : (old new : Option ℕ) → AllByRecursion (λ change. TellsOfMutex change old new) (mutex_changes old new)
+holder_printed old new = one_printed (λ change. TellsOfMutex change old new) are_same_numbers numbers_decided old new (Holder old new)
+    (λ differ. (refl, refl, differ))
 
-module _ {X C : Type 0} (of_item : ℕ → C → Change) (changes_of : X → X → List C) (tells : C → X → X → Type 0) (told : (old new : X) → AllByRecursion (λ change. tells change old new) (changes_of old new)) (P : Change → Type 0) where
-  item_told : (number : ℕ) (some : List C) (old new : X) → ((change : C) → tells change old new → P (of_item number change)) → AllByRecursion (λ change. tells change old new) some → AllByRecursion P (map (of_item number) some)
-  item_told number [] old new are all = tt
-  item_told number (change ∷ more) old new are all = (are change all.0, item_told number more old new are all.1)
+module _ {X C : Type 0} (of_item : ℕ → C → Change) (changes_of : X → X → List C) (tells : C → X → X → Type 0)
+    (printed : (old new : X) → AllByRecursion (λ change. tells change old new) (changes_of old new)) (P : Change → Type 0) where
+  item_printed : (number : ℕ) (some : List C) (old new : X) → ((change : C) → tells change old new → P (of_item number change)) → AllByRecursion
+      (λ change. tells change old new) some → AllByRecursion P (map (of_item number) some)
+  item_printed number [] old new are all = tt
+  item_printed number (change ∷ more) old new are all = (are change all.0, item_printed number more old new are all.1)
 
-  items_told : (number : ℕ) (olds news : List X) → ((k : ℕ) (old new : X) (change : C) → slice_get olds k ≡ Some old → slice_get news k ≡ Some new → tells change old new → P (of_item (k + number) change)) → AllByRecursion P (changes_each of_item changes_of number olds news)
-  items_told number [] news are = tt
-  items_told number (old ∷ olds) [] are = tt
-  items_told number (old ∷ olds) (new ∷ news) are =
+  items_printed : (number : ℕ) (olds news : List X) → ((k : ℕ) (old new : X) (change : C) → slice_get olds k ≡ Some old → slice_get news k ≡ Some new → tells
+      change old new → P (of_item (k + number) change)) → AllByRecursion P (changes_each of_item changes_of number olds news)
+  items_printed number [] news are = tt
+  items_printed number (old ∷ olds) [] are = tt
+  items_printed number (old ∷ olds) (new ∷ news) are =
       joined P _ _
-      (item_told number (changes_of old new) old new (λ change tells. subst (λ n. P (of_item n change)) (let n : 0 + number ≡ number = omega arith in n) (are 0 old new change refl refl tells)) (told old new))
-      (items_told (suc number) olds news (λ k old new change was is tells. subst (λ n. P (of_item n change)) (let n : suc k + number ≡ k + suc number = omega arith in n) (are (suc k) old new change was is tells)))
+      (item_printed number (changes_of old new) old new (λ change tells. subst (λ n. P (of_item n change)) (let n : 0 + number ≡ number = omega arith in n)
+      (are 0 old new change refl refl tells)) (printed old new))
+      (items_printed (suc number) olds news (λ k old new change was is tells. subst (λ n. P (of_item n change))
+      (let n : suc k + number ≡ k + suc number = omega arith in n) (are (suc k) old new change was is tells)))
 
 at_zero : (k : ℕ) → k ≡ k + 0
 at_zero k = omega arith
 
-further_told : (P : Change → Type 0) (index : ℕ) (olds news : List (List Notification)) → ((k : ℕ) (old new : List Notification) (task : ℕ) (change : NoteChange) → slice_get olds k ≡ Some old → slice_get news k ≡ Some new → TellsOfItem (TellsOfNote change) task old new → P (Further (k + index) task change)) → AllByRecursion P (further_changes index olds news)
-further_told P index [] news are = tt
-further_told P index (old ∷ olds) [] are = tt
-further_told P index (old ∷ olds) (new ∷ news) are =
+further_printed : (P : Change → Type 0) (index : ℕ) (olds news : List (List Notification)) →
+    ((k : ℕ) (old new : List Notification) (task : ℕ) (change : NoteChange) → slice_get olds k ≡ Some old → slice_get news k ≡ Some new → TellsOfItem
+    (TellsOfNote change) task old new → P (Further (k + index) task change)) → AllByRecursion P (further_changes index olds news)
+further_printed P index [] news are = tt
+further_printed P index (old ∷ olds) [] are = tt
+further_printed P index (old ∷ olds) (new ∷ news) are =
     joined P _ _
-    (items_told (Further index) note_changes TellsOfNote note_told P 0 old new (λ task a b change was is tells.
-    subst (λ n. P (Further index n change)) (at_zero task) (subst (λ n. P (Further n task change)) (let n : 0 + index ≡ index = omega arith in n) (are 0 old new task change refl refl (record { old = a; new = b; was = was; is = is; told = tells })))))
-    (further_told P (suc index) olds news (λ k a b task change was is tells. subst (λ n. P (Further n task change)) (let n : suc k + index ≡ k + suc index = omega arith in n) (are (suc k) a b task change was is tells)))
+    (items_printed (Further index) note_changes TellsOfNote note_printed P 0 old new (λ task a b change was is tells.
+    subst (λ n. P (Further index n change)) (at_zero task) (subst (λ n. P (Further n task change)) (let n : 0 + index ≡ index = omega arith in n)
+    (are 0 old new task change refl refl (record { old = a; new = b; was = was; is = is; printed = tells })))))
+    (further_printed P (suc index) olds news (λ k a b task change was is tells. subst (λ n. P (Further n task change))
+    (let n : suc k + index ≡ k + suc index = omega arith in n) (are (suc k) a b task change was is tells)))
 
-pub changes_told : (before after : Look) → All (TellsOf before after) (changes before after)
+pub changes_printed : (before after : Look) → All (TellsOf before after) (changes before after)
 unfolding changes
-changes_told before after =
+changes_printed before after =
     let P = TellsOf before after in
     All-from_recursion P (changes before after)
     (joined P _ _ (joined P _ _ (joined P _ _ (joined P _ _ (joined P _ _
-    (one_told P nat_eq Decides-eqb before.tick after.tick (Tick before.tick after.tick) (λ differ. (refl, refl, differ)))
-    (one_told P (are_same_options are_same_holds) holds_told before.hold after.hold (Hold before.hold after.hold) (λ differ. (refl, refl, differ))))
-    (items_told Core core_changes TellsOfCore core_told P 0 before.cores after.cores (λ k old new change was is tells. subst (λ n. P (Core n change)) (at_zero k) (record { old = old; new = new; was = was; is = is; told = tells }))))
-    (items_told Task task_changes TellsOfTask task_told P 0 before.tasks after.tasks (λ k old new change was is tells. subst (λ n. P (Task n change)) (at_zero k) (record { old = old; new = new; was = was; is = is; told = tells }))))
-    (further_told P 1 before.further after.further (λ k old new task change was is told. subst (λ n. P (Further n task change)) (let n : suc k ≡ k + 1 = omega arith in n) (record { old = old; new = new; was = was; is = is; told = told }))))
-    (items_told Mutex mutex_changes TellsOfMutex holder_told P 0 before.holders after.holders (λ k old new change was is tells. subst (λ n. P (Mutex n change)) (at_zero k) (record { old = old; new = new; was = was; is = is; told = tells }))))
+    (one_printed P nat_eq Decides-eqb before.tick after.tick (Tick before.tick after.tick) (λ differ. (refl, refl, differ)))
+    (one_printed P (are_same_options are_same_holds) holds_decided before.hold after.hold (Hold before.hold after.hold) (λ differ. (refl, refl, differ))))
+    (items_printed Core core_changes TellsOfCore core_printed P 0 before.cores after.cores
+    (λ k old new change was is tells. subst (λ n. P (Core n change)) (at_zero k) (record { old = old; new = new; was = was; is = is; printed = tells }))))
+    (items_printed Task task_changes TellsOfTask task_printed P 0 before.tasks after.tasks
+    (λ k old new change was is tells. subst (λ n. P (Task n change)) (at_zero k) (record { old = old; new = new; was = was; is = is; printed = tells }))))
+    (further_printed P 1 before.further after.further (λ k old new task change was is printed. subst (λ n. P (Further n task change))
+    (let n : suc k ≡ k + 1 = omega arith in n) (record { old = old; new = new; was = was; is = is; printed = printed }))))
+    (items_printed Mutex mutex_changes TellsOfMutex holder_printed P 0 before.holders after.holders
+    (λ k old new change was is tells. subst (λ n. P (Mutex n change)) (at_zero k) (record { old = old; new = new; was = was; is = is; printed = tells }))))

@@ -14,35 +14,35 @@ Tells {X} same = (x y : X) → Decides (same x y) (x ≡ y)
 apart : {P : Type 0} → (P → ⊥) → Decides false P
 apart never = (λ e. absurd (true≢false (sym e)), λ p. absurd (never p))
 
-pub bools_told : Tells are_same_bools
-bools_told true true = (λ e. refl, λ e. refl)
-bools_told true false = (λ e. absurd (true≢false (sym e)), λ e. absurd (true≢false e))
-bools_told false true = (λ e. absurd (true≢false (sym e)), λ e. absurd (true≢false (sym e)))
-bools_told false false = (λ e. refl, λ e. refl)
+pub bools_decided : Tells are_same_bools
+bools_decided true true = (λ e. refl, λ e. refl)
+bools_decided true false = (λ e. absurd (true≢false (sym e)), λ e. absurd (true≢false e))
+bools_decided false true = (λ e. absurd (true≢false (sym e)), λ e. absurd (true≢false (sym e)))
+bools_decided false false = (λ e. refl, λ e. refl)
 
-options_told : {X : Type 0} (same : X → X → Bool) → Tells same → Tells (are_same_options same)
-options_told same tells None None = (λ e. refl, λ e. refl)
-options_told same tells (Some x) (Some y) = Decides-like (same x y) (λ e. ap Some e) (λ e. cc e) (tells x y)
-options_told same tells None (Some y) = apart (λ e. cc e)
-options_told same tells (Some x) None = apart (λ e. cc e)
+options_decided : {X : Type 0} (same : X → X → Bool) → Tells same → Tells (are_same_options same)
+options_decided same tells None None = (λ e. refl, λ e. refl)
+options_decided same tells (Some x) (Some y) = Decides-like (same x y) (λ e. ap Some e) (λ e. cc e) (tells x y)
+options_decided same tells None (Some y) = apart (λ e. cc e)
+options_decided same tells (Some x) None = apart (λ e. cc e)
 
-pub numbers_told : Tells are_same_numbers
-numbers_told = options_told _ Decides-eqb
+pub numbers_decided : Tells are_same_numbers
+numbers_decided = options_decided _ Decides-eqb
 
-pub holds_told : Tells (are_same_options are_same_holds)
-holds_told = options_told are_same_holds (λ a b. Decides-like (are_same_holds a b)
+pub holds_decided : Tells (are_same_options are_same_holds)
+holds_decided = options_decided are_same_holds (λ a b. Decides-like (are_same_holds a b)
     (λ h i. record { core = h.0 i; depth = h.1 i })
     (λ e. (λ i. (e i).core, λ i. (e i).depth))
     (Decides-and _ _ (Decides-eqb a.core b.core) (Decides-eqb a.depth b.depth)))
 
-pub states_told : Tells are_same_states
-states_told NotWaiting NotWaiting = (λ e. refl, λ e. refl)
-states_told Waiting Waiting = (λ e. refl, λ e. refl)
-states_told Received Received = (λ e. refl, λ e. refl)
-states_told a b = apart (λ e. cc e)
+pub states_decided : Tells are_same_states
+states_decided NotWaiting NotWaiting = (λ e. refl, λ e. refl)
+states_decided Waiting Waiting = (λ e. refl, λ e. refl)
+states_decided Received Received = (λ e. refl, λ e. refl)
+states_decided a b = apart (λ e. cc e)
 
-pub standings_told : Tells are_same_standings
-standings_told Ready Ready = (λ e. refl, λ e. refl)
-standings_told (Blocked wake) (Blocked later) = Decides-like (are_same_numbers wake later) (λ e. ap Blocked e) (λ e. cc e) (numbers_told wake later)
-standings_told Ready (Blocked later) = apart (λ e. cc e)
-standings_told (Blocked wake) Ready = apart (λ e. cc e)
+pub standings_decided : Tells are_same_standings
+standings_decided Ready Ready = (λ e. refl, λ e. refl)
+standings_decided (Blocked wake) (Blocked later) = Decides-like (are_same_numbers wake later) (λ e. ap Blocked e) (λ e. cc e) (numbers_decided wake later)
+standings_decided Ready (Blocked later) = apart (λ e. cc e)
+standings_decided (Blocked wake) Ready = apart (λ e. cc e)

@@ -1,5 +1,6 @@
 -- What changed from one look to another, and a look with changes made.
-use Rattle.std.specs.Prelude.{◌≡◌, ◌≢◌, ◌+◌, ◌<◌, ◌^◌, ℕ, zero, suc, All, List, [], ◌∷◌, ◌++◌, length, map, fold, Bool, true, false, ◌==◌, Option, Some, if◌then◌else◌, slice_get}
+use Rattle.std.specs.Prelude.{◌≡◌, ◌≢◌, ◌+◌, ◌<◌, ◌^◌, ℕ, zero, suc, All, List, [], ◌∷◌, ◌++◌, length, map, fold, Bool, true, false, ◌==◌, Option, Some}
+use Rattle.std.specs.Prelude.{if◌then◌else◌, slice_get}
 use Rattle.bench_types.specs.declared.kernel_data.CoreLook.{CoreLook}
 use Rattle.bench_types.specs.declared.note.Notification.{Notification}
 use Rattle.bench_model.specs.SameTest.{are_same_bools, are_same_options, are_same_holds, are_same_states}
@@ -186,7 +187,7 @@ pub record TellsOfItem {X : Type 0} (tells : X → X → Type 0) (number : ℕ)
   pub new : X
   pub was : slice_get olds number ≡ Some old
   pub is : slice_get news number ≡ Some new
-  pub told : tells old new
+  pub printed : tells old new
 
 -- the change tells of the task's notifications of the index, which is above 0
 abbrev pub TellsOfFurther :

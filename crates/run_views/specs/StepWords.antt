@@ -1,11 +1,12 @@
 -- A step in the words of a document: what it does, and its members in their order.
 use Rattle.std.specs.Prelude.{ℕ, List, [], ◌++◌, ◌==◌, codes, decimal, Bool, if◌then◌else◌}
 use Rattle.bench_types.specs.declared.header.Header.{Header}
-use Rattle.bench_types.specs.declared.note.Action.{Action}
-use Rattle.bench_types.specs.declared.note.Action.TheVariants.{Nothing, SetBits, Increment, Set, SetNew}
+use Rattle.bench_types.specs.declared.note.NotifyAction.{NotifyAction}
+use Rattle.bench_types.specs.declared.note.NotifyAction.TheVariants.{Nothing, SetBits, Increment, Set, SetNew}
 use Rattle.bench_types.specs.declared.note.Note.{Note}
 use Rattle.bench_types.specs.declared.step.Call.{Call}
-use Rattle.bench_types.specs.declared.step.Call.TheVariants.{Yield, Delay, DelayUntil, PrioritySet, AffinitySet, PreemptOff, PreemptOn, Notify, NotifyWait, NotifyTake, StateClear, ValueClear, MutexTake, MutexGive, Finish, HoldOpen, HoldClose}
+use Rattle.bench_types.specs.declared.step.Call.TheVariants.{Yield, Delay, DelayUntil, PrioritySet, AffinitySet, PreemptOff, PreemptOn, Notify, NotifyWait}
+use Rattle.bench_types.specs.declared.step.Call.TheVariants.{NotifyTake, StateClear, ValueClear, MutexTake, MutexGive, Finish, HoldOpen, HoldClose}
 use Rattle.bench_types.specs.declared.step.Step.{Step}
 use Rattle.bench_types.specs.declared.step.Step.TheVariants as steps
 use Rattle.bench_types.specs.Header.{name_of}
@@ -28,7 +29,7 @@ index_text header index =
 abbrev pub clear_text : Bool → List ℕ
 clear_text clear = codes " clear " ++ (if clear then codes "true" else codes "false")
 
-abbrev pub action_text : Action → List ℕ
+abbrev pub action_text : NotifyAction → List ℕ
 action_text Nothing = codes " action none"
 action_text (SetBits bits) = codes " action set_bits" ++ number_text (codes "value") bits
 action_text Increment = codes " action increment"

@@ -75,31 +75,31 @@ step_part places header place step reply some =
     then step_lines header place step reply some else []
 
 -- a place and the step that is made there, where the step is one that is told
-unfoldable pub told_part :
+unfoldable pub printed_part :
     Places → Interest → Header → ℕ → Look → Step → Reply → List Change → List ℕ
-told_part places interest header place look step reply some =
+printed_part places interest header place look step reply some =
     if tells interest step some then
     place_part places header place look ++ step_part places header place step reply some
     else []
 
 -- the same of the step from a table
-abbrev pub told_at : Places → Interest → Header → ℕ → Table → Step → List ℕ
-told_at places interest header place table step =
+abbrev pub printed_at : Places → Interest → Header → ℕ → Table → Step → List ℕ
+printed_at places interest header place table step =
     let outcome = step_of step table in
-    told_part places interest header place (look_of table) step outcome.0
+    printed_part places interest header place (look_of table) step outcome.0
     (changes (look_of table) (look_of outcome.1))
 
 -- steps from a table on, the first of which is made at the place
-abbrev pub told_from : Places → Interest → Header → ℕ → Table → List Step → List ℕ
-told_from places interest header place table [] = []
-told_from places interest header place table (step ∷ steps) =
-    told_at places interest header place table step
-    ++ told_from places interest header (suc place) (step_of step table).1 steps
+abbrev pub printed_from : Places → Interest → Header → ℕ → Table → List Step → List ℕ
+printed_from places interest header place table [] = []
+printed_from places interest header place table (step ∷ steps) =
+    printed_at places interest header place table step
+    ++ printed_from places interest header (suc place) (step_of step table).1 steps
 
 -- a whole session, to its last place
 unfoldable pub trace_text : Places → Interest → Header → List Step → List ℕ
 trace_text places interest header steps =
-    told_from places interest header 0 (start header) steps
+    printed_from places interest header 0 (start header) steps
     ++ place_part places header (length steps) (look_of (state_after (start header) steps))
 
 -- the look is that of the kernel
@@ -108,8 +108,8 @@ pub record Shows (kernel : View) (look : Look) : Type 0 where
   pub shown : (table : Table) → StandsFor kernel table → look ≡ look_of table
 
 -- what the steps lead to was told, from each table that the kernel stood for
-pub record IsTold (places : Places) (interest : Interest) (header : Header) (old new : View)
+pub record IsPrinted (places : Places) (interest : Interest) (header : Header) (old new : View)
     (steps : List Step) (before after : List ℕ) : Type 0 where
-  pub told : (table : Table) → StandsFor old table
-      → after ≡ before ++ told_from places interest header 0 table steps
+  pub printed : (table : Table) → StandsFor old table
+      → after ≡ before ++ printed_from places interest header 0 table steps
   pub stands : (table : Table) → StandsFor old table → StandsFor new (state_after table steps)

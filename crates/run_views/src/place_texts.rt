@@ -7,7 +7,7 @@ ghost use Rattle.bench_model.specs.Start.{start};
 ghost use Rattle.run_views.specs.PlaceTexts.{everything, place_texts, shown_text};
 ghost use Rattle.run_views.specs.Trace.{place_line, step_part, trace_text, Shows};
 
-use crate::trace_lines::{push_place_line, push_told_step};
+use crate::trace_lines::{push_place_line, push_printed_step};
 use crate::watch::{Seen, Watch};
 use crate::{Look, Places};
 use bench_types::{Header, Step};
@@ -33,7 +33,7 @@ fn text_of_step(
     let mut text = String::new(alloc);
     let changes = seen.changes.as_slice();
     push_place_line(&mut text, header, place, &seen.before)?;
-    push_told_step(&mut text, places, header, place, step, seen.reply, changes)?;
+    push_printed_step(&mut text, places, header, place, step, seen.reply, changes)?;
     Ok(text)
 }
 

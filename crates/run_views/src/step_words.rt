@@ -2,7 +2,7 @@
 ghost use Rattle.std.specs.Prelude.{◌≡◌, ◌++◌, OnOk, codes, string_bytes};
 ghost use Rattle.run_views.specs.StepWords.{action_text, call_members, call_word, clear_text, core_text, index_text, note_text, number_text, step_text, task_text, to_text};
 
-use bench_types::{Action, Call, Header, Note, Step};
+use bench_types::{Call, Header, Note, NotifyAction, Step};
 use std::alloc::AllocError;
 
 fn push_number(text: &mut String, member: &str, n: u32) -> Result<(), AllocError>
@@ -45,15 +45,15 @@ fn push_clear(text: &mut String, clear: bool) -> Result<(), AllocError>
     write!(text, " clear {clear}")
 }
 
-fn push_action(text: &mut String, action: Action) -> Result<(), AllocError>
+fn push_action(text: &mut String, action: NotifyAction) -> Result<(), AllocError>
     ensures { OnOk result (string_bytes text.new ≡ string_bytes text.old ++ action_text action) }
 {
     match action {
-        Action::Nothing => text.push_str(" action none"),
-        Action::SetBits(bits) => write!(text, " action set_bits value {bits}"),
-        Action::Increment => text.push_str(" action increment"),
-        Action::Set(value) => write!(text, " action set value {value}"),
-        Action::SetNew(value) => write!(text, " action set_new value {value}"),
+        NotifyAction::Nothing => text.push_str(" action none"),
+        NotifyAction::SetBits(bits) => write!(text, " action set_bits value {bits}"),
+        NotifyAction::Increment => text.push_str(" action increment"),
+        NotifyAction::Set(value) => write!(text, " action set value {value}"),
+        NotifyAction::SetNew(value) => write!(text, " action set_new value {value}"),
     }
 }
 

@@ -4,7 +4,7 @@ ghost use Rattle.bench_types.specs.Header.{IsCheckedHeader};
 ghost use Rattle.bench_types.specs.Step.{settings_of, IsCheckedStep};
 ghost use Rattle.bench_model.specs.Equal.{StandsFor};
 ghost use Rattle.bench_model.specs.Start.{start};
-ghost use Rattle.run_views.specs.Trace.{change_line, core_part, cores_part, due_text, hold_part, place_line, place_part, step_lines, step_part, told_part, trace_text, IsTold, Shows};
+ghost use Rattle.run_views.specs.Trace.{change_line, core_part, cores_part, due_text, hold_part, place_line, place_part, step_lines, step_part, printed_part, trace_text, IsPrinted, Shows};
 
 use crate::change_words::{push_change, push_hold};
 use crate::reply_words::push_reply;
@@ -144,7 +144,7 @@ fn push_step_lines(
 
 // The lines of a step between two places that are to be shown.
 #[tactic(auto, unfolding(crate::specs::Trace::step_part))]
-pub(crate) fn push_told_step(
+pub(crate) fn push_printed_step(
     text: &mut String,
     places: Places,
     header: &Header,
@@ -165,8 +165,8 @@ pub(crate) fn push_told_step(
 }
 
 // The lines of a place and of the step that is made there, where the step is one that is told.
-#[tactic(auto, unfolding(crate::specs::Trace::told_part))]
-fn push_told(
+#[tactic(auto, unfolding(crate::specs::Trace::printed_part))]
+fn push_printed(
     text: &mut String,
     places: Places,
     interest: &Interest,
@@ -180,13 +180,13 @@ fn push_told(
     ensures { OnOk result
         (string_bytes text.new
         ≡ string_bytes text.old
-        ++ told_part places interest.now header.now place seen.now.before step seen.now.reply
+        ++ printed_part places interest.now header.now place seen.now.before step seen.now.reply
         seen.now.changes) }
 {
     let changes = seen.changes.as_slice();
     if interest.tells(step, changes) {
         push_place(text, places, header, place, &seen.before)?;
-        push_told_step(text, places, header, place, step, seen.reply, changes)?;
+        push_printed_step(text, places, header, place, step, seen.reply, changes)?;
     }
     Ok(())
 }
@@ -205,14 +205,14 @@ fn push_steps(
     requires checked { All (IsCheckedStep watch.old.kernel.settings) steps.now }
     requires shows { Shows watch.old.kernel watch.old.look }
     requires few { length steps.now + 1 < 2 ^ 32 }
-    ensures told { OnOk result
-        (IsTold places interest.now header.now watch.old.kernel watch.new.kernel steps.now
+    ensures printed { OnOk result
+        (IsPrinted places interest.now header.now watch.old.kernel watch.new.kernel steps.now
         (string_bytes text.old) (string_bytes text.new)) }
     ensures shows { OnOk result (Shows watch.new.kernel watch.new.look) }
 {
     for (place, step) in steps.iter().enumerate() {
         let seen = watch.step(alloc, meter, step)?;
-        push_told(text, places, interest, header, place as u32, *step, &seen)?;
+        push_printed(text, places, interest, header, place as u32, *step, &seen)?;
     }
     Ok(())
 }
@@ -241,7 +241,7 @@ fn push_trace(
 }
 
 // A watch is dear to drop, so one call follows where one is made.
-fn told(
+fn printed(
     alloc: Global,
     meter: &mut Meter,
     places: Places,
@@ -282,7 +282,7 @@ pub fn trace(
         (λ text. string_bytes text ≡ trace_text places interest.now header.now steps.now) }
 {
     match Watch::start(alloc, header) {
-        Ok(mut watch) => told(alloc, meter, places, interest, header, &mut watch, steps),
+        Ok(mut watch) => printed(alloc, meter, places, interest, header, &mut watch, steps),
         Err(_) => Err(AllocError),
     }
 }

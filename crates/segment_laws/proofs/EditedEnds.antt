@@ -1,5 +1,6 @@
 -- The replay of an edit ends where the two sessions meet.
-use Rattle.std.proofs.Common.{◌≡◌, inl, inr, ⊎_elim, ℕ, ◌+◌, ◌<◌, ◌≤◌, Bool, true, false, ltb, List, ◌++◌, length, take, drop, Some, None, Ok, slice_get, get_or, refl, sym, ap, ap₂, subst, ◌∙◌, arith, length-append, true≢false}
+use Rattle.std.proofs.Common.{◌≡◌, inl, inr, ⊎_elim, ℕ, ◌+◌, ◌<◌, ◌≤◌, Bool, true, false, ltb, List, ◌++◌, length, take, drop, Some, None, Ok, slice_get}
+use Rattle.std.proofs.Common.{get_or, refl, sym, ap, ap₂, subst, ◌∙◌, arith, length-append, true≢false}
 use Rattle.std.proofs.lemmas.Bool.Decides.{nat_tests}
 use Rattle.std.proofs.lemmas.List.{append_assoc, drop_at, take_all}
 use Rattle.std.proofs.lemmas.Option.{slice_get_cases}
@@ -21,13 +22,14 @@ use Rattle.segment_laws.specs.EditedSegments.{AreUnmet, AreReplayed}
 use Rattle.segment_laws.specs.Segments.{SegmentView, all_steps, Follow, AreSegments}
 use Rattle.segment_laws.proofs.EditedPlaces.{new_last, old_after, old_either, old_steps}
 use Rattle.segment_laws.proofs.EditedSteps.{made_steps}
-use Rattle.segment_laws.proofs.Following.{all_parted, follow_back, segment_follows, state_append}
+use Rattle.segment_laws.proofs.Following.{segments_split, follow_back, segment_follows, state_append}
 use Rattle.segment_laws.proofs.Reading.{state_front}
 use Rattle.segment_laws.proofs.Shifts.{IsShift}
 use Rattle.segment_laws.proofs.Starts.{all_length, more_steps, start_at, start_found}
 
 -- the state after more steps
-state_further : (header : Header) (steps front own rest : List Step) (place : ℕ) → steps ≡ front ++ (own ++ rest) → place ≡ length front + length own → state_at header steps place ≡ state_after (state_at header steps (length front)) own
+state_further : (header : Header) (steps front own rest : List Step) (place : ℕ) → steps ≡ front ++ (own ++ rest) → place ≡ length front + length own → state_at
+    header steps place ≡ state_after (state_at header steps (length front)) own
 state_further header steps front own rest place whole there =
     let same : place ≡ length (front ++ own) = omega (arith, there, length-append front own) in
     ap (state_at header steps) same
@@ -35,7 +37,9 @@ state_further header steps front own rest place whole there =
     ∙ state_append (start header) front own
     ∙ ap (λ (table : Table). state_after table own) (sym (state_front header steps front (own ++ rest) whole))
 
-module _ (kept : CheckpointedSession) (edit : Edit) (segments before : List SegmentView) (steps : List Step) (after front : List SegmentView) (some : 1 ≤ kept.span) (accepts : accepted kept.session edit ≡ Ok tt) (fit : AreCheckpoints kept.span (last_place kept.session) kept.checkpoints) (are : AreSegments kept segments) (shift : IsShift kept edit segments before steps after front) where
+module _ (kept : CheckpointedSession) (edit : Edit) (segments before : List SegmentView) (steps : List Step) (after front : List SegmentView)
+    (some : 1 ≤ kept.span) (accepts : accepted kept.session edit ≡ Ok tt) (fit : AreCheckpoints kept.span (last_place kept.session) kept.checkpoints)
+    (are : AreSegments kept segments) (shift : IsShift kept edit segments before steps after front) where
   -- where a segment after the edit lay, and where it lies now
   abbrev old_place : ℕ → ℕ
   old_place i = length (all_steps front) + length (all_steps (take i after))
@@ -50,17 +54,18 @@ module _ (kept : CheckpointedSession) (edit : Edit) (segments before : List Segm
   new_state place = state_at (edited edit kept.session).header (edited edit kept.session).steps place
 
   session_parts : (i : ℕ) → kept.session.steps ≡ all_steps front ++ (all_steps (take i after) ++ all_steps (drop i after))
-  session_parts i = old_steps kept edit segments before steps after front some accepts fit are shift ∙ ap (λ xs. all_steps front ++ xs) (all_parted i after)
+  session_parts i = old_steps kept edit segments before steps after front some accepts fit are shift ∙ ap (λ xs. all_steps front ++ xs) (segments_split i after)
 
   edited_parts : (i : ℕ) → (edited edit kept.session).steps ≡ all_steps before ++ ((steps ++ all_steps (take i after)) ++ all_steps (drop i after))
   edited_parts i =
       shift.result
-      ∙ ap (λ xs. all_steps before ++ (steps ++ xs)) (all_parted i after)
+      ∙ ap (λ xs. all_steps before ++ (steps ++ xs)) (segments_split i after)
       ∙ ap (λ xs. all_steps before ++ xs) (sym (append_assoc steps (all_steps (take i after)) (all_steps (drop i after))))
 
   replayed_state : (i : ℕ) → new_state (new_place i) ≡ state_after (new_state (length (all_steps before))) (steps ++ all_steps (take i after))
   replayed_state i =
-      state_further (edited edit kept.session).header (edited edit kept.session).steps (all_steps before) (steps ++ all_steps (take i after)) (all_steps (drop i after)) (new_place i) (edited_parts i)
+      state_further (edited edit kept.session).header (edited edit kept.session).steps (all_steps before) (steps ++ all_steps (take i after))
+      (all_steps (drop i after)) (new_place i) (edited_parts i)
       (omega (arith, length-append steps (all_steps (take i after))))
 
   -- the kernel of the segment stands for the session's state where it lay
@@ -85,26 +90,37 @@ module _ (kept : CheckpointedSession) (edit : Edit) (segments before : List Segm
   later_steps_are : (i : ℕ) → drop (new_place i) (edited edit kept.session).steps ≡ all_steps (drop i after)
   later_steps_are i =
       let own = steps ++ all_steps (take i after) in
-      let front_size : length (all_steps before ++ own) ≡ new_place i = omega (arith, length-append (all_steps before) own, length-append steps (all_steps (take i after))) in
+      let front_size : length (all_steps before ++ own) ≡ new_place i = omega
+      (arith, length-append (all_steps before) own, length-append steps (all_steps (take i after))) in
       ap (drop (new_place i)) (edited_parts i ∙ sym (append_assoc (all_steps before) own (all_steps (drop i after))))
       ∙ drop_at (all_steps before ++ own) (all_steps (drop i after)) (new_place i) front_size
 
   -- so the test of the two sessions is that of the segment's kernel
   met_there : (i place : ℕ) → moved_place edit place ≡ new_place i
-      → goes_on_alike kept.session edit place ≡ is_met (old_state place) (state_after (new_state (length (all_steps before))) (steps ++ all_steps (take i after))) (all_steps (drop i after))
+      → goes_on_alike kept.session edit place ≡ is_met (old_state place)
+      (state_after (new_state (length (all_steps before))) (steps ++ all_steps (take i after))) (all_steps (drop i after))
   met_there i place lies =
       ap (λ n. is_met (old_state place) (new_state n) (drop n (edited edit kept.session).steps)) lies
       ∙ ap₂ (is_met (old_state place)) (replayed_state i) (later_steps_are i)
 
-  module _ (count : ℕ) (unmet : AreUnmet (state_at (edited edit kept.session).header (edited edit kept.session).steps (length (all_steps before))) steps after count) where
+  module _ (count : ℕ) (unmet : AreUnmet (state_at (edited edit kept.session).header (edited edit kept.session).steps (length (all_steps before))) steps after
+      count) where
     ends_first : (other : ℕ) → MayEnd kept edit other → new_place count ≤ other
-    ends_first other (inl last) = omega (arith, last, last_there, ap length (all_parted count after), length-append (all_steps (take count after)) (all_steps (drop count after)))
+    ends_first other (inl last) = omega (
+      arith,
+      last,
+      last_there,
+      ap length (segments_split count after),
+      length-append (all_steps (take count after))
+          (all_steps (drop count after)),
+    )
     ends_first other (inr (place, meeting, moved)) = ⊎_elim
         (λ early. absurd (shift.uncompared place early meeting.compared))
         (λ later. let by = start_found after place (length (all_steps front)) later in not_before by.0 by.1 by.2 by.3 (ltb by.0 count) refl)
         (old_either kept edit segments before steps after front some accepts fit are shift place meeting.listed)
       where
-        not_before : (i : ℕ) (segment : SegmentView) → slice_get after i ≡ Some segment → place ≡ old_place i → (b : Bool) → ltb i count ≡ b → new_place count ≤ other
+        not_before : (i : ℕ) (segment : SegmentView) → slice_get after i ≡ Some segment → place ≡ old_place i → (b : Bool) → ltb i count ≡ b → new_place count ≤
+            other
         not_before i segment found there true is =
             let early : i < count = grind (arith, nat_tests, is) in
             let lies : moved_place edit place ≡ new_place i = ap (moved_place edit) there ∙ moves_there i segment found in
@@ -120,11 +136,13 @@ module _ (kept : CheckpointedSession) (edit : Edit) (segments before : List Segm
     pub ends_later : new_place count ≤ met kept edit
     ends_later = ends_first (met kept edit) (met_is_first kept edit).ends
 
-  module _ (made : List SegmentView) (count by : ℕ) (replayed : AreReplayed kept.span (state_at (edited edit kept.session).header (edited edit kept.session).steps (length (all_steps before))) steps after made count by) where
+  module _ (made : List SegmentView) (count by : ℕ) (replayed : AreReplayed kept.span
+      (state_at (edited edit kept.session).header (edited edit kept.session).steps (length (all_steps before))) steps after made count by) where
     may_end : MayEnd kept edit (new_place count)
     may_end = ⊎_elim stops ends (slice_get_cases after count).1
       where
-        stops : (segment : SegmentView) × (count < length after) × (slice_get after count ≡ Some segment) × (get_or after count segment ≡ segment) → MayEnd kept edit (new_place count)
+        stops : (segment : SegmentView) × (count < length after) × (slice_get after count ≡ Some segment) × (get_or after count segment ≡ segment) → MayEnd kept
+            edit (new_place count)
         stops at =
             let segment = at.0 in
             let found = at.2 in
@@ -132,7 +150,8 @@ module _ (kept : CheckpointedSession) (edit : Edit) (segments before : List Segm
             let listed = start_at after count (length (all_steps front)) segment found in
             let moved = moves_there count segment found in
             let reached = state_after (new_state (length (all_steps before))) (steps ++ all_steps (take count after)) in
-            let passes = meetings_pass by (old_state place) reached (all_steps (drop count after)) (replayed.met segment (old_state place) found (stands count segment found)) in
+            let passes = meetings_pass by (old_state place) reached (all_steps (drop count after))
+            (replayed.met segment (old_state place) found (stands count segment found)) in
             let meeting : IsMeeting kept edit place = record {
               listed = old_after kept edit segments before steps after front some accepts fit are shift place listed;
               compared = shift.compared place listed;
@@ -142,7 +161,8 @@ module _ (kept : CheckpointedSession) (edit : Edit) (segments before : List Segm
 
         ends : (length after ≤ count) × (slice_get after count ≡ None) → MayEnd kept edit (new_place count)
         ends past =
-            let all : length (all_steps (take count after)) ≡ length (all_steps after) = ap (λ segments. length (all_steps segments)) (take_all count after past.0) in
+            let all : length (all_steps (take count after)) ≡ length (all_steps after) = ap (λ segments. length (all_steps segments))
+            (take_all count after past.0) in
             inl (omega (arith, all, last_there))
 
     -- the end of the replay is the first where it may end

@@ -1,5 +1,6 @@
 -- The checkpoints of an edited session are the places where its segments begin.
-use Rattle.std.proofs.Common.{◌≡◌, ◌⊎◌, inl, inr, ⊎_elim, ℕ, suc, ◌+◌, ◌-◌, ◌*◌, ◌<◌, ◌≤◌, Bool, true, false, cond, eqb, ltb, leb, ◌&&◌, not, List, [], ◌∷◌, ◌++◌, length, map, take, drop, Ok, refl, sym, ap, ap₂, subst, ◌∙◌, arith, length-append, length-drop, length-take-le}
+use Rattle.std.proofs.Common.{◌≡◌, ◌⊎◌, inl, inr, ⊎_elim, ℕ, suc, ◌+◌, ◌-◌, ◌*◌, ◌<◌, ◌≤◌, Bool, true, false, cond, eqb, ltb, leb, ◌&&◌, not, List, [], ◌∷◌}
+use Rattle.std.proofs.Common.{◌++◌, length, map, take, drop, Ok, refl, sym, ap, ap₂, subst, ◌∙◌, arith, length-append, length-drop, length-take-le}
 use Rattle.std.specs.Prelude.{filter}
 use Rattle.std.specs.List.{list_any}
 use Rattle.std.specs.List.Sorted.{IsStrictlyIncreasing}
@@ -22,7 +23,8 @@ use Rattle.segment_laws.specs.EditedSegments.{has_none, is_empty, cut}
 use Rattle.segment_laws.specs.Segments.{SegmentView, all_steps, lengths, starts, AreSegments}
 use Rattle.segment_laws.proofs.Following.{all_more}
 use Rattle.segment_laws.proofs.Shifts.{IsShift, start_listed}
-use Rattle.segment_laws.proofs.Starts.{total, all_length, starts_append, start_from, start_until, start_moved, first_or_rest, has_either, has_left, has_right, AreParts, ascend_parts, parts_ascend, parts_back, parts_join}
+use Rattle.segment_laws.proofs.Starts.{total, all_length, starts_append, start_from, start_until, start_moved, first_or_rest, has_either, has_left, has_right}
+use Rattle.segment_laws.proofs.Starts.{AreParts, ascend_parts, parts_ascend, parts_back, parts_join}
 
 -- ---- what is cut
 
@@ -39,7 +41,8 @@ cut_lengths span after steps = map (λ (steps : List Step). length steps) (cut s
 pub cut_cases : (span : ℕ) (after : List SegmentView) (steps : List Step) → CutCases span after steps (cut_lengths span after steps)
 cut_cases span after steps = at (leb (2 * span) (length steps)) refl
   where
-    uncut : (steps : List Step) → length steps < 2 * span → CutCases span after steps (map (λ (steps : List Step). length steps) (cond (is_empty steps && not (has_none after)) [] (steps ∷ [])))
+    uncut : (steps : List Step) → length steps < 2 * span → CutCases span after steps
+        (map (λ (steps : List Step). length steps) (cond (is_empty steps && not (has_none after)) [] (steps ∷ [])))
     uncut (step ∷ steps) short = inr (inr (inr (omega arith), short, refl))
     uncut [] short = by (has_none after) refl
       where
@@ -47,7 +50,9 @@ cut_cases span after steps = at (leb (2 * span) (length steps)) refl
         by true is = inr (inr (inl is, short, refl))
         by false is = inr (inl (refl, is, refl))
 
-    at : (b : Bool) → leb (2 * span) (length steps) ≡ b → CutCases span after steps (map (λ (steps : List Step). length steps) (cond b (take span steps ∷ drop span steps ∷ []) (cond (is_empty steps && not (has_none after)) [] (steps ∷ []))))
+    at : (b : Bool) → leb (2 * span) (length steps) ≡ b → CutCases span after steps
+        (map (λ (steps : List Step). length steps) (cond b (take span steps ∷ drop span steps ∷ [])
+        (cond (is_empty steps && not (has_none after)) [] (steps ∷ []))))
     at true is =
         let long : 2 * span ≤ length steps = grind (arith, nat_tests, is) in
         inl (long, ap₂ (λ a b. a ∷ b ∷ []) (length-take-le span steps (omega (arith, long))) (length-drop span steps))
@@ -94,7 +99,8 @@ module _ (span : ℕ) (after : List SegmentView) (steps : List Step) (some : 1 �
   cut_adds place long = at (cut_cases span after steps)
     where
       at : CutCases span after steps cuts → has (place + span) (starts place cuts) ≡ true
-      at (inl two) = ap (λ parts. has (place + span) (starts place parts)) two.1 ∙ has_rest place (place + span) ((place + span) ∷ []) (has_first (place + span) [])
+      at (inl two) = ap (λ parts. has (place + span) (starts place parts)) two.1 ∙ has_rest place (place + span) ((place + span) ∷ [])
+          (has_first (place + span) [])
       at (inr (inl none)) = absurd (omega (arith, none.0, long, some))
       at (inr (inr one)) = absurd (omega (arith, one.1, long))
 
@@ -111,7 +117,8 @@ module _ (span : ℕ) (after : List SegmentView) (steps : List Step) (some : 1 �
           let nowhere : false ≡ true = sym (ap (λ parts. has n (starts place parts)) none.2) ∙ found in
           absurd (cc nowhere)
       at (inr (inr one)) =
-          ⊎_elim (λ here. inl (sym here)) (λ nothing. absurd (cc nothing)) (first_or_rest place n [] (sym (ap (λ parts. has n (starts place parts)) one.2) ∙ found))
+          ⊎_elim (λ here. inl (sym here)) (λ nothing. absurd (cc nothing))
+          (first_or_rest place n [] (sym (ap (λ parts. has n (starts place parts)) one.2) ∙ found))
 
   cut_parts : AreParts (lengths after) → AreParts (cuts ++ lengths after)
   cut_parts parts = at (cut_cases span after steps)
@@ -126,7 +133,9 @@ module _ (span : ℕ) (after : List SegmentView) (steps : List Step) (some : 1 �
 
 -- ---- an edit
 
-module _ (kept : CheckpointedSession) (edit : Edit) (segments before : List SegmentView) (steps : List Step) (after front : List SegmentView) (some : 1 ≤ kept.span) (accepts : accepted kept.session edit ≡ Ok tt) (fit : AreCheckpoints kept.span (last_place kept.session) kept.checkpoints) (are : AreSegments kept segments) (shift : IsShift kept edit segments before steps after front) where
+module _ (kept : CheckpointedSession) (edit : Edit) (segments before : List SegmentView) (steps : List Step) (after front : List SegmentView)
+    (some : 1 ≤ kept.span) (accepts : accepted kept.session edit ≡ Ok tt) (fit : AreCheckpoints kept.span (last_place kept.session) kept.checkpoints)
+    (are : AreSegments kept segments) (shift : IsShift kept edit segments before steps after front) where
   abbrev begin : ℕ
   begin = length (all_steps before)
 
@@ -147,7 +156,13 @@ module _ (kept : CheckpointedSession) (edit : Edit) (segments before : List Segm
   old_last = omega (arith, ap length old_steps, length-append (all_steps front) (all_steps after), all_length after)
 
   pub new_last : last ≡ new_rest + total (lengths after)
-  new_last = omega (arith, ap length shift.result, length-append (all_steps before) (steps ++ all_steps after), length-append steps (all_steps after), all_length after)
+  new_last = omega (
+    arith,
+    ap length shift.result,
+    length-append (all_steps before) (steps ++ all_steps after),
+    length-append steps (all_steps after),
+    all_length after,
+  )
 
   -- ---- places of the session
 
@@ -210,12 +225,15 @@ module _ (kept : CheckpointedSession) (edit : Edit) (segments before : List Segm
   moved_either : (n : ℕ) → IsMoved kept edit n → (has n (starts 0 (lengths before)) ≡ true) ⊎ ((n ≡ begin) ⊎ (has n (starts new_rest (lengths after)) ≡ true))
   moved_either n moved = ⊎_elim early later (old_either moved.0 moved.1)
     where
-      early : has moved.0 (starts 0 (lengths front)) ≡ true → (has n (starts 0 (lengths before)) ≡ true) ⊎ ((n ≡ begin) ⊎ (has n (starts new_rest (lengths after)) ≡ true))
+      early : has moved.0 (starts 0 (lengths front)) ≡ true → (has n (starts 0 (lengths before)) ≡ true) ⊎
+          ((n ≡ begin) ⊎ (has n (starts new_rest (lengths after)) ≡ true))
       early found =
           let same : moved.0 ≡ n = sym (stays moved.0 (early_until moved.0 found)) ∙ moved.2 in
-          ⊎_elim (λ before_it. inl (subst (λ n. has n (starts 0 (lengths before)) ≡ true) same before_it)) (λ here. inr (inl (sym same ∙ here))) (shift.early moved.0 found)
+          ⊎_elim (λ before_it. inl (subst (λ n. has n (starts 0 (lengths before)) ≡ true) same before_it)) (λ here. inr (inl (sym same ∙ here)))
+          (shift.early moved.0 found)
 
-      later : has moved.0 (starts old_rest (lengths after)) ≡ true → (has n (starts 0 (lengths before)) ≡ true) ⊎ ((n ≡ begin) ⊎ (has n (starts new_rest (lengths after)) ≡ true))
+      later : has moved.0 (starts old_rest (lengths after)) ≡ true → (has n (starts 0 (lengths before)) ≡ true) ⊎
+          ((n ≡ begin) ⊎ (has n (starts new_rest (lengths after)) ≡ true))
       later found = inr (inr (start_moved moved.0 n old_rest new_rest (lengths after) (omega (arith, moved.2, shift.moves moved.0 found)) found))
 
   abbrev moved_test : ℕ → Bool
@@ -234,7 +252,8 @@ module _ (kept : CheckpointedSession) (edit : Edit) (segments before : List Segm
       let same : eqb (moved_place edit moved.0) n ≡ true = grind (arith, nat_tests, moved.2) in
       let within = moved_within_last moved.0 moved.1 in
       has-filter moved_test n (numbers (suc last))
-      ∙ ap₂ (λ a b. a && b) (list_any_at (λ other. eqb (moved_place edit other) n) moved.0 kept.checkpoints moved.1 same) (numbers_have (suc last) n (omega (arith, moved.2, within)))
+      ∙ ap₂ (λ a b. a && b) (list_any_at (λ other. eqb (moved_place edit other) n) moved.0 kept.checkpoints moved.1 same)
+      (numbers_have (suc last) n (omega (arith, moved.2, within)))
 
   listed_moved : (n : ℕ) → has n (moved_checkpoints kept edit) ≡ true → IsMoved kept edit n
   listed_moved n listed =
@@ -261,11 +280,13 @@ module _ (kept : CheckpointedSession) (edit : Edit) (segments before : List Segm
   long_end : 2 * kept.span ≤ length steps → begin + 2 * kept.span ≤ end
   long_end long =
       least_from (begin + 2 * kept.span) last (filter (λ next. ltb begin next) (moved_checkpoints kept edit)) (omega (arith, new_last, long)) (λ next found.
-      let parts = and_parts (ltb begin next) (has next (moved_checkpoints kept edit)) (sym (has-filter (λ next. ltb begin next) next (moved_checkpoints kept edit)) ∙ found) in
+      let parts = and_parts (ltb begin next) (has next (moved_checkpoints kept edit))
+      (sym (has-filter (λ next. ltb begin next) next (moved_checkpoints kept edit)) ∙ found) in
       let past : begin < next = grind (arith, nat_tests, parts.0) in
       far next past (moved_either next (listed_moved next parts.1)))
     where
-      far : (next : ℕ) → begin < next → (has next (starts 0 (lengths before)) ≡ true) ⊎ ((next ≡ begin) ⊎ (has next (starts new_rest (lengths after)) ≡ true)) → begin + 2 * kept.span ≤ next
+      far : (next : ℕ) → begin < next → (has next (starts 0 (lengths before)) ≡ true) ⊎ ((next ≡ begin) ⊎ (has next (starts new_rest (lengths after)) ≡ true)) →
+          begin + 2 * kept.span ≤ next
       far next past (inl found) = absurd (omega (arith, past, before_until next found))
       far next past (inr (inl same)) = absurd (omega (arith, past, same))
       far next past (inr (inr found)) = omega (arith, long, start_from next new_rest (lengths after) found)
@@ -276,15 +297,18 @@ module _ (kept : CheckpointedSession) (edit : Edit) (segments before : List Segm
       let listed = ap (λ parts. has old_rest (starts old_rest parts)) is ∙ has_first old_rest (starts (old_rest + a) rest) in
       let short = fit.short old_rest (old_after old_rest listed) in
       let long =
-      least_from (old_rest + a) (last_place kept.session) (filter (λ next. ltb old_rest next) kept.checkpoints) (omega (arith, old_last, ap total is)) (λ next found.
+      least_from (old_rest + a) (last_place kept.session) (filter (λ next. ltb old_rest next) kept.checkpoints) (omega (arith, old_last, ap total is))
+      (λ next found.
       let parts = and_parts (ltb old_rest next) (has next kept.checkpoints) (sym (has-filter (λ next. ltb old_rest next) next kept.checkpoints) ∙ found) in
       let past : old_rest < next = grind (arith, nat_tests, parts.0) in
-      ⊎_elim (λ early. absurd (omega (arith, past, early_until next early, shift.reaches))) (λ later. far next past (sym (ap (λ parts. has next (starts old_rest parts)) is) ∙ later)) (old_either next parts.1)) in
+      ⊎_elim (λ early. absurd (omega (arith, past, early_until next early, shift.reaches)))
+      (λ later. far next past (sym (ap (λ parts. has next (starts old_rest parts)) is) ∙ later)) (old_either next parts.1)) in
       omega (arith, short, long)
     where
       far : (next : ℕ) → old_rest < next → has next (starts old_rest (a ∷ rest)) ≡ true → old_rest + a ≤ next
       far next past found =
-          ⊎_elim (λ here. absurd (omega (arith, past, here))) (start_from next (old_rest + a) rest) (first_or_rest old_rest next (starts (old_rest + a) rest) found)
+          ⊎_elim (λ here. absurd (omega (arith, past, here))) (start_from next (old_rest + a) rest)
+          (first_or_rest old_rest next (starts (old_rest + a) rest) found)
 
   -- so only steps of two spans leave so long a segment
   short_end : begin + 2 * kept.span ≤ end → 2 * kept.span ≤ length steps
@@ -296,7 +320,8 @@ module _ (kept : CheckpointedSession) (edit : Edit) (segments before : List Segm
       none a (b ∷ rest) is empty =
           let parts = subst AreParts is after_parts in
           let low : 1 ≤ a = ⊎_elim (λ nothing. absurd (cc nothing)) (λ low. low) parts.0 in
-          let there = ap (λ parts. has (new_rest + a) (starts new_rest parts)) is ∙ has_rest new_rest (new_rest + a) (starts (new_rest + a) (b ∷ rest)) (has_first (new_rest + a) (starts (new_rest + a + b) rest)) in
+          let there = ap (λ parts. has (new_rest + a) (starts new_rest parts)) is ∙ has_rest new_rest (new_rest + a) (starts (new_rest + a) (b ∷ rest))
+          (has_first (new_rest + a) (starts (new_rest + a + b) rest)) in
           absurd (omega (arith, long, end_first (new_rest + a) (moved_after (new_rest + a) there) (omega (arith, low)), empty, first_short a (b ∷ rest) is))
 
       by : (ls : List ℕ) → lengths after ≡ ls → (b : Bool) → leb 1 (length steps) ≡ b → length steps < 2 * kept.span → 2 * kept.span ≤ length steps
@@ -329,14 +354,17 @@ module _ (kept : CheckpointedSession) (edit : Edit) (segments before : List Segm
       ∙ ap (λ places. starts 0 (lengths before) ++ places) (starts_append begin cuts (lengths after) ∙ ap (λ p. middle ++ starts p (lengths after)) later)
 
   new_ascend : IsStrictlyIncreasing (starts 0 parts)
-  new_ascend = parts_ascend 0 parts (parts_join (lengths before) (cut_lengths kept.span after steps ++ lengths after) shift.positive (cut_parts kept.span after steps some after_parts))
+  new_ascend = parts_ascend 0 parts (parts_join (lengths before) (cut_lengths kept.span after steps ++ lengths after) shift.positive
+      (cut_parts kept.span after steps some after_parts))
 
   new_listed : (n : ℕ) → (has n (starts 0 (lengths before)) ≡ true) ⊎ (has n (middle ++ starts new_rest (lengths after)) ≡ true) → has n (starts 0 parts) ≡ true
   new_listed n (inl found) = ap (has n) new_places ∙ has_left n (starts 0 (lengths before)) (middle ++ starts new_rest (lengths after)) found
   new_listed n (inr found) = ap (has n) new_places ∙ has_right n (starts 0 (lengths before)) (middle ++ starts new_rest (lengths after)) found
 
   are_these : (n : ℕ) → has n (starts 0 parts) ≡ true → IsMoved kept edit n ⊎ IsAdded kept edit n
-  are_these n found = ⊎_elim (λ early. inl (moved_before n early)) (λ later. ⊎_elim (λ there. cut_one (cut_found kept.span after steps some n begin there)) (λ past. inl (moved_after n past)) (has_either n middle (starts new_rest (lengths after)) later)) (has_either n (starts 0 (lengths before)) (middle ++ starts new_rest (lengths after)) (sym (ap (has n) new_places) ∙ found))
+  are_these n found = ⊎_elim (λ early. inl (moved_before n early)) (λ later. ⊎_elim (λ there. cut_one (cut_found kept.span after steps some n begin there))
+      (λ past. inl (moved_after n past)) (has_either n middle (starts new_rest (lengths after)) later))
+      (has_either n (starts 0 (lengths before)) (middle ++ starts new_rest (lengths after)) (sym (ap (has n) new_places) ∙ found))
     where
       cut_one : (n ≡ begin) ⊎ ((n ≡ begin + kept.span) × (2 * kept.span ≤ length steps)) → IsMoved kept edit n ⊎ IsAdded kept edit n
       cut_one (inl same) = inl (subst (IsMoved kept edit) (sym same) moved_begin)
@@ -357,7 +385,8 @@ module _ (kept : CheckpointedSession) (edit : Edit) (segments before : List Segm
   these_are n (inr added) =
       let long = short_end (subst (λ from. from + 2 * kept.span ≤ segment_end last (moved_checkpoints kept edit) from) (sym begins_there) added.1) in
       let same : begin + kept.span ≡ n = omega (arith, added.0, begins_there) in
-      new_listed n (inr (has_left n middle (starts new_rest (lengths after)) (subst (λ n. has n middle ≡ true) same (cut_adds kept.span after steps some begin long))))
+      new_listed n (inr (has_left n middle (starts new_rest (lengths after))
+      (subst (λ n. has n middle ≡ true) same (cut_adds kept.span after steps some begin long))))
 
   pub next_places : starts 0 parts ≡ next_checkpoints kept edit
   next_places =

@@ -10,7 +10,7 @@ use Rattle.bench_model.specs.Meeting.{met, CheckpointedSession, last_place}
 use Rattle.bench_model.specs.Session.{state_at}
 use Rattle.bench_model.specs.Table.{Table}
 use Rattle.meeting_laws.specs.CheckpointLaws.{AreCheckpoints}
-use Rattle.segment_laws.specs.EditedSegments.{AreUnmet, AreParted, AreReplayed, cut, has_none}
+use Rattle.segment_laws.specs.EditedSegments.{AreUnmet, AreSplit, AreReplayed, cut, has_none}
 use Rattle.segment_laws.specs.SegmentLaws.{IsEdited}
 use Rattle.segment_laws.specs.Segments.{SegmentView, steps_of, all_steps, later_segments, lengths, starts, AreSegments}
 use Rattle.segment_laws.proofs.EditedEnds.{ends_later, ends_there}
@@ -27,7 +27,8 @@ more_lengths : (xs ys : List SegmentView) → lengths (xs ++ ys) ≡ lengths xs 
 more_lengths xs ys = map-append (λ (segment : SegmentView). length segment.steps) xs ys
 
 -- which of the segments were replayed tells nothing of the lengths
-made_lengths : (span : ℕ) (table : Table) (steps : List Step) (after made : List SegmentView) (count by : ℕ) → AreReplayed span table steps after made count by → lengths made ++ lengths (drop count after) ≡ cut_lengths span after steps ++ lengths after
+made_lengths : (span : ℕ) (table : Table) (steps : List Step) (after made : List SegmentView) (count by : ℕ) → AreReplayed span table steps after made count by
+    → lengths made ++ lengths (drop count after) ≡ cut_lengths span after steps ++ lengths after
 made_lengths span table steps after made count by replayed =
     let parts = cut span (has_none after) steps in
     let front = take count after in
@@ -40,7 +41,11 @@ made_lengths span table steps after made count by replayed =
     ∙ append_assoc (cut_lengths span after steps) (lengths front) (lengths rest)
     ∙ ap (λ ns. cut_lengths span after steps ++ ns) (sym (more_lengths front rest) ∙ ap lengths (take-append-drop count after))
 
-pub edited_segments_stand : (kept : CheckpointedSession) (edit : Edit) (segments before : List SegmentView) (steps : List Step) (after made : List SegmentView) (count by : ℕ) → IsSession kept.session → IsEditOfWords edit → accepted kept.session edit ≡ Ok tt → 1 ≤ kept.span → AreCheckpoints kept.span (last_place kept.session) kept.checkpoints → AreSegments kept segments → AreParted edit segments before steps after → AreReplayed kept.span (state_at (edited edit kept.session).header (edited edit kept.session).steps (length (all_steps before))) steps after made count by → IsEdited kept edit before made (later_segments by (drop count after))
+pub edited_segments_stand : (kept : CheckpointedSession) (edit : Edit) (segments before : List SegmentView) (steps : List Step) (after made : List SegmentView)
+    (count by : ℕ) → IsSession kept.session → IsEditOfWords edit → accepted kept.session edit ≡ Ok tt → 1 ≤ kept.span → AreCheckpoints kept.span
+    (last_place kept.session) kept.checkpoints → AreSegments kept segments → AreSplit edit segments before steps after → AreReplayed kept.span
+    (state_at (edited edit kept.session).header (edited edit kept.session).steps (length (all_steps before))) steps after made count by → IsEdited kept edit
+    before made (later_segments by (drop count after))
 edited_segments_stand kept edit segments before steps after made count by is words accepts some fit are parts replayed =
     let table = state_at (edited edit kept.session).header (edited edit kept.session).steps (length (all_steps before)) in
     let rest = later_segments by (drop count after) in
@@ -61,8 +66,11 @@ edited_segments_stand kept edit segments before steps after made count by is wor
       met = ends_there kept edit segments before steps after shift.0 some accepts fit are shift.1 made count by replayed;
     }
 
-pub unmet_are_replayed : (kept : CheckpointedSession) (edit : Edit) (segments before : List SegmentView) (steps : List Step) (after : List SegmentView) (count : ℕ) → accepted kept.session edit ≡ Ok tt → 1 ≤ kept.span → AreCheckpoints kept.span (last_place kept.session) kept.checkpoints → AreSegments kept segments
-    → AreParted edit segments before steps after → AreUnmet (state_at (edited edit kept.session).header (edited edit kept.session).steps (length (all_steps before))) steps after count
+pub unmet_are_replayed : (kept : CheckpointedSession) (edit : Edit) (segments before : List SegmentView) (steps : List Step) (after : List SegmentView)
+    (count : ℕ) → accepted kept.session edit ≡ Ok tt → 1 ≤ kept.span → AreCheckpoints kept.span (last_place kept.session) kept.checkpoints → AreSegments kept
+    segments
+    → AreSplit edit segments before steps after → AreUnmet (state_at (edited edit kept.session).header (edited edit kept.session).steps
+    (length (all_steps before))) steps after count
     → length (all_steps before) + length steps + length (all_steps (take count after)) ≤ met kept edit
 unmet_are_replayed kept edit segments before steps after count accepts some fit are parts unmet =
     let shift = shifts kept segments before steps after fit are edit accepts parts in

@@ -52,11 +52,12 @@ pub all_more : (first second : List SegmentView) → all_steps (first ++ second)
 all_more first second = flat_map-append steps_of first second
 
 -- so many of the segments and the others
-pub all_parted : (count : ℕ) (segments : List SegmentView) → all_steps segments ≡ all_steps (take count segments) ++ all_steps (drop count segments)
-all_parted count segments = ap all_steps (sym (take-append-drop count segments)) ∙ all_more (take count segments) (drop count segments)
+pub segments_split : (count : ℕ) (segments : List SegmentView) → all_steps segments ≡ all_steps (take count segments) ++ all_steps (drop count segments)
+segments_split count segments = ap all_steps (sym (take-append-drop count segments)) ∙ all_more (take count segments) (drop count segments)
 
 -- the steps of the segments before one, its own, and those after it
-pub all_split : (segments : List SegmentView) (index : ℕ) (segment : SegmentView) → slice_get segments index ≡ Some segment → all_steps segments ≡ all_steps (take index segments) ++ (segment.steps ++ all_steps (drop (suc index) segments))
+pub all_split : (segments : List SegmentView) (index : ℕ) (segment : SegmentView) → slice_get segments index ≡ Some segment → all_steps segments ≡ all_steps
+    (take index segments) ++ (segment.steps ++ all_steps (drop (suc index) segments))
 all_split segments index segment found =
     ap all_steps (split_at segments index segment found) ∙ all_more (take index segments) (segment ∷ drop (suc index) segments)
 
@@ -66,10 +67,14 @@ state_append table first second = fold-append (λ table step. (step_of step tabl
 
 -- ---- segments
 
-pub follow_append : (first second : List SegmentView) (table : Table) → Follow table first → Follow (state_after table (all_steps first)) second → Follow table (first ++ second)
+pub follow_append : (first second : List SegmentView) (table : Table) → Follow table first → Follow (state_after table (all_steps first)) second → Follow table
+    (first ++ second)
 follow_append [] second table front back = back
-follow_append (segment ∷ first) second table front back =
-    (front.0, follow_append first second (state_after table segment.steps) front.1 (subst (λ state. Follow state second) (state_append table segment.steps (all_steps first)) back))
+follow_append (segment ∷ first) second table front back = (
+  front.0,
+  follow_append first second (state_after table segment.steps) front.1
+      (subst (λ state. Follow state second) (state_append table segment.steps (all_steps first)) back),
+)
 
 pub follow_front : (first second : List SegmentView) (table : Table) → Follow table (first ++ second) → Follow table first
 follow_front [] second table follow = tt
@@ -78,22 +83,27 @@ follow_front (segment ∷ first) second table follow = (follow.0, follow_front f
 pub follow_back : (first second : List SegmentView) (table : Table) → Follow table (first ++ second) → Follow (state_after table (all_steps first)) second
 follow_back [] second table follow = follow
 follow_back (segment ∷ first) second table follow =
-    subst (λ state. Follow state second) (sym (state_append table segment.steps (all_steps first))) (follow_back first second (state_after table segment.steps) follow.1)
+    subst (λ state. Follow state second) (sym (state_append table segment.steps (all_steps first)))
+    (follow_back first second (state_after table segment.steps) follow.1)
 
 -- so many of them, and those after these
 pub follow_take : (count : ℕ) (segments : List SegmentView) (table : Table) → Follow table segments → Follow table (take count segments)
 follow_take count segments table follow =
     follow_front (take count segments) (drop count segments) table (subst (Follow table) (sym (take-append-drop count segments)) follow)
 
-pub follow_drop : (count : ℕ) (segments : List SegmentView) (table : Table) → Follow table segments → Follow (state_after table (all_steps (take count segments))) (drop count segments)
+pub follow_drop : (count : ℕ) (segments : List SegmentView) (table : Table) → Follow table segments → Follow
+    (state_after table (all_steps (take count segments))) (drop count segments)
 follow_drop count segments table follow =
     follow_back (take count segments) (drop count segments) table (subst (Follow table) (sym (take-append-drop count segments)) follow)
 
 -- the kernel of the first one
-pub kernel_at : (segments : List SegmentView) (table : Table) (segment : SegmentView) → Follow table segments → slice_get segments 0 ≡ Some segment → StandsFor segment.kernel table
+pub kernel_at : (segments : List SegmentView) (table : Table) (segment : SegmentView) → Follow table segments → slice_get segments 0 ≡ Some segment → StandsFor
+    segment.kernel table
 kernel_at [] table segment follow found = absurd (cc found)
 kernel_at (first ∷ segments) table segment follow found = subst (λ (one : SegmentView). StandsFor one.kernel table) (same_Some first segment found) follow.0
 
-pub segment_follows : (table : Table) (segments : List SegmentView) (index : ℕ) (segment : SegmentView) → Follow table segments → slice_get segments index ≡ Some segment → StandsFor segment.kernel (state_after table (all_steps (take index segments)))
+pub segment_follows : (table : Table) (segments : List SegmentView) (index : ℕ) (segment : SegmentView) → Follow table segments → slice_get segments index ≡
+    Some segment → StandsFor segment.kernel (state_after table (all_steps (take index segments)))
 segment_follows table segments index segment follow found =
-    kernel_at (drop index segments) (state_after table (all_steps (take index segments))) segment (follow_drop index segments table follow) (sym (take_found segments index) ∙ found)
+    kernel_at (drop index segments) (state_after table (all_steps (take index segments))) segment (follow_drop index segments table follow)
+    (sym (take_found segments index) ∙ found)

@@ -1,5 +1,6 @@
 -- Segments whose kernels are so many ticks later: their steps, and that they follow a later state.
-use Rattle.std.proofs.Common.{◌≡◌, ◌⊎◌, inl, inr, ⊎_elim, ℕ, zero, suc, ◌+◌, Bool, true, false, cond, eqb, List, [], ◌∷◌, ◌++◌, length, map, take, drop, refl, sym, ap, ap₂, subst, ◌∙◌, arith}
+use Rattle.std.proofs.Common.{◌≡◌, ◌⊎◌, inl, inr, ⊎_elim, ℕ, zero, suc, ◌+◌, Bool, true, false, cond, eqb, List, [], ◌∷◌, ◌++◌, length, map, take, drop, refl}
+use Rattle.std.proofs.Common.{sym, ap, ap₂, subst, ◌∙◌, arith}
 use Rattle.std.specs.Prelude.{All, Some, slice_get}
 use Rattle.std.specs.List.{flat_map}
 use Rattle.std.proofs.lemmas.Bool.{or_parts}
@@ -88,7 +89,8 @@ met_front by a b own rest meet = record {
 }
 
 -- and after it before the second
-pub met_back : (by : ℕ) (a b : Table) (own rest : List Step) → view_of b ≡ shifted by (view_of a) → (by ≡ 0) ⊎ (some_delays_until (own ++ rest) ≡ false) → MeetBy by a b rest
+pub met_back : (by : ℕ) (a b : Table) (own rest : List Step) → view_of b ≡ shifted by (view_of a) → (by ≡ 0) ⊎ (some_delays_until (own ++ rest) ≡ false) →
+    MeetBy by a b rest
 met_back by a b own rest later unread = record {
   later = later;
   unread = ⊎_elim
@@ -97,7 +99,8 @@ met_back by a b own rest later unread = record {
       unread;
 }
 
-follow_moved : (by : ℕ) (segments : List SegmentView) (a b : Table) → IsSound a → IsSound b → MeetBy by a b (all_steps segments) → All (IsCheckedStep a.settings) (all_steps segments) → Follow a segments → Follow b (moved by segments)
+follow_moved : (by : ℕ) (segments : List SegmentView) (a b : Table) → IsSound a → IsSound b → MeetBy by a b (all_steps segments) → All
+    (IsCheckedStep a.settings) (all_steps segments) → Follow a segments → Follow b (moved by segments)
 follow_moved by [] a b first second meet all follow = tt
 follow_moved by (segment ∷ segments) a b first second meet all follow =
     let own = All_front (IsCheckedStep a.settings) segment.steps (all_steps segments) all in
@@ -105,10 +108,17 @@ follow_moved by (segment ∷ segments) a b first second meet all follow =
     let settings : b.settings ≡ a.settings = ap (λ (view : View). view.settings) meet.later in
     let other = subst (λ settings. All (IsCheckedStep settings) segment.steps) (sym settings) own in
     let run = met_run_alike by a b segment.steps first second (met_front by a b segment.steps (all_steps segments) meet) own in
-    let reached = subst (λ steps. view_of (state_after b steps) ≡ shifted by (view_of (state_after a steps))) (take_all (length segment.steps) segment.steps (omega arith)) (run.states (length segment.steps)) in
-    (stands_shifted by segment.kernel a b follow.0 meet.later second, follow_moved by segments (state_after a segment.steps) (state_after b segment.steps) (sound_along segment.steps a first own) (sound_along segment.steps b second other) (met_back by (state_after a segment.steps) (state_after b segment.steps) segment.steps (all_steps segments) reached meet.unread) (subst (λ settings. All (IsCheckedStep settings) (all_steps segments)) (sym (settings_along segment.steps a first own)) rest) follow.1)
+    let reached = subst (λ steps. view_of (state_after b steps) ≡ shifted by (view_of (state_after a steps)))
+    (take_all (length segment.steps) segment.steps (omega arith)) (run.states (length segment.steps)) in (
+      stands_shifted by segment.kernel a b follow.0 meet.later second,
+      follow_moved by segments (state_after a segment.steps) (state_after b segment.steps)
+          (sound_along segment.steps a first own) (sound_along segment.steps b second other)
+          (met_back by (state_after a segment.steps) (state_after b segment.steps) segment.steps (all_steps segments) reached meet.unread)
+          (subst (λ settings. All (IsCheckedStep settings) (all_steps segments)) (sym (settings_along segment.steps a first own)) rest) follow.1,
+    )
 
 -- from a state that they meet segments of checked steps follow, so many ticks later
-pub follow_met : (by : ℕ) (segments : List SegmentView) (a b : Table) → IsSound a → IsSound b → MeetBy by a b (all_steps segments) → All (IsCheckedStep a.settings) (all_steps segments) → Follow a segments → Follow b (later_segments by segments)
+pub follow_met : (by : ℕ) (segments : List SegmentView) (a b : Table) → IsSound a → IsSound b → MeetBy by a b (all_steps segments) → All
+    (IsCheckedStep a.settings) (all_steps segments) → Follow a segments → Follow b (later_segments by segments)
 follow_met by segments a b first second meet all follow =
     subst (Follow b) (sym (later_moved by segments a follow)) (follow_moved by segments a b first second meet all follow)

@@ -8,4 +8,4 @@ pub mod OpenedPlaces
 pub mod Reading
 pub mod Shifts
 pub mod Starts
-pub mod ToldLater
+pub mod ResultsLater

@@ -1,5 +1,6 @@
 -- A session that is opened is cut at each span before its last place.
-use Rattle.std.proofs.Common.{◌≡◌, ◌⊎◌, inl, ⊎_elim, ℕ, zero, suc, ◌+◌, ◌*◌, ◌/◌, ◌%◌, ◌<◌, ◌≤◌, max, Bool, true, false, eqb, ◌&&◌, leb, List, [], ◌∷◌, ◌++◌, replicate, refl, sym, ap, ap₂, ◌∙◌, arith, suc-mul, div-add-mod'}
+use Rattle.std.proofs.Common.{◌≡◌, ◌⊎◌, inl, ⊎_elim, ℕ, zero, suc, ◌+◌, ◌*◌, ◌/◌, ◌%◌, ◌<◌, ◌≤◌, max, Bool, true, false, eqb, ◌&&◌, leb, List, [], ◌∷◌, ◌++◌}
+use Rattle.std.proofs.Common.{replicate, refl, sym, ap, ap₂, ◌∙◌, arith, suc-mul, div-add-mod'}
 use Rattle.std.proofs.Math.Nat.{mul-mod_left, mul-le-mul_right}
 use Rattle.std.proofs.lemmas.Bool.{and_parts}
 use Rattle.std.proofs.lemmas.Bool.Decides.{nat_tests}
@@ -51,7 +52,8 @@ opened_found n (suc full) span rest place found =
 
 -- ---- the session
 
-module _ (span : ℕ) (session : Session) (full rest : ℕ) (some : 1 ≤ span) (short : rest ≤ span) (least : (1 ≤ rest) ⊎ (full ≡ 0)) (long : full * span + rest ≡ last_place session) where
+module _ (span : ℕ) (session : Session) (full rest : ℕ) (some : 1 ≤ span) (short : rest ≤ span) (least : (1 ≤ rest) ⊎ (full ≡ 0))
+    (long : full * span + rest ≡ last_place session) where
   abbrev count : ℕ
   count = max 1 (last_place session)
 

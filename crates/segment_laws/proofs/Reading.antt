@@ -1,5 +1,6 @@
 -- What segments tell of their session: its places, the part that is edited, and its tallies.
-use Rattle.std.proofs.Common.{◌≡◌, ◌⊎◌, inl, inr, ⊎_elim, ℕ, zero, suc, ◌+◌, ◌-◌, ◌<◌, ◌≤◌, Bool, leb, List, [], ◌∷◌, ◌++◌, length, map, take, drop, None, Ok, refl, sym, ap, ap₂, subst, ◌∙◌, arith, add-one, take-add}
+use Rattle.std.proofs.Common.{◌≡◌, ◌⊎◌, inl, inr, ⊎_elim, ℕ, zero, suc, ◌+◌, ◌-◌, ◌<◌, ◌≤◌, Bool, leb, List, [], ◌∷◌, ◌++◌, length, map, take, drop, None, Ok}
+use Rattle.std.proofs.Common.{refl, sym, ap, ap₂, subst, ◌∙◌, arith, add-one, take-add}
 use Rattle.std.specs.Prelude.{All, Some, fold, option_map, slice_get, if◌then◌else◌}
 use Rattle.std.proofs.lemmas.Bool.Decides.{nat_tests}
 use Rattle.std.proofs.lemmas.List.{append-nil, append_assoc, take_at, drop_at, take-append-le, length-append}
@@ -29,7 +30,7 @@ use Rattle.step_laws.proofs.Starts.{start_sound}
 use Rattle.meeting_laws.specs.RunLaws.{tallies_in_turn}
 use Rattle.meeting_laws.proofs.Meetings.{before_is_untouched}
 use Rattle.meeting_laws.proofs.Runs.{segments_add_up}
-use Rattle.segment_laws.specs.EditedSegments.{IsPartedAt}
+use Rattle.segment_laws.specs.EditedSegments.{IsSplitAt}
 use Rattle.segment_laws.specs.SegmentLaws.{IsReadAt, IsFoundPart}
 use Rattle.segment_laws.specs.Segments.{SegmentView, steps_of, all_steps, lengths, starts, Follow, AreSegments, IsIndexOf, reply_after, running_after}
 use Rattle.segment_laws.proofs.Following.{split_at, take_with, take_found, All_front, All_back, all_more, all_split, state_append, follow_back}
@@ -64,7 +65,8 @@ module _ {X : Type 0} where
 
 -- ---- the state after the first steps
 
-pub state_front : (header : Header) (steps front rest : List Step) → steps ≡ front ++ rest → state_at header steps (length front) ≡ state_after (start header) front
+pub state_front : (header : Header) (steps front rest : List Step) → steps ≡ front ++ rest → state_at header steps (length front) ≡ state_after (start header)
+    front
 unfolding state_at
 state_front header steps front rest whole =
     ap (state_after (start header)) (ap (take (length front)) whole ∙ take_at front rest (length front) refl)
@@ -91,7 +93,8 @@ module _ (session : Session) (front rest : List Step) (is : IsSession session) (
 
 -- ---- a segment of a session
 
-module _ (kept : CheckpointedSession) (segments before : List SegmentView) (part : SegmentView) (after : List SegmentView) (are : AreSegments kept segments) (whole : segments ≡ before ++ part ∷ after) where
+module _ (kept : CheckpointedSession) (segments before : List SegmentView) (part : SegmentView) (after : List SegmentView) (are : AreSegments kept segments)
+    (whole : segments ≡ before ++ part ∷ after) where
   -- the steps of the session
   pub part_steps : kept.session.steps ≡ all_steps before ++ (part.steps ++ all_steps after)
   part_steps = sym are.steps ∙ ap all_steps whole ∙ all_more before (part ∷ after)
@@ -102,14 +105,17 @@ module _ (kept : CheckpointedSession) (segments before : List SegmentView) (part
   -- its kernel stands for the state at the place where it begins
   pub part_stands : StandsFor part.kernel (state_at kept.session.header kept.session.steps (length (all_steps before)))
   part_stands =
-      subst (StandsFor part.kernel) (sym (state_front kept.session.header kept.session.steps (all_steps before) (part.steps ++ all_steps after) part_steps)) part_kernel
+      subst (StandsFor part.kernel) (sym (state_front kept.session.header kept.session.steps (all_steps before) (part.steps ++ all_steps after) part_steps))
+      part_kernel
 
   pub part_checked : IsSession kept.session → All (IsCheckedStep (settings_of kept.session.header)) part.steps
   part_checked is =
-      All_front (IsCheckedStep (settings_of kept.session.header)) part.steps (all_steps after) (back_checked kept.session (all_steps before) (part.steps ++ all_steps after) is part_steps)
+      All_front (IsCheckedStep (settings_of kept.session.header)) part.steps (all_steps after)
+      (back_checked kept.session (all_steps before) (part.steps ++ all_steps after) is part_steps)
 
   -- the settings there, and those of its kernel, are the session's
-  pub part_settings : IsSession kept.session → (state_at kept.session.header kept.session.steps (length (all_steps before))).settings ≡ settings_of kept.session.header
+  pub part_settings : IsSession kept.session → (state_at kept.session.header kept.session.steps (length (all_steps before))).settings ≡ settings_of
+      kept.session.header
   part_settings is =
       ap (λ (table : Table). table.settings) (state_front kept.session.header kept.session.steps (all_steps before) (part.steps ++ all_steps after) part_steps)
       ∙ front_settings kept.session (all_steps before) (part.steps ++ all_steps after) is part_steps
@@ -118,14 +124,16 @@ module _ (kept : CheckpointedSession) (segments before : List SegmentView) (part
   kernel_settings is = sym (ap (λ (view : View). view.settings) part_stands.shows) ∙ part_settings is
 
 -- the same of the segment at an index
-module _ (kept : CheckpointedSession) (segments : List SegmentView) (index : ℕ) (segment : SegmentView) (are : AreSegments kept segments) (found : slice_get segments index ≡ Some segment) where
+module _ (kept : CheckpointedSession) (segments : List SegmentView) (index : ℕ) (segment : SegmentView) (are : AreSegments kept segments)
+    (found : slice_get segments index ≡ Some segment) where
   pub segment_stands : StandsFor segment.kernel (state_at kept.session.header kept.session.steps (length (all_steps (take index segments))))
   segment_stands = part_stands kept segments (take index segments) segment (drop (suc index) segments) are (split_at segments index segment found)
 
   pub segment_checked : IsSession kept.session → All (IsCheckedStep (settings_of kept.session.header)) segment.steps
   segment_checked = part_checked kept segments (take index segments) segment (drop (suc index) segments) are (split_at segments index segment found)
 
-  pub segment_settings : IsSession kept.session → (state_at kept.session.header kept.session.steps (length (all_steps (take index segments)))).settings ≡ settings_of kept.session.header
+  pub segment_settings : IsSession kept.session → (state_at kept.session.header kept.session.steps (length (all_steps (take index segments)))).settings ≡
+      settings_of kept.session.header
   segment_settings = part_settings kept segments (take index segments) segment (drop (suc index) segments) are (split_at segments index segment found)
 
   pub segment_kernel_settings : IsSession kept.session → segment.kernel.settings ≡ settings_of kept.session.header
@@ -134,7 +142,8 @@ module _ (kept : CheckpointedSession) (segments : List SegmentView) (index : ℕ
 -- ---- where a segment begins and ends
 
 -- the segment from the last checkpoint before a place
-module _ (kept : CheckpointedSession) (segments : List SegmentView) (place index from : ℕ) (segment : SegmentView) (are : AreSegments kept segments) (is : IsIndexOf kept.checkpoints place index from) (found : slice_get segments index ≡ Some segment) where
+module _ (kept : CheckpointedSession) (segments : List SegmentView) (place index from : ℕ) (segment : SegmentView) (are : AreSegments kept segments)
+    (is : IsIndexOf kept.checkpoints place index from) (found : slice_get segments index ≡ Some segment) where
   starts_kept : (i : ℕ) (one : SegmentView) → slice_get segments i ≡ Some one → slice_get kept.checkpoints i ≡ Some (0 + length (all_steps (take i segments)))
   starts_kept i one there = ap (λ places. slice_get places i) (sym are.places) ∙ starts_at segments 0 i (slice_get_within segments i one there)
 
@@ -147,8 +156,10 @@ module _ (kept : CheckpointedSession) (segments : List SegmentView) (place index
   before_next next rest drops =
       let there : slice_get segments (suc index) ≡ Some next = take_found segments (suc index) ∙ ap (λ list. slice_get list 0) drops in
       let before = all_steps (take index segments) in
-      let steps : all_steps (take (suc index) segments) ≡ before ++ (segment.steps ++ []) = ap all_steps (take_with segments index segment found) ∙ all_more (take index segments) (segment ∷ []) in
-      let place : 0 + length (all_steps (take (suc index) segments)) ≡ from + length segment.steps = omega (arith, begins_at, ap length steps, length-append before (segment.steps ++ []), ap length (append-nil segment.steps)) in
+      let steps : all_steps (take (suc index) segments) ≡ before ++ (segment.steps ++ []) = ap all_steps (take_with segments index segment found) ∙ all_more
+      (take index segments) (segment ∷ []) in
+      let place : 0 + length (all_steps (take (suc index) segments)) ≡ from + length segment.steps = omega
+      (arith, begins_at, ap length steps, length-append before (segment.steps ++ []), ap length (append-nil segment.steps)) in
       is.last (from + length segment.steps) (ap (slice_get kept.checkpoints) (add-one index) ∙ starts_kept (suc index) next there ∙ ap Some place)
 
   ends_at : (all_steps (drop (suc index) segments) ≡ []) ⊎ (place < from + length segment.steps)
@@ -160,7 +171,8 @@ module _ (kept : CheckpointedSession) (segments : List SegmentView) (place index
 
 -- ---- a place of steps in three parts: it lies in the second, or the third has none
 
-module _ (header : Header) (steps front own rest : List Step) (place from : ℕ) (whole : steps ≡ front ++ (own ++ rest)) (at : length front ≡ from) (before : from ≤ place) (ends : (rest ≡ []) ⊎ (place < from + length own)) where
+module _ (header : Header) (steps front own rest : List Step) (place from : ℕ) (whole : steps ≡ front ++ (own ++ rest)) (at : length front ≡ from)
+    (before : from ≤ place) (ends : (rest ≡ []) ⊎ (place < from + length own)) where
   there : place ≡ length front + (place - from)
   there = omega (arith, at, before)
 
@@ -220,7 +232,8 @@ module _ (header : Header) (steps front own rest : List Step) (place from : ℕ)
   unfolding running_at
   row_read = ap₂ (λ (b : Bool) (table : Table). if b then Some (running table.control) else None) same_test state_read
 
-pub places_are_read : (kept : CheckpointedSession) (segments : List SegmentView) (place index from : ℕ) (segment : SegmentView) → AreSegments kept segments → IsIndexOf kept.checkpoints place index from → slice_get segments index ≡ Some segment → IsReadAt kept.session place from segment
+pub places_are_read : (kept : CheckpointedSession) (segments : List SegmentView) (place index from : ℕ) (segment : SegmentView) → AreSegments kept segments →
+    IsIndexOf kept.checkpoints place index from → slice_get segments index ≡ Some segment → IsReadAt kept.session place from segment
 places_are_read kept segments place index from segment are is found =
     let header = kept.session.header in
     let steps = kept.session.steps in
@@ -242,12 +255,13 @@ places_are_read kept segments place index from segment are is found =
 
 -- ---- the part that is edited
 
-pub parts_are_found : (kept : CheckpointedSession) (segments : List SegmentView) (edit : Edit) (index from : ℕ) (part : SegmentView) → AreSegments kept segments → IsIndexOf kept.checkpoints (place_of edit) index from → slice_get segments index ≡ Some part → IsFoundPart edit segments index from part
+pub parts_are_found : (kept : CheckpointedSession) (segments : List SegmentView) (edit : Edit) (index from : ℕ) (part : SegmentView) → AreSegments kept segments
+    → IsIndexOf kept.checkpoints (place_of edit) index from → slice_get segments index ≡ Some part → IsFoundPart edit segments index from part
 parts_are_found kept segments edit index from part are is found =
     let begins = begins_at kept segments (place_of edit) index from part are is found in
     let dropped : drop (suc index) segments ≡ drop (index + 1) segments = ap (λ n. drop n segments) (sym (add-one index)) in
     record {
-      parted = record {
+      split = record {
         whole = split_at segments index part found ∙ ap (λ after. take index segments ++ part ∷ after) dropped;
         from = omega (arith, begins, is.before);
         within = λ next rest after. omega (arith, begins, before_next kept segments (place_of edit) index from part are is found next rest (dropped ∙ after));
@@ -255,29 +269,37 @@ parts_are_found kept segments edit index from part are is found =
       begins = begins;
     }
 
-pub part_stands_still : (kept : CheckpointedSession) (edit : Edit) (segments before : List SegmentView) (part : SegmentView) (after : List SegmentView) → AreSegments kept segments → accepted kept.session edit ≡ Ok tt → (edited edit kept.session).header ≡ kept.session.header → IsPartedAt edit segments before part after →
+pub part_stands_still : (kept : CheckpointedSession) (edit : Edit) (segments before : List SegmentView) (part : SegmentView) (after : List SegmentView) →
+    AreSegments kept segments → accepted kept.session edit ≡ Ok tt → (edited edit kept.session).header ≡ kept.session.header → IsSplitAt edit segments before
+    part after →
     StandsFor part.kernel (state_at (edited edit kept.session).header (edited edit kept.session).steps (length (all_steps before)))
-part_stands_still kept edit segments before part after are accepts header parted =
-    let untouched = before_is_untouched kept.session edit (length (all_steps before)) accepts header parted.from in
-    subst (StandsFor part.kernel) (sym untouched.state) (part_stands kept segments before part after are parted.whole)
+part_stands_still kept edit segments before part after are accepts header split =
+    let untouched = before_is_untouched kept.session edit (length (all_steps before)) accepts header split.from in
+    subst (StandsFor part.kernel) (sym untouched.state) (part_stands kept segments before part after are split.whole)
 
 -- ---- tallies
 
 -- with one segment more
-pub tallies_more : (settings : Settings) (table : Table) (segments : List SegmentView) (index : ℕ) (segment : SegmentView) → slice_get segments index ≡ Some segment →
-    part_tallies settings table (all_steps (take (suc index) segments)) ≡ added (part_tallies settings table (all_steps (take index segments))) (part_tallies settings (state_after table (all_steps (take index segments))) segment.steps)
+pub tallies_more : (settings : Settings) (table : Table) (segments : List SegmentView) (index : ℕ) (segment : SegmentView) → slice_get segments index ≡ Some
+    segment →
+    part_tallies settings table (all_steps (take (suc index) segments)) ≡ added (part_tallies settings table (all_steps (take index segments)))
+    (part_tallies settings (state_after table (all_steps (take index segments))) segment.steps)
 tallies_more settings table segments index segment found =
     let front = all_steps (take index segments) in
-    let steps : all_steps (take (suc index) segments) ≡ front ++ segment.steps = ap all_steps (take_with segments index segment found) ∙ all_more (take index segments) (segment ∷ []) ∙ ap (λ own. front ++ own) (append-nil segment.steps) in
+    let steps : all_steps (take (suc index) segments) ≡ front ++ segment.steps = ap all_steps (take_with segments index segment found) ∙ all_more
+    (take index segments) (segment ∷ []) ∙ ap (λ own. front ++ own) (append-nil segment.steps) in
     ap (part_tallies settings table) steps ∙ parts_added settings table front segment.steps
 
-steps_in_turn : (first : List Step) (segments : List SegmentView) → fold (λ steps segment. steps ++ segment) first (map steps_of segments) ≡ first ++ all_steps segments
+steps_in_turn : (first : List Step) (segments : List SegmentView) → fold (λ steps segment. steps ++ segment) first (map steps_of segments) ≡ first ++ all_steps
+    segments
 steps_in_turn first [] = sym (append-nil first)
 steps_in_turn first (segment ∷ segments) = steps_in_turn (first ++ segment.steps) segments ∙ append_assoc first segment.steps (all_steps segments)
 
 -- those of the session are the first segment's, with each later one's added to them
-pub segment_tallies : (kept : CheckpointedSession) (first : SegmentView) (segments : List SegmentView) → AreSegments kept (first ∷ segments) → let settings = settings_of kept.session.header in let table = start kept.session.header in
-    tallies kept.session.header kept.session.steps ≡ fold added (part_tallies settings table first.steps) (tallies_in_turn settings (state_after table first.steps) (map steps_of segments))
+pub segment_tallies : (kept : CheckpointedSession) (first : SegmentView) (segments : List SegmentView) → AreSegments kept (first ∷ segments) → let settings =
+    settings_of kept.session.header in let table = start kept.session.header in
+    tallies kept.session.header kept.session.steps ≡ fold added (part_tallies settings table first.steps)
+    (tallies_in_turn settings (state_after table first.steps) (map steps_of segments))
 segment_tallies kept first segments are =
     let settings = settings_of kept.session.header in
     let table = start kept.session.header in

@@ -1,5 +1,6 @@
 -- Where parts of given lengths begin: which places these are, and when they ascend.
-use Rattle.std.proofs.Common.{◌≡◌, ◌⊎◌, inl, inr, ⊎_elim, ℕ, zero, suc, ◌+◌, ◌<◌, ◌≤◌, Bool, true, false, eqb, ◌||◌, List, [], ◌∷◌, ◌++◌, length, take, refl, sym, ap, subst, ◌∙◌, arith, length-append}
+use Rattle.std.proofs.Common.{◌≡◌, ◌⊎◌, inl, inr, ⊎_elim, ℕ, zero, suc, ◌+◌, ◌<◌, ◌≤◌, Bool, true, false, eqb, ◌||◌, List, [], ◌∷◌, ◌++◌, length, take, refl}
+use Rattle.std.proofs.Common.{sym, ap, subst, ◌∙◌, arith, length-append}
 use Rattle.std.specs.Prelude.{⊤, Some, slice_get, slice_index}
 use Rattle.std.specs.List.Sorted.{IsStrictlyIncreasing}
 use Rattle.std.proofs.lemmas.List.Folds.{list_any-append}
@@ -78,7 +79,8 @@ start_moved n m place next (x ∷ xs) far found =
     (first_or_rest place n (starts (place + x) xs) found)
 
 -- the place of a segment, and the segment of a place
-pub start_at : (segments : List SegmentView) (i place : ℕ) (segment : SegmentView) → slice_get segments i ≡ Some segment → has (place + length (all_steps (take i segments))) (starts place (lengths segments)) ≡ true
+pub start_at : (segments : List SegmentView) (i place : ℕ) (segment : SegmentView) → slice_get segments i ≡ Some segment → has
+    (place + length (all_steps (take i segments))) (starts place (lengths segments)) ≡ true
 start_at [] i place segment found = absurd (cc found)
 start_at (first ∷ segments) zero place segment found =
     let same : place + 0 ≡ place = omega arith in
@@ -89,7 +91,8 @@ start_at (first ∷ segments) (suc i) place segment found =
     let same : n ≡ place + length first.steps + length (all_steps (take i segments)) = omega (arith, length-append first.steps (all_steps (take i segments))) in
     has_rest place n rest (ap (λ p. has p rest) same ∙ start_at segments i (place + length first.steps) segment found)
 
-pub start_found : (segments : List SegmentView) (n place : ℕ) → has n (starts place (lengths segments)) ≡ true → (i : ℕ) × (segment : SegmentView) × (slice_get segments i ≡ Some segment) × (n ≡ place + length (all_steps (take i segments)))
+pub start_found : (segments : List SegmentView) (n place : ℕ) → has n (starts place (lengths segments)) ≡ true → (i : ℕ) × (segment : SegmentView) ×
+    (slice_get segments i ≡ Some segment) × (n ≡ place + length (all_steps (take i segments)))
 start_found [] n place found = absurd (cc found)
 start_found (first ∷ segments) n place found =
     ⊎_elim
@@ -104,16 +107,24 @@ more_steps segments zero j few = omega arith
 more_steps [] (suc i) j few = omega arith
 more_steps (first ∷ segments) (suc i) zero few = absurd (omega (arith, few))
 more_steps (first ∷ segments) (suc i) (suc j) few =
-    omega (arith, length-append first.steps (all_steps (take i segments)), length-append first.steps (all_steps (take j segments)), more_steps segments i j (omega (arith, few)))
+    omega (
+      arith,
+      length-append first.steps (all_steps (take i segments)),
+      length-append first.steps (all_steps (take j segments)),
+      more_steps segments i j
+          (omega (arith, few)),
+    )
 
 -- where the segment at an index begins
-pub starts_at : (segments : List SegmentView) (base index : ℕ) → index < length segments → slice_get (starts base (lengths segments)) index ≡ Some (base + length (all_steps (take index segments)))
+pub starts_at : (segments : List SegmentView) (base index : ℕ) → index < length segments → slice_get (starts base (lengths segments)) index ≡ Some
+    (base + length (all_steps (take index segments)))
 starts_at [] base index early = absurd (omega (arith, early))
 starts_at (first ∷ segments) base zero early =
     let same : base ≡ base + 0 = omega arith in
     ap Some same
 starts_at (first ∷ segments) base (suc index) early =
-    let same : base + length first.steps + length (all_steps (take index segments)) ≡ base + length (first.steps ++ all_steps (take index segments)) = omega (arith, length-append first.steps (all_steps (take index segments))) in
+    let same : base + length first.steps + length (all_steps (take index segments)) ≡ base + length (first.steps ++ all_steps (take index segments)) = omega
+    (arith, length-append first.steps (all_steps (take index segments))) in
     starts_at segments (base + length first.steps) index (omega (arith, early)) ∙ ap Some same
 
 -- ---- places that ascend
@@ -150,7 +161,8 @@ ascend_parts place (x ∷ y ∷ ys) up = (inr some, ascend_parts (place + x) (y 
         let low : place < place + x = up 0 (omega arith) in
         omega (arith, low)
 
-    rest_up : (k : ℕ) → k + 1 < length (starts (place + x) (y ∷ ys)) → slice_index (starts (place + x) (y ∷ ys)) k < slice_index (starts (place + x) (y ∷ ys)) (k + 1)
+    rest_up : (k : ℕ) → k + 1 < length (starts (place + x) (y ∷ ys)) → slice_index (starts (place + x) (y ∷ ys)) k < slice_index (starts (place + x) (y ∷ ys))
+        (k + 1)
     rest_up k within =
         let next : suc k + 1 ≡ suc (k + 1) = omega arith in
         subst (λ j. slice_index rest k < slice_index (place ∷ rest) j) next (up (suc k) (omega (arith, within)))

@@ -1,7 +1,8 @@
 -- Segments of an edited session: one is parted from the others, edited and cut, and those after it
 -- are replayed up to the first whose kernel the replay comes to, but for a tick count that no later
 -- step reads.
-use Rattle.std.specs.Prelude.{◌≡◌, ℕ, ◌+◌, ◌-◌, ◌*◌, ◌<◌, ◌≤◌, List, [], ◌∷◌, ◌++◌, length, map, take, drop, insert, remove, Bool, true, false, not, ◌&&◌, nat_le, if◌then◌else◌, slice_set, slice_get, Some}
+use Rattle.std.specs.Prelude.{◌≡◌, ℕ, ◌+◌, ◌-◌, ◌*◌, ◌<◌, ◌≤◌, List, [], ◌∷◌, ◌++◌, length, map, take, drop, insert, remove, Bool, true, false, not, ◌&&◌}
+use Rattle.std.specs.Prelude.{nat_le, if◌then◌else◌, slice_set, slice_get, Some}
 use Rattle.bench_types.specs.declared.edit.Edit.{Edit}
 use Rattle.bench_types.specs.declared.edit.Edit.TheVariants.{Insert, Remove, Replace, ChangeTask}
 use Rattle.bench_types.specs.declared.step.Step.{Step}
@@ -21,7 +22,7 @@ edited_part (Replace at step) from steps = slice_set steps (at - from) step
 edited_part (ChangeTask task priority mask) from steps = steps
 
 -- the segment is the one with the place of the edit
-pub record IsPartedAt (edit : Edit) (segments before : List SegmentView) (part : SegmentView)
+pub record IsSplitAt (edit : Edit) (segments before : List SegmentView) (part : SegmentView)
     (after : List SegmentView) : Type 0 where
   pub whole : segments ≡ before ++ part ∷ after
   pub from : length (all_steps before) ≤ place_of edit
@@ -31,18 +32,18 @@ pub record IsPartedAt (edit : Edit) (segments before : List SegmentView) (part :
 
 -- The segments before the edit, the edited steps and the segments after them; where a task is
 -- changed, all segments are after the edit.
-abbrev pub AreParted :
+abbrev pub AreSplit :
     Edit → List SegmentView → List SegmentView → List Step → List SegmentView → Type 0
-AreParted (ChangeTask task priority mask) segments before steps after =
+AreSplit (ChangeTask task priority mask) segments before steps after =
     (before ≡ []) × (steps ≡ []) × (after ≡ segments)
-AreParted (Insert at step) segments before steps after =
-    (part : SegmentView) × IsPartedAt (Insert at step) segments before part after
+AreSplit (Insert at step) segments before steps after =
+    (part : SegmentView) × IsSplitAt (Insert at step) segments before part after
     × (steps ≡ edited_part (Insert at step) (length (all_steps before)) part.steps)
-AreParted (Remove at) segments before steps after =
-    (part : SegmentView) × IsPartedAt (Remove at) segments before part after
+AreSplit (Remove at) segments before steps after =
+    (part : SegmentView) × IsSplitAt (Remove at) segments before part after
     × (steps ≡ edited_part (Remove at) (length (all_steps before)) part.steps)
-AreParted (Replace at step) segments before steps after =
-    (part : SegmentView) × IsPartedAt (Replace at step) segments before part after
+AreSplit (Replace at step) segments before steps after =
+    (part : SegmentView) × IsSplitAt (Replace at step) segments before part after
     × (steps ≡ edited_part (Replace at step) (length (all_steps before)) part.steps)
 
 abbrev pub is_empty : List Step → Bool

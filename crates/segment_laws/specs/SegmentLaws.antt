@@ -15,8 +15,8 @@ use Rattle.bench_model.specs.Shifted.{shifted, some_delays_until}
 use Rattle.bench_model.specs.Table.{Table}
 use Rattle.bench_model.specs.Tally.{TaskTally}
 use Rattle.meeting_laws.specs.CheckpointLaws.{AreCheckpoints}
-use Rattle.segment_laws.specs.EditedSegments.{IsPartedAt, AreParted, AreUnmet, AreReplayed}
-use Rattle.segment_laws.specs.Segments.{SegmentView, all_steps, later_segments, starts, Follow, AreSegments, IsIndexOf, IsTold, reply_after, running_after}
+use Rattle.segment_laws.specs.EditedSegments.{IsSplitAt, AreSplit, AreUnmet, AreReplayed}
+use Rattle.segment_laws.specs.Segments.{SegmentView, all_steps, later_segments, starts, Follow, AreSegments, IsIndexOf, AreResults, reply_after, running_after}
 
 -- the segment from the last checkpoint before a place tells what the session has at the place
 pub record IsReadAt (session : Session) (place from : ℕ) (segment : SegmentView) : Type 0 where
@@ -49,13 +49,13 @@ SegmentFollows =
     → StandsFor segment.kernel (state_after table (all_steps (take index segments)))
 
 -- what steps on a kernel led to, they lead to so many ticks later, where none reads the tick count
-abbrev pub ToldStaysLater : Type 0
-ToldStaysLater =
+abbrev pub ResultsStayLater : Type 0
+ResultsStayLater =
     (by : ℕ) (kernel : View) (steps : List Step) (table : Table) (replies : List Reply)
     (currents : List ℕ) (tallies : List TaskTally) → StandsFor kernel table
     → All (IsCheckedStep kernel.settings) steps → some_delays_until steps ≡ false
-    → IsTold kernel steps replies currents tallies
-    → IsTold (shifted by kernel) steps replies currents tallies
+    → AreResults kernel steps replies currents tallies
+    → AreResults (shifted by kernel) steps replies currents tallies
 
 -- a session that is opened is cut at each span before its last place
 abbrev pub OpenedPlacesAreFirst : Type 0
@@ -67,7 +67,7 @@ OpenedPlacesAreFirst =
 -- the segment from the last checkpoint before an edit is the one with its place
 pub record IsFoundPart (edit : Edit) (segments : List SegmentView) (index from : ℕ)
     (part : SegmentView) : Type 0 where
-  pub parted : IsPartedAt edit segments (take index segments) part (drop (index + 1) segments)
+  pub split : IsSplitAt edit segments (take index segments) part (drop (index + 1) segments)
   pub begins : length (all_steps (take index segments)) ≡ from
 
 abbrev pub PartsAreFound : Type 0
@@ -84,7 +84,7 @@ PartStandsStill =
     (part : SegmentView) (after : List SegmentView) → AreSegments kept segments
     → accepted kept.session edit ≡ Ok tt
     → (edited edit kept.session).header ≡ kept.session.header
-    → IsPartedAt edit segments before part after →
+    → IsSplitAt edit segments before part after →
     StandsFor part.kernel
     (state_at (edited edit kept.session).header (edited edit kept.session).steps
     (length (all_steps before)))
@@ -102,7 +102,7 @@ EditedSegmentsStand =
     (steps : List Step) (after made : List SegmentView) (count by : ℕ) → IsSession kept.session
     → IsEditOfWords edit → accepted kept.session edit ≡ Ok tt → 1 ≤ kept.span
     → AreCheckpoints kept.span (last_place kept.session) kept.checkpoints
-    → AreSegments kept segments → AreParted edit segments before steps after →
+    → AreSegments kept segments → AreSplit edit segments before steps after →
     AreReplayed kept.span
     (state_at (edited edit kept.session).header (edited edit kept.session).steps
     (length (all_steps before))) steps after made count by
@@ -115,7 +115,7 @@ UnmetAreReplayed =
     (steps : List Step) (after : List SegmentView) (count : ℕ)
     → accepted kept.session edit ≡ Ok tt → 1 ≤ kept.span
     → AreCheckpoints kept.span (last_place kept.session) kept.checkpoints
-    → AreSegments kept segments → AreParted edit segments before steps after →
+    → AreSegments kept segments → AreSplit edit segments before steps after →
     AreUnmet
     (state_at (edited edit kept.session).header (edited edit kept.session).steps
     (length (all_steps before))) steps after count

@@ -1,5 +1,6 @@
 -- Segments of a session: the steps from one checkpoint to the next, with the kernel at the first.
-use Rattle.std.specs.Prelude.{◌≡◌, ℕ, ◌+◌, ◌<◌, ◌≤◌, ⊤, List, [], ◌∷◌, ◌==◌, length, map, take, Option, Some, None, nat_le, if◌then◌else◌, option_map, slice_get}
+use Rattle.std.specs.Prelude.{◌≡◌, ℕ, ◌+◌, ◌<◌, ◌≤◌, ⊤, List, [], ◌∷◌, ◌==◌, length, map, take, Option, Some, None, nat_le, if◌then◌else◌, option_map}
+use Rattle.std.specs.Prelude.{slice_get}
 use Rattle.std.specs.List.{flat_map}
 use Rattle.bench_types.specs.declared.kernel_data.Settings.{Settings}
 use Rattle.bench_types.specs.declared.reply.Reply.{Reply}
@@ -9,7 +10,7 @@ use Rattle.bench_model.specs.Control.{current, running}
 use Rattle.bench_model.specs.Equal.{StandsFor}
 use Rattle.bench_model.specs.Lists.{View}
 use Rattle.bench_model.specs.Meeting.{CheckpointedSession}
-use Rattle.bench_model.specs.Session.{step_of, state_after, trace}
+use Rattle.bench_model.specs.Session.{step_of, state_after, run_results}
 use Rattle.bench_model.specs.Shifted.{shifted}
 use Rattle.bench_model.specs.Start.{start}
 use Rattle.bench_model.specs.Table.{Table}
@@ -84,12 +85,12 @@ running_after table steps count = let after = state_after table (take count step
 -- tallies of the steps
 pub record IsReplayedFrom (table : Table) (settings : Settings) (steps : List Step)
     (replies : List Reply) (currents : List ℕ) (tallies : List TaskTally) : Type 0 where
-  pub replies_are : replies ≡ map (λ outcome. outcome.0) (trace table steps)
+  pub replies_are : replies ≡ map (λ outcome. outcome.0) (run_results table steps)
   pub currents_are : currents ≡ currents_after table steps
   pub tallies_are : tallies ≡ part_tallies settings table steps
 
 -- what steps on a kernel led to
-pub record IsTold (kernel : View) (steps : List Step) (replies : List Reply) (currents : List ℕ)
+pub record AreResults (kernel : View) (steps : List Step) (replies : List Reply) (currents : List ℕ)
     (tallies : List TaskTally) : Type 0 where
   pub sizes : shape tallies ≡ shape_of kernel.settings
   pub outcomes :

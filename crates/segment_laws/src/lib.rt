@@ -2,7 +2,7 @@
 //! function does nothing: its contract is the laws, one a clause.
 #![tactic(auto)]
 
-ghost use Rattle.segment_laws.specs.SegmentLaws.{PlacesAreRead, SegmentFollows, ToldStaysLater, OpenedPlacesAreFirst, PartsAreFound, PartStandsStill, EditedSegmentsStand, UnmetAreReplayed};
+ghost use Rattle.segment_laws.specs.SegmentLaws.{PlacesAreRead, SegmentFollows, ResultsStayLater, OpenedPlacesAreFirst, PartsAreFound, PartStandsStill, EditedSegmentsStand, UnmetAreReplayed};
 
 /// What the segments of a session tell of its places.
 pub fn laws_of_segments()
@@ -11,7 +11,7 @@ pub fn laws_of_segments()
     // The kernel of a segment stands for the table after the steps of those before it.
     ensures segment_follows { SegmentFollows }
     // What its steps led to stays so many ticks later, where none reads the tick count.
-    ensures told_stays_later { ToldStaysLater }
+    ensures results_stay_later { ResultsStayLater }
     // A session that is opened is cut at each span before its last place.
     ensures opened_places_are_first { OpenedPlacesAreFirst }
 {}

@@ -30,7 +30,8 @@ best_judged basis changes ranked best is =
     record {
       within = subst (λ (index : ℕ). index < length changes) (sym index) there;
       said = λ made stands.
-          let own : get_or changes place made ≡ made = get_or_from_slice_get changes place made made (subst (λ (index : ℕ). slice_get changes index ≡ Some made) index stands) in
+          let own : get_or changes place made ≡ made = get_or_from_slice_get changes place made made
+          (subst (λ (index : ℕ). slice_get changes index ≡ Some made) index stands) in
           subst (λ (made : Change). IsVerdict (judge_of basis) (changed basis.session made) (get_or is.entries place entry).verdict) own
           (is.judged.each place made entry there).verdict;
     }))
@@ -42,7 +43,8 @@ best_judged basis changes ranked best is =
 pub number_is_short : (judge : Judge) (session : Session) (number : ℕ) → IsVerdict judge session (Number number) → ¬ (IsTooLong judge.settled session)
 number_is_short judge session number = at judge.settled
   where
-    at : (settled : Bool) → MatchBool settled (IsSettledVerdict judge session (Number number)) (IsPlainVerdict judge session (Number number)) → ¬ (IsTooLong settled session)
+    at : (settled : Bool) → MatchBool settled (IsSettledVerdict judge session (Number number)) (IsPlainVerdict judge session (Number number)) → ¬
+        (IsTooLong settled session)
     at true said long =
         let more = long (record { run = said.0; left = said.1; settled = said.2 }) in
         absurd (omega (arith, more, said.3))

@@ -15,14 +15,15 @@ use Rattle.run_advice.proofs.OneRanking.{rankings_are_one}
 use Rattle.run_reports.specs.declared.figures.Figure.{Figure}
 use Rattle.run_reports.specs.Limits.{has_name}
 use Rattle.session_reports.proofs.OneList.{figures_are_one}
-use Rattle.session_advice.specs.Advice.{basis_at, entry_line, head_line, AreEntryTexts, IsAdviceText, IsEntryText, IsToldOf}
+use Rattle.session_advice.specs.Advice.{basis_at, entry_line, head_line, AreEntryTexts, IsAdviceText, IsEntryText, IsPrintedOf}
 use Rattle.session_advice.specs.AdviceLaws.{AdviceIsOne}
 use Rattle.session_advice.specs.Basis.{judge_of, Basis}
 use Rattle.session_advice.specs.Costs.{cost_lines, AreCosts}
-use Rattle.session_advice.specs.Questions.{Asked, Told}
+use Rattle.session_advice.specs.Questions.{Asked, Printed}
 
 -- where each item has one partner alone, a list has one list of partners
-zip_one : {X Y : Type 0} (R : X → Y → Type 0) → ((x : X) (y z : Y) → R x y → R x z → y ≡ z) → (xs : List X) (ys zs : List Y) → AllZip R xs ys → AllZip R xs zs → ys ≡ zs
+zip_one : {X Y : Type 0} (R : X → Y → Type 0) → ((x : X) (y z : Y) → R x y → R x z → y ≡ z) → (xs : List X) (ys zs : List Y) → AllZip R xs ys → AllZip R xs zs →
+    ys ≡ zs
 zip_one R one [] [] [] is too = refl
 zip_one R one [] [] (z ∷ zs) is too = absurd too
 zip_one R one [] (y ∷ ys) zs is too = absurd is
@@ -33,39 +34,46 @@ zip_one R one (x ∷ xs) (y ∷ ys) (z ∷ zs) is too =
     let rest = zip_one R one xs ys zs is.1 too.1 in
     λ i. first i ∷ rest i
 
-costs_one : (basis : Basis) (made : Change) (verdict : Verdict) (one other : List ℕ) → AreCosts basis made verdict one → AreCosts basis made verdict other → one ≡ other
+costs_one : (basis : Basis) (made : Change) (verdict : Verdict) (one other : List ℕ) → AreCosts basis made verdict one → AreCosts basis made verdict other → one
+    ≡ other
 costs_one basis made (Number number) one other is too =
     is.2 ∙ ap (cost_lines basis) (figures_are_one basis.settled (changed basis.session made) is.0 too.0 is.1 too.1) ∙ sym too.2
 costs_one basis made TooLong one other is too = is ∙ sym too
 
-entry_one : (basis : Basis) (changes : List Change) (rank : ℕ) (entry : Ranked) (one other : List ℕ) → IsEntryText basis changes rank entry one → IsEntryText basis changes rank entry other → one ≡ other
+entry_one : (basis : Basis) (changes : List Change) (rank : ℕ) (entry : Ranked) (one other : List ℕ) → IsEntryText basis changes rank entry one → IsEntryText
+    basis changes rank entry other → one ≡ other
 entry_one basis changes rank entry one other is too =
     let same : is.made ≡ too.made = same_Some is.made too.made (sym is.stands ∙ too.stands) in
-    let costs = costs_one basis too.made entry.verdict is.costs too.costs (subst (λ (made : Change). AreCosts basis made entry.verdict is.costs) same is.are) too.are in
+    let costs = costs_one basis too.made entry.verdict is.costs too.costs (subst (λ (made : Change). AreCosts basis made entry.verdict is.costs) same is.are)
+    too.are in
     is.is ∙ ap₂ (λ (made : Change) (costs : List ℕ). entry_line basis rank made entry.verdict ++ costs) same costs ∙ sym too.is
 
-texts_one : (basis : Basis) (changes : List Change) (best : List Ranked) (one other : List (List ℕ)) → AreEntryTexts basis changes best one → AreEntryTexts basis changes best other → one ≡ other
+texts_one : (basis : Basis) (changes : List Change) (best : List Ranked) (one other : List (List ℕ)) → AreEntryTexts basis changes best one → AreEntryTexts
+    basis changes best other → one ≡ other
 texts_one basis changes best =
     zip_one (λ (ranked : ℕ × Ranked) (text : List ℕ). IsEntryText basis changes ranked.0 ranked.1 text)
     (λ ranked one other is too. entry_one basis changes ranked.0 ranked.1 one other is too) (enumerate_from 1 best)
 
-text_one : (basis : Basis) (family : Family) (best : ℕ) (one other : List ℕ) → IsAdviceText basis family best one → IsAdviceText basis family best other → one ≡ other
+text_one : (basis : Basis) (family : Family) (best : ℕ) (one other : List ℕ) → IsAdviceText basis family best one → IsAdviceText basis family best other → one ≡
+    other
 text_one basis family best one other is too =
     let changes = changes_of basis.session family in
     let same : is.ranked ≡ too.ranked = rankings_are_one (judge_of basis) basis.session changes is.ranked too.ranked is.ranking too.ranking in
     let texts : is.texts ≡ too.texts =
-    texts_one basis changes (take best too.ranked) is.texts too.texts (subst (λ (ranked : List Ranked). AreEntryTexts basis changes (take best ranked) is.texts) same is.told) too.told in
+    texts_one basis changes (take best too.ranked) is.texts too.texts (subst (λ (ranked : List Ranked). AreEntryTexts basis changes (take best ranked) is.texts)
+    same is.printed) too.printed in
     is.is ∙ ap (λ (texts : List (List ℕ)). head_line basis (length changes) ++ concat texts) texts ∙ sym too.is
 
-told_one : (asked : Asked) (session : Session) (figures : List Figure) (found : Option Figure) (one other : Told) → IsToldOf asked session figures found one → IsToldOf asked session figures found other → one ≡ other
-told_one asked session figures (Some figure) one other is too =
+printed_one : (asked : Asked) (session : Session) (figures : List Figure) (found : Option Figure) (one other : Printed) → IsPrintedOf asked session figures
+    found one → IsPrintedOf asked session figures found other → one ≡ other
+printed_one asked session figures (Some figure) one other is too =
     let status = is.0 ∙ sym too.0 in
     let text = text_one (basis_at asked session figures figure) asked.family asked.best one.text other.text is.1 too.1 in
     λ i. record { status = status i; text = text i }
-told_one asked session figures None one other is too = is ∙ sym too
+printed_one asked session figures None one other is too = is ∙ sym too
 
 pub advice_is_one : AdviceIsOne
-advice_is_one question session told other is too =
+advice_is_one question session printed other is too =
     let same : is.figures ≡ too.figures = figures_are_one question.settled session is.figures too.figures is.are too.are in
-    told_one question session too.figures (find (has_name session.header question.name) too.figures) told other
-    (subst (λ (figures : List Figure). IsToldOf question session figures (find (has_name session.header question.name) figures) told) same is.is) too.is
+    printed_one question session too.figures (find (has_name session.header question.name) too.figures) printed other
+    (subst (λ (figures : List Figure). IsPrintedOf question session figures (find (has_name session.header question.name) figures) printed) same is.is) too.is

@@ -38,7 +38,9 @@ module _ (basis : Basis) (changes : List Change) where
       record {
         texts = texts;
         are = subst (λ (ranked : List (ℕ × Ranked)). AllZip (λ ranked text. IsEntryText basis changes ranked.0 ranked.1 text) ranked texts) (sym numbered)
-            (zip_more (λ (ranked : ℕ × Ranked) (text : List ℕ). IsEntryText basis changes ranked.0 ranked.1 text) (enumerate_from 1 (take place best)) so_far.texts (place + 1, here) next.lines so_far.are next.are);
+            (zip_more (λ (ranked : ℕ × Ranked) (text : List ℕ). IsEntryText basis changes ranked.0 ranked.1 text) (enumerate_from 1 (take place best))
+            so_far.texts (place + 1, here) next.lines so_far.are next.are);
         is = next.is ∙ ap (λ (text : List ℕ). text ++ next.lines) so_far.is ∙ append_assoc before (concat so_far.texts) next.lines
-            ∙ ap (λ (lines : List ℕ). before ++ lines) (ap (λ (lines : List ℕ). concat so_far.texts ++ lines) (sym (append-nil next.lines)) ∙ sym (concat-append so_far.texts (next.lines ∷ [])));
+            ∙ ap (λ (lines : List ℕ). before ++ lines) (ap (λ (lines : List ℕ). concat so_far.texts ++ lines) (sym (append-nil next.lines)) ∙ sym
+            (concat-append so_far.texts (next.lines ∷ [])));
       }

@@ -17,7 +17,7 @@ use Rattle.session_reports.specs.Figures.{AreFigures}
 use Rattle.session_advice.specs.declared.question.AdviceStatus.TheVariants.{Given, Unknown}
 use Rattle.session_advice.specs.Basis.{judge_of, Basis}
 use Rattle.session_advice.specs.Costs.{AreCosts}
-use Rattle.session_advice.specs.Questions.{Asked, Told}
+use Rattle.session_advice.specs.Questions.{Asked, Printed}
 use Rattle.session_advice.specs.Words.{change_words, verdict_words}
 
 -- the value that is to be lower, and how many changes were tried
@@ -53,7 +53,7 @@ pub record IsAdviceText (basis : Basis) (family : Family) (best : ℕ) (text : L
     pub ranked : List Ranked
     pub ranking : IsRanking (judge_of basis) basis.session (changes_of basis.session family) ranked
     pub texts : List (List ℕ)
-    pub told : AreEntryTexts basis (changes_of basis.session family) (take best ranked) texts
+    pub printed : AreEntryTexts basis (changes_of basis.session family) (take best ranked) texts
     pub is : text
         ≡ head_line basis (length (changes_of basis.session family)) ++ concat texts
 
@@ -67,18 +67,19 @@ basis_at asked session figures figure = record {
 }
 
 -- advice on the figure that has the name, or the names of all where none has it
-abbrev pub IsToldOf : Asked → Session → List Figure → Option Figure → Told → Type 0
-IsToldOf asked session figures (Some figure) told =
-    (told.status ≡ Given)
-    × IsAdviceText (basis_at asked session figures figure) asked.family asked.best told.text
-IsToldOf asked session figures None told =
-    told ≡ record { status = Unknown; text = unknown_text session.header figures asked.name }
+abbrev pub IsPrintedOf : Asked → Session → List Figure → Option Figure → Printed → Type 0
+IsPrintedOf asked session figures (Some figure) printed =
+    (printed.status ≡ Given)
+    × IsAdviceText (basis_at asked session figures figure) asked.family asked.best printed.text
+IsPrintedOf asked session figures None printed =
+    printed ≡ record { status = Unknown; text = unknown_text session.header figures asked.name }
 
 -- what is told of the session's run, settled or as its steps stand
-pub record IsAdvice (asked : Asked) (session : Session) (told : Told) : Type 0 where
+pub record IsAdvice (asked : Asked) (session : Session) (printed : Printed) : Type 0 where
   pub figures : List Figure
   pub are : AreFigures asked.settled session figures
-  pub is : IsToldOf asked session figures (find (has_name session.header asked.name) figures) told
+  pub is : IsPrintedOf asked session figures (find (has_name session.header asked.name) figures)
+      printed
 
 -- ---- on the way
 

@@ -12,6 +12,6 @@ pub record Asked : Type 0 where
   pub best : ℕ
 
 -- how advice ends, and what is told
-pub record Told : Type 0 where
+pub record Printed : Type 0 where
   pub status : AdviceStatus
   pub text : List ℕ

@@ -79,7 +79,8 @@ pub fn advise_session<R: Threads + Sync, P: Progress>(
     requires session { IsSession (record { header = header.now; steps = steps.now }) }
     requires few { length steps.now ≤ max_steps }
     ensures advice { IfOk result
-        (λ told. IsAdvice question.now (record { header = header.now; steps = steps.now }) told) }
+        (λ printed. IsAdvice question.now (record { header = header.now; steps = steps.now })
+        printed) }
     ensures long { result ≡ Err TooManySteps
         → IsTooLong question.now.settled (record { header = header.now; steps = steps.now }) }
 {

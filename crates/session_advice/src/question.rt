@@ -47,9 +47,9 @@ pub struct Advised {
 
 impl Model for Advised {
     ghost use Rattle.std.specs.Prelude.{string_bytes};
-    ghost use Rattle.session_advice.specs.Questions.{Told};
+    ghost use Rattle.session_advice.specs.Questions.{Printed};
 
-    ghost Value = { Told };
+    ghost Value = { Printed };
 
     ghost view = { λ it. record { status = it.status; text = string_bytes it.text } };
 }

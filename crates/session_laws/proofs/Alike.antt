@@ -53,7 +53,8 @@ wait_from mutex priority = record { mutex = mutex; priority = priority }
 abbrev waiting : ℕ → Option MutexWait → Waiter
 waiting task wait = record { task = task; wait = unwrap_or wait no_wait }
 
-one_wait : (i j : ℕ) (x y : Option MutexWait) → is_some x ≡ true → is_some y ≡ true → waits_first (waiting i x) (waiting j y) ≡ true → waits_first (waiting j y) (waiting i x) ≡ true → x ≡ y
+one_wait : (i j : ℕ) (x y : Option MutexWait) → is_some x ≡ true → is_some y ≡ true → waits_first (waiting i x) (waiting j y) ≡ true → waits_first (waiting j y)
+    (waiting i x) ≡ true → x ≡ y
 one_wait i j None y some other forth back = absurd (cc (some))
 one_wait i j (Some x) None some other forth back = absurd (cc (other))
 one_wait i j (Some x) (Some y) some other forth back =
@@ -64,7 +65,8 @@ one_wait i j (Some x) (Some y) some other forth back =
 first_of_one : (i j : ℕ) (wait : MutexWait) → waits_first (record { task = i; wait = wait }) (record { task = j; wait = wait }) ≡ true
 first_of_one i j wait = grind (arith, nat_tests)
 
-same_view : (settings other : Settings) (control cores : Control) (calls unfinished : List (Option Unfinished)) (notes noted : List Notification) (holders held : List (Option ℕ)) (hold kept : Option Hold) (orders lists : Lists) →
+same_view : (settings other : Settings) (control cores : Control) (calls unfinished : List (Option Unfinished)) (notes noted : List Notification)
+    (holders held : List (Option ℕ)) (hold kept : Option Hold) (orders lists : Lists) →
     settings ≡ other → control ≡ cores → calls ≡ unfinished → notes ≡ noted → holders ≡ held → hold ≡ kept → orders ≡ lists →
     (let view : View = record { settings = settings; control = control; calls = calls; notes = notes; holders = holders; hold = hold; orders = orders } in view)
     ≡ record { settings = other; control = cores; calls = unfinished; notes = noted; holders = held; hold = kept; orders = lists }
@@ -111,11 +113,13 @@ module _ (a b : Table) (first : IsConsistent a) (second : IsConsistent b) (setti
 
   module _ (agree : AgreeOnTasks) where
     some_left : (i : ℕ) → i < length a.orders.rows → waits (row_at a.orders i).standing ≡ waits (row_at b.orders i).standing
-    some_left i low = left_some a.orders.tick (wake_in (row_at a.orders i).standing) ∙ ap is_some (agree.left i (is_task i low)) ∙ sym (left_some b.orders.tick (wake_in (row_at b.orders i).standing))
+    some_left i low = left_some a.orders.tick (wake_in (row_at a.orders i).standing) ∙ ap is_some (agree.left i (is_task i low)) ∙ sym
+        (left_some b.orders.tick (wake_in (row_at b.orders i).standing))
 
     delayed_so : (i : ℕ) → i < length a.orders.rows → delayed_of a.orders i ≡ delayed_of b.orders i
     delayed_so i low =
-        let same = left_value a.orders.tick (wake_in (row_at a.orders i).standing) ∙ ap (λ left. unwrap_or left 0) (agree.left i (is_task i low)) ∙ sym (left_value b.orders.tick (wake_in (row_at b.orders i).standing)) in
+        let same = left_value a.orders.tick (wake_in (row_at a.orders i).standing) ∙ ap (λ left. unwrap_or left 0) (agree.left i (is_task i low)) ∙ sym
+        (left_value b.orders.tick (wake_in (row_at b.orders i).standing)) in
         ap (λ left. let entry : Delayed = record { task = i; left = left } in entry) same
 
     waiter_so : (i : ℕ) → i < length a.orders.rows → waiter_of a.orders i ≡ waiter_of b.orders i
@@ -126,8 +130,10 @@ module _ (a b : Table) (first : IsConsistent a) (second : IsConsistent b) (setti
     ready_pairs : (ready_of a ≡ ready_of b) ↔ SameOrder InOneReadyList a b
     ready_pairs =
         let rank = λ (i : ℕ). (task_at a.control i).in_use in
-        let both = same_orders (outranks a.control) (outranks-IsRank a.control) stands_ready (λ i. i) (λ i. i) (λ i. i) a.orders b.orders rows (λ i. refl) (λ i h. agree.ready i (is_task i h)) (λ i h. refl) first.stamped second.stamped in (
-          λ same i j low below together. both.0 same i j (in_a i low) (in_a j below) (together.0, together.1, level (rank j) (rank i) (sym together.2), level (rank i) (rank j) together.2),
+        let both = same_orders (outranks a.control) (outranks-IsRank a.control) stands_ready (λ i. i) (λ i. i) (λ i. i) a.orders b.orders rows (λ i. refl)
+        (λ i h. agree.ready i (is_task i h)) (λ i h. refl) first.stamped second.stamped in (
+          λ same i j low below together. both.0 same i j (in_a i low) (in_a j below)
+              (together.0, together.1, level (rank j) (rank i) (sym together.2), level (rank i) (rank j) together.2),
           λ came. both.1 (λ i j low below one. came i j (is_task i low) (is_task j below) (one.0, one.1, both_ways (rank i) (rank j) one.3 one.2)),
         )
 
@@ -138,25 +144,45 @@ module _ (a b : Table) (first : IsConsistent a) (second : IsConsistent b) (setti
         let left = λ (i : ℕ). (delayed_of a.orders i).left in
         let value : (i : ℕ) → left i ≡ unwrap_or (ticks_left i a.orders) 0 = λ i. left_value tick (wake i) in
         let some : (i : ℕ) → waits (row_at a.orders i).standing ≡ is_some (ticks_left i a.orders) = λ i. left_some tick (wake i) in
-        let both = same_orders wakes_first wakes_first-IsRank waits (λ e. e.task) (delayed_of a.orders) (delayed_of b.orders) a.orders b.orders rows (λ i. refl) some_left delayed_so first.stamped second.stamped in (
+        let both = same_orders wakes_first wakes_first-IsRank waits (λ e. e.task) (delayed_of a.orders) (delayed_of b.orders) a.orders b.orders rows (λ i. refl)
+        some_left delayed_so first.stamped second.stamped in (
           λ same i j low below together.
               let one : left i ≡ left j = value i ∙ ap (λ left. unwrap_or left 0) together.1 ∙ sym (value j) in
-              both.0 same i j (in_a i low) (in_a j below) (some i ∙ together.0, some j ∙ sym (ap is_some together.1) ∙ together.0, level (left i) (left j) one, level (left j) (left i) (sym one)),
+              both.0 same i j (in_a i low) (in_a j below) (
+                some i ∙ together.0,
+                some j ∙ sym (ap is_some together.1) ∙ together.0,
+                level (left i) (left j) one,
+                level (left j) (left i) (sym one),
+              ),
           λ came. both.1 (λ i j low below one.
               let same = both_ways (left i) (left j) one.2 one.3 in
-              came i j (is_task i low) (is_task j below) (sym (some i) ∙ one.0, one_left (ticks_left i a.orders) (ticks_left j a.orders) (sym (some i) ∙ one.0) (sym (some j) ∙ one.1) (sym (value i) ∙ same ∙ value j))),
+              came i j (is_task i low) (is_task j below) (
+                sym (some i) ∙ one.0,
+                one_left (ticks_left i a.orders) (ticks_left j a.orders) (sym (some i) ∙ one.0)
+                    (sym (some j) ∙ one.1) (sym (value i) ∙ same ∙ value j),
+              )),
         )
 
     queued_pairs : (waiters_in a ≡ waiters_in b) ↔ SameOrder InOneWaitQueue a b
     queued_pairs =
-        let both = same_orders waits_first waits_first-IsRank queues (λ e. e.task) (waiter_of a.orders) (waiter_of b.orders) a.orders b.orders rows (λ i. refl) (λ i h. ap is_some (agree.queued i (is_task i h))) waiter_so first.stamped second.stamped in (
+        let both = same_orders waits_first waits_first-IsRank queues (λ e. e.task) (waiter_of a.orders) (waiter_of b.orders) a.orders b.orders rows (λ i. refl)
+        (λ i h. ap is_some (agree.queued i (is_task i h))) waiter_so first.stamped second.stamped in (
           λ same i j low below together.
-              let alike = λ (x y : ℕ) (wait : wait_of x a ≡ wait_of y a). ap (λ wait. waits_first (waiter_of a.orders x) (waiting y wait)) (sym wait) ∙ first_of_one x y (unwrap_or (wait_of x a) no_wait) in
-              both.0 same i j (in_a i low) (in_a j below) (together.0, sym (ap is_some together.1) ∙ together.0, alike i j together.1, alike j i (sym together.1)),
-          λ came. both.1 (λ i j low below one. came i j (is_task i low) (is_task j below) (one.0, one_wait i j (wait_of i a) (wait_of j a) one.0 one.1 one.2 one.3)),
+              let alike = λ (x y : ℕ) (wait : wait_of x a ≡ wait_of y a). ap (λ wait. waits_first (waiter_of a.orders x) (waiting y wait)) (sym wait) ∙
+              first_of_one x y (unwrap_or (wait_of x a) no_wait) in
+              both.0 same i j (in_a i low) (in_a j below) (
+                together.0,
+                sym (ap is_some together.1) ∙ together.0,
+                alike i j together.1,
+                alike j i
+                    (sym together.1),
+              ),
+          λ came. both.1 (λ i j low below one. came i j (is_task i low) (is_task j below)
+              (one.0, one_wait i j (wait_of i a) (wait_of j a) one.0 one.1 one.2 one.3)),
         )
 
-  deadlines_same : ((i : ℕ) → i < a.settings.tasks → deadline_left i a.orders ≡ deadline_left i b.orders) → (lists_of a.control a.orders).deadlines ≡ (lists_of b.control b.orders).deadlines
+  deadlines_same : ((i : ℕ) → i < a.settings.tasks → deadline_left i a.orders ≡ deadline_left i b.orders) → (lists_of a.control a.orders).deadlines ≡
+      (lists_of b.control b.orders).deadlines
   unfolding lists_of
   deadlines_same same =
       let left = λ (stamps : Stamps). map (deadline_from stamps.tick) stamps.deadlines in
@@ -178,7 +204,8 @@ module _ (a b : Table) (first : IsConsistent a) (second : IsConsistent b) (setti
 
 pub same_from_alike : (a b : Table) → IsConsistent a → IsConsistent b → SamePairwise a b → Same a b
 same_from_alike a b first second alike =
-    same_view _ _ _ _ _ _ _ _ _ _ _ _ _ _ alike.settings alike.control alike.calls alike.notes alike.holders alike.hold (lists_same a b first second alike.settings alike.control alike)
+    same_view _ _ _ _ _ _ _ _ _ _ _ _ _ _ alike.settings alike.control alike.calls alike.notes alike.holders alike.hold
+    (lists_same a b first second alike.settings alike.control alike)
 
 pub alike_from_same : (a b : Table) → IsConsistent a → IsConsistent b → Same a b → SamePairwise a b
 unfolding lists_of
@@ -194,7 +221,8 @@ alike_from_same a b first second same = record {
   left = agree.left;
   waits = agree.queued;
   deadlines = λ i low. sym (deadline_left_seen a.control a.orders i) ∙ ap (seen.deadline_left i) lists ∙ deadline_left_seen b.control b.orders i;
-  ready_order = (ready_pairs a b first second settings control agree).0 ((ready_listed a b first second settings control).1 (ap (λ (l : Lists). l.ready) lists));
+  ready_order = (ready_pairs a b first second settings control agree).0 ((ready_listed a b first second settings control).1
+      (ap (λ (l : Lists). l.ready) lists));
   delay_order = (delayed_pairs a b first second settings control agree).0 (ap (λ (l : Lists). l.delayed) lists);
   queue_order = (queued_pairs a b first second settings control agree).0 (ap (λ (l : Lists). l.waiters) lists);
 }
@@ -210,7 +238,10 @@ alike_from_same a b first second same = record {
 
     agree : AgreeOnTasks a b first second settings control
     agree = record {
-      ready = λ i low. sym (is_ready_seen a.control a.orders i first.stamped.given (in_a a b first second settings control i low)) ∙ ap (λ (l : Lists). has i l.ready) lists ∙ is_ready_seen b.control b.orders i second.stamped.given (in_b a b first second settings control i low);
-      left = λ i low. sym (left_seen a.control a.orders i first.stamped.given (in_a a b first second settings control i low)) ∙ ap (λ (l : Lists). left_in i l.delayed) lists ∙ left_seen b.control b.orders i second.stamped.given (in_b a b first second settings control i low);
-      queued = λ i low. sym (wait_seen a.control a.orders i first.stamped.given (in_a a b first second settings control i low)) ∙ ap (λ (l : Lists). wait_among i l.waiters) lists ∙ wait_seen b.control b.orders i second.stamped.given (in_b a b first second settings control i low);
+      ready = λ i low. sym (is_ready_seen a.control a.orders i first.stamped.given (in_a a b first second settings control i low)) ∙ ap
+          (λ (l : Lists). has i l.ready) lists ∙ is_ready_seen b.control b.orders i second.stamped.given (in_b a b first second settings control i low);
+      left = λ i low. sym (left_seen a.control a.orders i first.stamped.given (in_a a b first second settings control i low)) ∙ ap
+          (λ (l : Lists). left_in i l.delayed) lists ∙ left_seen b.control b.orders i second.stamped.given (in_b a b first second settings control i low);
+      queued = λ i low. sym (wait_seen a.control a.orders i first.stamped.given (in_a a b first second settings control i low)) ∙ ap
+          (λ (l : Lists). wait_among i l.waiters) lists ∙ wait_seen b.control b.orders i second.stamped.given (in_b a b first second settings control i low);
     }

@@ -1,5 +1,6 @@
 -- An accepted edit leaves a session.
-use Rattle.std.proofs.Common.{◌≡◌, ℕ, zero, suc, ◌+◌, ◌-◌, ◌^◌, ◌<◌, ◌≤◌, Bool, true, false, not, ◌&&◌, ◌||◌, List, [], ◌∷◌, length, map, set, take, drop, Result, Ok, Err, refl, sym, ap, subst, ◌∙◌, arith, bytes_eq}
+use Rattle.std.proofs.Common.{◌≡◌, ℕ, zero, suc, ◌+◌, ◌-◌, ◌^◌, ◌<◌, ◌≤◌, Bool, true, false, not, ◌&&◌, ◌||◌, List, [], ◌∷◌, length, map, set, take, drop}
+use Rattle.std.proofs.Common.{Result, Ok, Err, refl, sym, ap, subst, ◌∙◌, arith, bytes_eq}
 use Rattle.std.specs.Prelude.{All, IsTrue, insert, remove, if◌then◌else◌}
 use Rattle.std.specs.List.{list_all, list_any}
 use Rattle.std.specs.Result.{result_map_both}
@@ -41,24 +42,24 @@ unfolding chosen
 chosen_passes true why passes = refl
 chosen_passes false why passes = absurd (cc passes)
 
-told : Result (Unit {0}) Fault → Result (Unit {0}) EditFault
-told fits = result_map_both (λ _. tt) Bench fits
+decided : Result (Unit {0}) Fault → Result (Unit {0}) EditFault
+decided fits = result_map_both (λ _. tt) Bench fits
 
-told_passes : (fits : Result (Unit {0}) Fault) → told fits ≡ Ok tt → fits ≡ Ok tt
-unfolding told
-told_passes (Ok done) passes = refl
-told_passes (Err why) passes = absurd (cc passes)
+decided_passes : (fits : Result (Unit {0}) Fault) → decided fits ≡ Ok tt → fits ≡ Ok tt
+unfolding decided
+decided_passes (Ok done) passes = refl
+decided_passes (Err why) passes = absurd (cc passes)
 
 pub passed : (session : Session) (edit : Edit) → accepted session edit ≡ Ok tt → IsPassed session edit
-unfolding chosen told
+unfolding chosen decided
 passed session edit accepts =
-    let fits = told (edit_check session.header edit) in
+    let fits = decided (edit_check session.header edit) in
     let place = chosen (has_place session.steps edit) NoPlace in
     let room = chosen (has_room session.steps edit) TooLong in
     let last = both_pass (fits >> place) room accepts in
     let first = both_pass fits place last.0 in
     record {
-      fits = told_passes (edit_check session.header edit) first.0;
+      fits = decided_passes (edit_check session.header edit) first.0;
       place = chosen_passes (has_place session.steps edit) NoPlace first.1;
       room = chosen_passes (has_room session.steps edit) TooLong last.1;
     }
@@ -77,7 +78,8 @@ module _ {X : Type 0} where
   All_one P x holds (suc k) d within = absurd (omega arith)
 
   All-insert : (P : X → Type 0) (xs : List X) (at : ℕ) (x : X) → P x → All P xs → All P (insert xs at x)
-  All-insert P xs at x here all = All-append P (take at xs) (x ∷ drop at xs) (All-take P at xs all) (All-append P (x ∷ []) (drop at xs) (All_one P x here) (All-drop P at xs all))
+  All-insert P xs at x here all = All-append P (take at xs) (x ∷ drop at xs) (All-take P at xs all)
+      (All-append P (x ∷ []) (drop at xs) (All_one P x here) (All-drop P at xs all))
 
   All-remove : (P : X → Type 0) (xs : List X) (at : ℕ) → All P xs → All P (remove xs at)
   All-remove P xs at all = All-append P (take at xs) (drop (suc at) xs) (All-take P at xs all) (All-drop P (suc at) xs all)
@@ -103,7 +105,8 @@ taken_by_name name (task ∷ tasks) = ap (λ rest. bytes_eq name task.name || re
 
 repeats_by_name : (tasks : List TaskArgs) → repeats_name tasks ≡ repeats (map name_of tasks)
 repeats_by_name [] = refl
-repeats_by_name (task ∷ tasks) = ap (λ taken. taken || repeats_name tasks) (taken_by_name task.name tasks) ∙ ap (λ rest. list_any (bytes_eq task.name) (map name_of tasks) || rest) (repeats_by_name tasks)
+repeats_by_name (task ∷ tasks) = ap (λ taken. taken || repeats_name tasks) (taken_by_name task.name tasks) ∙ ap
+    (λ rest. list_any (bytes_eq task.name) (map name_of tasks) || rest) (repeats_by_name tasks)
 
 no_args : TaskArgs
 no_args = record { name = []; priority = 0; mask = 0 }
@@ -112,12 +115,14 @@ names_stay : (header : Header) (task priority mask : ℕ) → map name_of (chang
 names_stay header task priority mask =
     let i = task - header.config.cores in
     let args = args_of header task in
-    map-set name_of header.tasks i (record args { priority = priority; mask = mask }) ∙ sym (map-set name_of header.tasks i args) ∙ ap (map name_of) (set-get_or header.tasks i _)
+    map-set name_of header.tasks i (record args { priority = priority; mask = mask }) ∙ sym (map-set name_of header.tasks i args) ∙ ap (map name_of)
+    (set-get_or header.tasks i _)
 
 are_named_by_name : (tasks : List TaskArgs) → are_named tasks ≡ list_all is_name (map name_of tasks)
 are_named_by_name tasks = sym (list_all-map is_name name_of tasks)
 
-changed_within : (header : Header) (task priority mask : ℕ) → IsWithinLimits header → has_valid_numbers header.config priority mask ≡ true → IsWithinLimits (changed task priority mask header)
+changed_within : (header : Header) (task priority mask : ℕ) → IsWithinLimits header → has_valid_numbers header.config priority mask ≡ true → IsWithinLimits
+    (changed task priority mask header)
 changed_within header task priority mask limits numbers =
     let next = changed task priority mask header in
     let i = task - header.config.cores in
@@ -139,26 +144,36 @@ changed_within header task priority mask limits numbers =
       once = repeats_by_name next.tasks ∙ ap repeats names ∙ sym (repeats_by_name header.tasks) ∙ limits.once;
     }
 
-changed_fits : (header : Header) (task priority mask : ℕ) → header_check header ≡ Ok tt → has_valid_numbers header.config priority mask ≡ true → header_check (changed task priority mask header) ≡ Ok tt
+changed_fits : (header : Header) (task priority mask : ℕ) → header_check header ≡ Ok tt → has_valid_numbers header.config priority mask ≡ true → header_check
+    (changed task priority mask header) ≡ Ok tt
 changed_fits header task priority mask fits numbers =
     let next = changed task priority mask header in
     flaw_checked next (header_from next (changed_within header task priority mask (checked_header header fits) numbers))
 
 changed_settings : (header : Header) (task priority mask : ℕ) → settings_of (changed task priority mask header) ≡ settings_of header
 changed_settings header task priority mask =
-    ap (λ users. record { cores = header.config.cores; priorities = header.config.priorities; slicing = header.config.slicing; mutexes = header.config.mutexes; notes = header.config.notes; tasks = header.config.cores + users }) (length-set header.tasks (task - header.config.cores) _)
+    ap (λ users. record {
+      cores = header.config.cores;
+      priorities = header.config.priorities;
+      slicing = header.config.slicing;
+      mutexes = header.config.mutexes;
+      notes = header.config.notes;
+      tasks = header.config.cores + users;
+    }) (length-set header.tasks (task - header.config.cores) _)
 
 numbers_pass : (config : Config) (priority mask : ℕ) → numbers_check config priority mask ≡ Ok tt → has_valid_numbers config priority mask ≡ true
 unfolding chosen
 numbers_pass config priority mask passes = chosen_passes (has_valid_numbers config priority mask) BadHeader passes
 
 -- the arguments that a header has for a user task have a name
-args_named : (header : Header) (task : ℕ) → All (λ args. IsTrue (is_name args.name)) header.tasks → task_check (settings_of header) task ≡ Ok tt → IsTrue (is_name (args_of header task).name)
+args_named : (header : Header) (task : ℕ) → All (λ args. IsTrue (is_name args.name)) header.tasks → task_check (settings_of header) task ≡ Ok tt → IsTrue
+    (is_name (args_of header task).name)
 args_named header task names passes =
     let there = checked_task (settings_of header) task passes in
     names (task - header.config.cores) _ (omega (arith, there.0, there.1))
 
-changed_header : (header : Header) (task priority mask : ℕ) → IsCheckedHeader header → mask < 2 ^ 32 → edit_check header (ChangeTask task priority mask) ≡ Ok tt → IsCheckedHeader (changed task priority mask header)
+changed_header : (header : Header) (task priority mask : ℕ) → IsCheckedHeader header → mask < 2 ^ 32 → edit_check header (ChangeTask task priority mask) ≡ Ok tt
+    → IsCheckedHeader (changed task priority mask header)
 changed_header header task priority mask is word passes =
     let both = both_pass (task_check (settings_of header) task) (numbers_check header.config priority mask) passes in
     let at = task - header.config.cores in
@@ -169,7 +184,8 @@ changed_header header task priority mask is word passes =
       masks = All-set (λ args. args.mask < 2 ^ 32) header.tasks at _ word is.masks;
     }
 
-pub edited_session : (session : Session) (edit : Edit) → IsSession session → IsEditOfWords edit → accepted session edit ≡ Ok tt → IsSession (edited edit session)
+pub edited_session : (session : Session) (edit : Edit) → IsSession session → IsEditOfWords edit → accepted session edit ≡ Ok tt → IsSession
+    (edited edit session)
 edited_session session (Insert at step) is words accepts =
     let passes = passed session (Insert at step) accepts in
     record {
@@ -193,7 +209,8 @@ edited_session session (ChangeTask task priority mask) is words accepts =
       steps = subst (λ settings. All (IsCheckedStep settings) session.steps) (sym (changed_settings session.header task priority mask)) is.steps;
     }
 
-pub edited_room : (session : Session) (edit : Edit) → length session.steps ≤ max_steps → accepted session edit ≡ Ok tt → length (edited edit session).steps ≤ max_steps
+pub edited_room : (session : Session) (edit : Edit) → length session.steps ≤ max_steps → accepted session edit ≡ Ok tt → length (edited edit session).steps ≤
+    max_steps
 edited_room session (Insert at step) few accepts =
     let passes = passed session (Insert at step) accepts in
     let within : at ≤ length session.steps = grind (arith, nat_tests, passes.place) in

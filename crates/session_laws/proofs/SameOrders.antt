@@ -15,15 +15,24 @@ use Rattle.order_laws.proofs.Restamps.{standing_so}
 use Rattle.list_orders.proofs.Stamped.{numbers_below, numbers_have, has-by_stamp, All-by_stamp, All-by_stamp_passes, by_stamp_agrees}
 
 -- the numbers that pass a test, where each stamp was given below the bound
-has_stamped : (stamp : ℕ → ℕ) (test : ℕ → Bool) (n bound : ℕ) → ((i : ℕ) → i < n → stamp i < bound) → (i : ℕ) → has i (by_stamp stamp test (numbers n) bound) ≡ (test i && has i (numbers n))
+has_stamped : (stamp : ℕ → ℕ) (test : ℕ → Bool) (n bound : ℕ) → ((i : ℕ) → i < n → stamp i < bound) → (i : ℕ) → has i (by_stamp stamp test (numbers n) bound) ≡
+    (test i && has i (numbers n))
 has_stamped stamp test n bound given i = at (has i (numbers n)) refl
   where
     at : (b : Bool) → has i (numbers n) ≡ b → has i (by_stamp stamp test (numbers n) bound) ≡ (test i && has i (numbers n))
-    at true there = grind (arith, nat_tests, has-by_stamp stamp test (numbers n) i bound, there, given i (All-has (λ j. j < n) i (numbers n) (numbers_below n) there))
+    at true there = grind (
+      arith,
+      nat_tests,
+      has-by_stamp stamp test (numbers n) i bound,
+      there,
+      given i
+          (All-has (λ j. j < n) i (numbers n) (numbers_below n) there),
+    )
     at false absent = grind (arith, nat_tests, has-by_stamp stamp test (numbers n) i bound, absent)
 
 -- Two tables of as many rows, of which a test says the same and which have the same entries.
-module _ {E : Type 0} (front : E → E → Bool) (rank : IsRank front) (test : TaskState → Bool) (task_of : E → ℕ) (entry other : ℕ → E) (a b : Stamps) (rows : length a.rows ≡ length b.rows)
+module _ {E : Type 0} (front : E → E → Bool) (rank : IsRank front) (test : TaskState → Bool) (task_of : E → ℕ) (entry other : ℕ → E) (a b : Stamps)
+    (rows : length a.rows ≡ length b.rows)
     (named : (i : ℕ) → task_of (entry i) ≡ i)
     (tests : (i : ℕ) → i < length a.rows → test (row_at a i).standing ≡ test (row_at b i).standing)
     (entries : (i : ℕ) → i < length a.rows → entry i ≡ other i) (first : IsStamped a) (second : IsStamped b) where
@@ -50,10 +59,12 @@ module _ {E : Type 0} (front : E → E → Bool) (rank : IsRank front) (test : T
   once i j low below = second.once i j (omega (arith, rows, low)) (omega (arith, rows, below))
 
   a_ordered : IsOrdered (order a) (ranked goes (by a))
-  a_ordered = ranked_in_order goes (λ i j. ltb (stamp_of a i) (stamp_of a j)) goes-IsRank (by a) (by_stamp_rises (stamp_of a) passes (length a.rows) first.once a.next)
+  a_ordered = ranked_in_order goes (λ i j. ltb (stamp_of a i) (stamp_of a j)) goes-IsRank (by a)
+      (by_stamp_rises (stamp_of a) passes (length a.rows) first.once a.next)
 
   b_ordered : IsOrdered (order b) (ranked goes (by b))
-  b_ordered = ranked_in_order goes (λ i j. ltb (stamp_of b i) (stamp_of b j)) goes-IsRank (by b) (by_stamp_rises (stamp_of b) passes (length a.rows) once b.next)
+  b_ordered = ranked_in_order goes (λ i j. ltb (stamp_of b i) (stamp_of b j)) goes-IsRank (by b)
+      (by_stamp_rises (stamp_of b) passes (length a.rows) once b.next)
 
   has_a : (i : ℕ) → has i (ranked goes (by a)) ≡ (passes i && has i (numbers (length a.rows)))
   has_a i = list_any-ranked goes (λ m. eqb m i) (by a) ∙ has_stamped (stamp_of a) passes (length a.rows) a.next first.given i
@@ -80,9 +91,11 @@ module _ {E : Type 0} (front : E → E → Bool) (rank : IsRank front) (test : T
       let n = length a.rows in
       let test_b = λ (i : ℕ). test (row_at b i).standing in
       let sized : standing_so test b ≡ by b = ap (λ m. by_stamp (stamp_of b) test_b (numbers m) b.next) (sym rows)
-      ∙ by_stamp_agrees (stamp_of b) test_b passes (numbers n) b.next (All-weaker (λ i. i < n) (λ i. test_b i ≡ passes i) (λ i h. sym (tests i h)) (numbers n) (numbers_below n)) in
+      ∙ by_stamp_agrees (stamp_of b) test_b passes (numbers n) b.next (All-weaker (λ i. i < n) (λ i. test_b i ≡ passes i) (λ i h. sym (tests i h)) (numbers n)
+      (numbers_below n)) in
       ap (ranked front) (ap (map other) sized
-      ∙ map_agrees other entry (by b) (All-weaker (λ i. i < n) (λ i. other i ≡ entry i) (λ i h. sym (entries i h)) (by b) (All-by_stamp (stamp_of b) passes (numbers n) (λ i. i < n) b.next (numbers_below n))))
+      ∙ map_agrees other entry (by b) (All-weaker (λ i. i < n) (λ i. other i ≡ entry i) (λ i h. sym (entries i h)) (by b)
+      (All-by_stamp (stamp_of b) passes (numbers n) (λ i. i < n) b.next (numbers_below n))))
       ∙ sym (from_tasks (by b))
 
   -- the first task came before the second in both tables or in none
@@ -99,7 +112,11 @@ module _ {E : Type 0} (front : E → E → Bool) (rank : IsRank front) (test : T
     | inr off ↦ elim (either_way (order a) (order b) (ranked goes (by a)) a_ordered (subst (IsOrdered (order b)) (sym same) b_ordered) i j
         (grind (arith, has_a i, alike.0, numbers_have (length a.rows) i low)) (grind (arith, has_a j, alike.1, numbers_have (length a.rows) j below)) off) [
           | inl ahead ↦ (λ _. grind (arith, nat_tests, ahead.1, alike.2, alike.3), λ _. grind (arith, nat_tests, ahead.0, alike.2, alike.3))
-          | inr later ↦ (λ h. absurd (grind (arith, nat_tests, later.0, alike.2, alike.3, h)), λ h. absurd (grind (arith, nat_tests, later.1, alike.2, alike.3, h)))
+          | inr later ↦ (
+            λ h. absurd (grind (arith, nat_tests, later.0, alike.2, alike.3, h)),
+            λ h. absurd
+                (grind (arith, nat_tests, later.1, alike.2, alike.3, h)),
+          )
         ]
   ]
 
@@ -115,7 +132,8 @@ module _ {E : Type 0} (front : E → E → Bool) (rank : IsRank front) (test : T
   IsListed : ℕ → Type 0
   IsListed i = (i < length a.rows) × (passes i ≡ true)
 
-  follows : ((i j : ℕ) → i < length a.rows → j < length a.rows → OfOneRank i j → CameSo i j) → (i j : ℕ) → IsListed i → IsListed j → order b i j ≡ true → order a i j ≡ true
+  follows : ((i j : ℕ) → i < length a.rows → j < length a.rows → OfOneRank i j → CameSo i j) → (i j : ℕ) → IsListed i → IsListed j → order b i j ≡ true → order
+      a i j ≡ true
   unfolding IsListed
   follows so i j one another ahead = at (goes i j) refl (goes j i) refl
     where
@@ -131,9 +149,11 @@ module _ {E : Type 0} (front : E → E → Bool) (rank : IsRank front) (test : T
   unfolding IsListed
   same_entries so =
       let n = length a.rows in
-      let all = All-both (λ i. i < n) (λ i. passes i ≡ true) (by b) (All-by_stamp (stamp_of b) passes (numbers n) (λ i. i < n) b.next (numbers_below n)) (All-by_stamp_passes (stamp_of b) passes (numbers n) b.next) in
+      let all = All-both (λ i. i < n) (λ i. passes i ≡ true) (by b) (All-by_stamp (stamp_of b) passes (numbers n) (λ i. i < n) b.next (numbers_below n))
+      (All-by_stamp_passes (stamp_of b) passes (numbers n) b.next) in
       let ordered = IsOrdered-weaker (order b) (order a) IsListed (follows so) (ranked goes (by b)) (All-ranked goes IsListed (by b) all) b_ordered in
-      sym (from_tasks (by a)) ∙ ap (map entry) (one_list (order a) apart (ranked goes (by a)) (ranked goes (by b)) a_ordered ordered (λ i. has_a i ∙ sym (has_b i))) ∙ sym others
+      sym (from_tasks (by a)) ∙ ap (map entry) (one_list (order a) apart (ranked goes (by a)) (ranked goes (by b)) a_ordered ordered
+      (λ i. has_a i ∙ sym (has_b i))) ∙ sym others
 
   pub same_orders : (listed ≡ listed_other) ↔ ((i j : ℕ) → i < length a.rows → j < length a.rows → OfOneRank i j → CameSo i j)
   same_orders = (same_stamps, same_entries)

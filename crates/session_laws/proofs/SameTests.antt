@@ -2,13 +2,19 @@
 use Rattle.std.proofs.Common.{◌≡◌, Bool, true, false, ◌&&◌, [], ◌∷◌, Some, None, refl, ap, sym, true≢false}
 use Rattle.std.specs.Prelude.{◌↔◌, Decides, nat_eq}
 use Rattle.std.proofs.lemmas.Bool.Decides.{Decides-eqb, Decides-and, Decides-like}
-use Rattle.bench_types.specs.declared.note.Action.TheVariants.{Nothing, SetBits, Increment, Set, SetNew}
+use Rattle.bench_types.specs.declared.note.NotifyAction.TheVariants.{Nothing, SetBits, Increment, Set, SetNew}
 use Rattle.bench_types.specs.declared.note.NoteState.TheVariants.{NotWaiting, Waiting, Received}
-use Rattle.bench_types.specs.declared.step.Call.TheVariants.{Yield, Delay, DelayUntil, PrioritySet, AffinitySet, PreemptOff, PreemptOn, Notify, NotifyWait, NotifyTake, StateClear, ValueClear, MutexTake, MutexGive, Finish, HoldOpen, HoldClose}
+use Rattle.bench_types.specs.declared.step.Call.TheVariants.{Yield, Delay, DelayUntil, PrioritySet, AffinitySet, PreemptOff, PreemptOn, Notify, NotifyWait}
+use Rattle.bench_types.specs.declared.step.Call.TheVariants.{NotifyTake, StateClear, ValueClear, MutexTake, MutexGive, Finish, HoldOpen, HoldClose}
+use Rattle.bench_types.specs.declared.step.BlockingCall.{BlockingCall}
+use Rattle.bench_types.specs.declared.step.BlockingCall.TheVariants as blocking
 use Rattle.bench_types.specs.declared.step.Unfinished.TheVariants.{Made, Take}
+use Rattle.bench_types.specs.Step.{as_call}
 use Rattle.bench_model.specs.Equal.{Same}
 use Rattle.bench_model.specs.Lists.{view_of}
-use Rattle.bench_model.specs.SameTest.{are_same_bools, are_same_options, are_same_lists, are_same_settings, are_same_looks, are_same_blocks, are_same_actions, are_same_notes, are_same_states, are_same_notifications, are_same_calls, are_same_unfinished, are_same_holds, are_same_delays, are_same_waiters, are_same_controls, are_same_orders, are_same_views, is_same}
+use Rattle.bench_model.specs.SameTest.{are_same_bools, are_same_options, are_same_lists, are_same_settings, are_same_looks, are_same_blocks, are_same_actions}
+use Rattle.bench_model.specs.SameTest.{are_same_notes, are_same_states, are_same_notifications, are_same_calls, are_same_unfinished, are_same_holds}
+use Rattle.bench_model.specs.SameTest.{are_same_delays, are_same_waiters, are_same_controls, are_same_orders, are_same_views, is_same}
 use Rattle.bench_model.specs.Table.{Table}
 
 -- the test tells of any two values whether they are equal
@@ -33,7 +39,8 @@ options same tells (Some x) None = apart (λ e. cc e)
 
 lists : {X : Type 0} (same : X → X → Bool) → Tells same → Tells (are_same_lists same)
 lists same tells [] [] = (λ e. refl, λ e. refl)
-lists same tells (x ∷ xs) (y ∷ ys) = Decides-like (same x y && are_same_lists same xs ys) (λ e i. e.0 i ∷ e.1 i) (λ e. (cc e, cc e)) (Decides-and (same x y) (are_same_lists same xs ys) (tells x y) (lists same tells xs ys))
+lists same tells (x ∷ xs) (y ∷ ys) = Decides-like (same x y && are_same_lists same xs ys) (λ e i. e.0 i ∷ e.1 i) (λ e. (cc e, cc e))
+    (Decides-and (same x y) (are_same_lists same xs ys) (tells x y) (lists same tells xs ys))
 lists same tells [] (y ∷ ys) = apart (λ e. cc e)
 lists same tells (x ∷ xs) [] = apart (λ e. cc e)
 
@@ -47,7 +54,8 @@ settings : Tells are_same_settings
 settings a b = Decides-like (are_same_settings a b)
     (λ h i. record { cores = h.0.0.0.0.0 i; priorities = h.0.0.0.0.1 i; slicing = h.0.0.0.1 i; mutexes = h.0.0.1 i; notes = h.0.1 i; tasks = h.1 i })
     (λ e. (((((λ i. (e i).cores, λ i. (e i).priorities), λ i. (e i).slicing), λ i. (e i).mutexes), λ i. (e i).notes), λ i. (e i).tasks))
-    (two (two (two (two (two (Decides-eqb a.cores b.cores) (Decides-eqb a.priorities b.priorities)) (bools a.slicing b.slicing)) (Decides-eqb a.mutexes b.mutexes)) (Decides-eqb a.notes b.notes)) (Decides-eqb a.tasks b.tasks))
+    (two (two (two (two (two (Decides-eqb a.cores b.cores) (Decides-eqb a.priorities b.priorities)) (bools a.slicing b.slicing))
+    (Decides-eqb a.mutexes b.mutexes)) (Decides-eqb a.notes b.notes)) (Decides-eqb a.tasks b.tasks))
 
 looks : Tells are_same_looks
 looks a b = Decides-like (are_same_looks a b)
@@ -83,7 +91,8 @@ waiters a b = Decides-like (are_same_waiters a b)
 
 actions : Tells are_same_actions
 actions Nothing Nothing = (λ e. refl, λ e. refl)
-actions (SetBits bits) (SetBits others) = Decides-like (are_same_actions (SetBits bits) (SetBits others)) (λ e. ap SetBits e) (λ e. cc e) (Decides-eqb bits others)
+actions (SetBits bits) (SetBits others) = Decides-like (are_same_actions (SetBits bits) (SetBits others)) (λ e. ap SetBits e) (λ e. cc e)
+    (Decides-eqb bits others)
 actions Increment Increment = (λ e. refl, λ e. refl)
 actions (Set value) (Set other) = Decides-like (are_same_actions (Set value) (Set other)) (λ e. ap Set e) (λ e. cc e) (Decides-eqb value other)
 actions (SetNew value) (SetNew other) = Decides-like (are_same_actions (SetNew value) (SetNew other)) (λ e. ap SetNew e) (λ e. cc e) (Decides-eqb value other)
@@ -112,26 +121,45 @@ notifications a b = Decides-like (are_same_notifications a b)
 calls : Tells are_same_calls
 calls Yield Yield = (λ e. refl, λ e. refl)
 calls (Delay ticks) (Delay others) = Decides-like (are_same_calls (Delay ticks) (Delay others)) (λ e. ap Delay e) (λ e. cc e) (Decides-eqb ticks others)
-calls (DelayUntil a b) (DelayUntil c d) = Decides-like (are_same_calls (DelayUntil a b) (DelayUntil c d)) (λ h i. DelayUntil (h.0 i) (h.1 i)) (λ e. (cc e, cc e)) (two (Decides-eqb a c) (Decides-eqb b d))
-calls (PrioritySet a b) (PrioritySet c d) = Decides-like (are_same_calls (PrioritySet a b) (PrioritySet c d)) (λ h i. PrioritySet (h.0 i) (h.1 i)) (λ e. (cc e, cc e)) (two (Decides-eqb a c) (Decides-eqb b d))
-calls (AffinitySet a b) (AffinitySet c d) = Decides-like (are_same_calls (AffinitySet a b) (AffinitySet c d)) (λ h i. AffinitySet (h.0 i) (h.1 i)) (λ e. (cc e, cc e)) (two (Decides-eqb a c) (Decides-eqb b d))
+calls (DelayUntil a b) (DelayUntil c d) = Decides-like (are_same_calls (DelayUntil a b) (DelayUntil c d)) (λ h i. DelayUntil (h.0 i) (h.1 i))
+    (λ e. (cc e, cc e)) (two (Decides-eqb a c) (Decides-eqb b d))
+calls (PrioritySet a b) (PrioritySet c d) = Decides-like (are_same_calls (PrioritySet a b) (PrioritySet c d)) (λ h i. PrioritySet (h.0 i) (h.1 i))
+    (λ e. (cc e, cc e)) (two (Decides-eqb a c) (Decides-eqb b d))
+calls (AffinitySet a b) (AffinitySet c d) = Decides-like (are_same_calls (AffinitySet a b) (AffinitySet c d)) (λ h i. AffinitySet (h.0 i) (h.1 i))
+    (λ e. (cc e, cc e)) (two (Decides-eqb a c) (Decides-eqb b d))
 calls (PreemptOff a) (PreemptOff b) = Decides-like (are_same_calls (PreemptOff a) (PreemptOff b)) (λ e. ap PreemptOff e) (λ e. cc e) (Decides-eqb a b)
 calls (PreemptOn a) (PreemptOn b) = Decides-like (are_same_calls (PreemptOn a) (PreemptOn b)) (λ e. ap PreemptOn e) (λ e. cc e) (Decides-eqb a b)
 calls (Notify a) (Notify b) = Decides-like (are_same_calls (Notify a) (Notify b)) (λ e. ap Notify e) (λ e. cc e) (notes a b)
-calls (NotifyWait a b c k) (NotifyWait d e f l) = Decides-like (are_same_calls (NotifyWait a b c k) (NotifyWait d e f l)) (λ h i. NotifyWait (h.0.0.0 i) (h.0.0.1 i) (h.0.1 i) (h.1 i)) (λ e. (((cc e, cc e), cc e), cc e)) (two (two (two (Decides-eqb a d) (Decides-eqb b e)) (Decides-eqb c f)) (Decides-eqb k l))
-calls (NotifyTake a b k) (NotifyTake c d l) = Decides-like (are_same_calls (NotifyTake a b k) (NotifyTake c d l)) (λ h i. NotifyTake (h.0.0 i) (h.0.1 i) (h.1 i)) (λ e. ((cc e, cc e), cc e)) (two (two (bools a c) (Decides-eqb b d)) (Decides-eqb k l))
-calls (StateClear a k) (StateClear b l) = Decides-like (are_same_calls (StateClear a k) (StateClear b l)) (λ h i. StateClear (h.0 i) (h.1 i)) (λ e. (cc e, cc e)) (two (Decides-eqb a b) (Decides-eqb k l))
-calls (ValueClear a b k) (ValueClear c d l) = Decides-like (are_same_calls (ValueClear a b k) (ValueClear c d l)) (λ h i. ValueClear (h.0.0 i) (h.0.1 i) (h.1 i)) (λ e. ((cc e, cc e), cc e)) (two (two (Decides-eqb a c) (Decides-eqb b d)) (Decides-eqb k l))
-calls (MutexTake a b) (MutexTake c d) = Decides-like (are_same_calls (MutexTake a b) (MutexTake c d)) (λ h i. MutexTake (h.0 i) (h.1 i)) (λ e. (cc e, cc e)) (two (Decides-eqb a c) (Decides-eqb b d))
+calls (NotifyWait a b c k) (NotifyWait d e f l) = Decides-like (are_same_calls (NotifyWait a b c k) (NotifyWait d e f l))
+    (λ h i. NotifyWait (h.0.0.0 i) (h.0.0.1 i) (h.0.1 i) (h.1 i)) (λ e. (((cc e, cc e), cc e), cc e))
+    (two (two (two (Decides-eqb a d) (Decides-eqb b e)) (Decides-eqb c f)) (Decides-eqb k l))
+calls (NotifyTake a b k) (NotifyTake c d l) = Decides-like (are_same_calls (NotifyTake a b k) (NotifyTake c d l))
+    (λ h i. NotifyTake (h.0.0 i) (h.0.1 i) (h.1 i)) (λ e. ((cc e, cc e), cc e)) (two (two (bools a c) (Decides-eqb b d)) (Decides-eqb k l))
+calls (StateClear a k) (StateClear b l) = Decides-like (are_same_calls (StateClear a k) (StateClear b l)) (λ h i. StateClear (h.0 i) (h.1 i))
+    (λ e. (cc e, cc e)) (two (Decides-eqb a b) (Decides-eqb k l))
+calls (ValueClear a b k) (ValueClear c d l) = Decides-like (are_same_calls (ValueClear a b k) (ValueClear c d l))
+    (λ h i. ValueClear (h.0.0 i) (h.0.1 i) (h.1 i)) (λ e. ((cc e, cc e), cc e)) (two (two (Decides-eqb a c) (Decides-eqb b d)) (Decides-eqb k l))
+calls (MutexTake a b) (MutexTake c d) = Decides-like (are_same_calls (MutexTake a b) (MutexTake c d)) (λ h i. MutexTake (h.0 i) (h.1 i)) (λ e. (cc e, cc e))
+    (two (Decides-eqb a c) (Decides-eqb b d))
 calls (MutexGive a) (MutexGive b) = Decides-like (are_same_calls (MutexGive a) (MutexGive b)) (λ e. ap MutexGive e) (λ e. cc e) (Decides-eqb a b)
 calls Finish Finish = (λ e. refl, λ e. refl)
 calls HoldOpen HoldOpen = (λ e. refl, λ e. refl)
 calls HoldClose HoldClose = (λ e. refl, λ e. refl)
 calls a b = apart (λ e. cc e)
 
+-- two calls that block are one where they are the same as calls
+same_as_call : (a b : BlockingCall) → as_call a ≡ as_call b → a ≡ b
+same_as_call (blocking.Delay a) (blocking.Delay b) e = cc e
+same_as_call (blocking.DelayUntil a b) (blocking.DelayUntil c d) e = cc e
+same_as_call (blocking.NotifyWait a b c k) (blocking.NotifyWait d f g l) e = cc e
+same_as_call (blocking.NotifyTake a b k) (blocking.NotifyTake c d l) e = cc e
+same_as_call a b e = absurd (cc e)
+
 unfinished : Tells are_same_unfinished
-unfinished (Made a) (Made b) = Decides-like (are_same_calls a b) (λ e. ap Made e) (λ e. cc e) (calls a b)
-unfinished (Take a b) (Take c d) = Decides-like (are_same_unfinished (Take a b) (Take c d)) (λ h i. Take (h.0 i) (h.1 i)) (λ e. (cc e, cc e)) (two (Decides-eqb a c) (bools b d))
+unfinished (Made a) (Made b) =
+    Decides-like (are_same_calls (as_call a) (as_call b)) (λ e. ap Made (same_as_call a b e)) (λ e. cc e) (calls (as_call a) (as_call b))
+unfinished (Take a b) (Take c d) = Decides-like (are_same_unfinished (Take a b) (Take c d)) (λ h i. Take (h.0 i) (h.1 i)) (λ e. (cc e, cc e))
+    (two (Decides-eqb a c) (bools b d))
 unfinished (Made a) (Take c d) = apart (λ e. cc e)
 unfinished (Take a b) (Made c) = apart (λ e. cc e)
 
@@ -149,16 +177,28 @@ orders a b =
     Decides-like (are_same_orders a b)
     (λ h i. record { ready = h.0.0.0.0 i; tick = h.0.0.0.1 i; delayed = h.0.0.1 i; waiters = h.0.1 i; deadlines = h.1 i })
     (λ e. ((((λ i. (e i).ready, λ i. (e i).tick), λ i. (e i).delayed), λ i. (e i).waiters), λ i. (e i).deadlines))
-    (two (two (two (two (lists (λ m n. nat_eq m n) Decides-eqb a.ready b.ready) (Decides-eqb a.tick b.tick)) (lists are_same_delays delays a.delayed b.delayed)) (lists are_same_waiters waiters a.waiters b.waiters)) (lists (are_same_options (λ m n. nat_eq m n)) maybe a.deadlines b.deadlines))
+    (two (two (two (two (lists (λ m n. nat_eq m n) Decides-eqb a.ready b.ready) (Decides-eqb a.tick b.tick)) (lists are_same_delays delays a.delayed b.delayed))
+    (lists are_same_waiters waiters a.waiters b.waiters)) (lists (are_same_options (λ m n. nat_eq m n)) maybe a.deadlines b.deadlines))
 
 pub views : Tells are_same_views
 views a b =
     let maybe = options (λ m n. nat_eq m n) Decides-eqb in
     Decides-like (are_same_views a b)
-    (λ h i. record { settings = h.0.0.0.0.0.0 i; control = h.0.0.0.0.0.1 i; calls = h.0.0.0.0.1 i; notes = h.0.0.0.1 i; holders = h.0.0.1 i; hold = h.0.1 i; orders = h.1 i })
+    (λ h i. record {
+      settings = h.0.0.0.0.0.0 i;
+      control = h.0.0.0.0.0.1 i;
+      calls = h.0.0.0.0.1 i;
+      notes = h.0.0.0.1 i;
+      holders = h.0.0.1 i;
+      hold = h.0.1 i;
+      orders = h.1 i;
+    })
     (λ e. ((((((λ i. (e i).settings, λ i. (e i).control), λ i. (e i).calls), λ i. (e i).notes), λ i. (e i).holders), λ i. (e i).hold), λ i. (e i).orders))
-    (two (two (two (two (two (two (settings a.settings b.settings) (controls a.control b.control)) (lists (are_same_options are_same_unfinished) (options are_same_unfinished unfinished) a.calls b.calls)) (lists are_same_notifications notifications a.notes b.notes)) (lists (are_same_options (λ m n. nat_eq m n)) maybe a.holders b.holders)) (options are_same_holds holds a.hold b.hold)) (orders a.orders b.orders))
+    (two (two (two (two (two (two (settings a.settings b.settings) (controls a.control b.control))
+    (lists (are_same_options are_same_unfinished) (options are_same_unfinished unfinished) a.calls b.calls))
+    (lists are_same_notifications notifications a.notes b.notes)) (lists (are_same_options (λ m n. nat_eq m n)) maybe a.holders b.holders))
+    (options are_same_holds holds a.hold b.hold)) (orders a.orders b.orders))
 
-pub same_told : (a b : Table) → ((is_same a b ≡ true) ↔ Same a b)
+pub same_decided : (a b : Table) → ((is_same a b ≡ true) ↔ Same a b)
 unfolding is_same
-same_told a b = views (view_of a) (view_of b)
+same_decided a b = views (view_of a) (view_of b)

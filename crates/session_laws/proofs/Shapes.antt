@@ -24,7 +24,8 @@ own_shape tallies =
     sym (shape_of_each (tally_at tallies) (numbers (length tallies))) ∙ ap shape (own_items tallies (record { run = []; counts = no_counts 0 }))
 
 -- tallies made from these, each with as many numbers
-kept_shape : (tallies : List TaskTally) (f : ℕ → TaskTally) → ((task : ℕ) → length (f task).run ≡ size_at tallies task) → shape (map f (numbers (length tallies))) ≡ shape tallies
+kept_shape : (tallies : List TaskTally) (f : ℕ → TaskTally) → ((task : ℕ) → length (f task).run ≡ size_at tallies task) → shape
+    (map f (numbers (length tallies))) ≡ shape tallies
 kept_shape tallies f same =
     shape_of_each f (numbers (length tallies))
     ∙ numbers_agree (λ task. length (f task).run) (size_at tallies) (length tallies) (λ task below. same task)
@@ -51,5 +52,6 @@ pub session_shape : (header : Header) (steps : List Step) → shape (tallies hea
 session_shape header steps =
     let tasks = (settings_of header).tasks in
     shape_of_each (tally_of header steps) (numbers tasks)
-    ∙ numbers_agree (λ task. length (tally_of header steps task).run) (λ task. header.config.cores) tasks (λ task below. length_each (run_ticks header steps task) header.config.cores)
+    ∙ numbers_agree (λ task. length (tally_of header steps task).run) (λ task. header.config.cores) tasks
+    (λ task below. length_each (run_ticks header steps task) header.config.cores)
     ∙ sym (splat_is_map (numbers tasks) tasks header.config.cores (length-range_with_len 0 tasks))

@@ -1,5 +1,6 @@
 -- Tallies: counts over places are counts step by step, and those of two parts add up.
-use Rattle.std.proofs.Common.{◌≡◌, ℕ, zero, suc, ◌+◌, ◌<◌, ◌≤◌, max, Bool, true, false, cond, ◌&&◌, List, [], ◌∷◌, ◌++◌, length, map, take, replicate, not, refl, sym, ap, subst, ◌∙◌, arith, add-one}
+use Rattle.std.proofs.Common.{◌≡◌, ℕ, zero, suc, ◌+◌, ◌<◌, ◌≤◌, max, Bool, true, false, cond, ◌&&◌, List, [], ◌∷◌, ◌++◌, length, map, take, replicate, not}
+use Rattle.std.proofs.Common.{refl, sym, ap, subst, ◌∙◌, arith, add-one}
 use Rattle.std.specs.Prelude.{count_by, slice_index_or, slice_get, option_map}
 use Rattle.std.specs.Option.{option_map_or}
 use Rattle.std.specs.List.{range_with_len}
@@ -17,8 +18,10 @@ use Rattle.bench_model.specs.Sound.{IsConsistent}
 use Rattle.bench_model.specs.Start.{start}
 use Rattle.bench_model.specs.Session.{step_of, state_after, state_at}
 use Rattle.bench_model.specs.Table.{Stamps, Table, stamp_queues}
-use Rattle.bench_model.specs.Tally.{TaskTally, Moment, greatest, is_tick, is_current, outranks_some, is_found_on, is_found_waiting, is_inverted, is_switched_in, is_displaced, is_timeout, moment_at, tally_of, tallies}
-use Rattle.bench_model.specs.Tallied.{tally_at, run_at, first_tally, first_tallies, one_if, tally_after, tallied, moment_of, tallied_after, part_tallies, added_tally, added, CountsBelow, AllCountsBelow}
+use Rattle.bench_model.specs.Tally.{TaskTally, Moment, greatest, is_tick, is_current, outranks_some, is_found_on, is_found_waiting, is_inverted, is_switched_in}
+use Rattle.bench_model.specs.Tally.{is_displaced, is_timeout, moment_at, tally_of, tallies}
+use Rattle.bench_model.specs.Tallied.{tally_at, run_at, first_tally, first_tallies, one_if, tally_after, tallied, moment_of, tallied_after, part_tallies}
+use Rattle.bench_model.specs.Tallied.{added_tally, added, CountsBelow, AllCountsBelow}
 use Rattle.session_laws.specs.TallyLaws.{seen_moment}
 use Rattle.list_orders.proofs.Filters.{map_agrees, All-weaker}
 use Rattle.order_laws.proofs.SeenMoves.{is_ready_seen}
@@ -68,7 +71,8 @@ abbrev pub count_after : (Moment Stamps → Bool) → Table → List Step → �
 count_after test table [] = 0
 count_after test table (step ∷ steps) = one_if (test (moment_of table step)) + count_after test (step_of step table).1 steps
 
-places_counted : (test : Moment Stamps → Bool) (table : Table) (steps : List Step) → count_by (passes_at test table steps) (numbers (length steps)) ≡ count_after test table steps
+places_counted : (test : Moment Stamps → Bool) (table : Table) (steps : List Step) → count_by (passes_at test table steps) (numbers (length steps)) ≡
+    count_after test table steps
 places_counted test table [] = refl
 places_counted test table (step ∷ steps) =
     let passes = passes_at test table (step ∷ steps) in
@@ -83,11 +87,14 @@ abbrev top_after : ℕ → Table → List Step → ℕ
 top_after task table [] = 0
 top_after task table (step ∷ steps) = let next = (step_of step table).1 in max (in_use_of task next) (top_after task next steps)
 
-places_topped : (task : ℕ) (table : Table) (steps : List Step) → greatest (map (λ place. in_use_of task (state_after table (take place steps))) (numbers (suc (length steps)))) ≡ max (in_use_of task table) (top_after task table steps)
+places_topped : (task : ℕ) (table : Table) (steps : List Step) → greatest
+    (map (λ place. in_use_of task (state_after table (take place steps))) (numbers (suc (length steps)))) ≡ max (in_use_of task table)
+    (top_after task table steps)
 places_topped task table [] = refl
 places_topped task table (step ∷ steps) =
     let top = λ (place : ℕ). in_use_of task (state_after table (take place (step ∷ steps))) in
-    ap (λ rest. max (in_use_of task table) (greatest rest)) (map_later top 0 (suc (length steps))) ∙ ap (max (in_use_of task table)) (places_topped task (step_of step table).1 steps)
+    ap (λ rest. max (in_use_of task table) (greatest rest)) (map_later top 0 (suc (length steps))) ∙ ap (max (in_use_of task table))
+    (places_topped task (step_of step table).1 steps)
 
 -- tallies whose numbers are equal
 same_tally : {run run' : List ℕ} {a a' b b' c c' d d' e e' f f' : ℕ} → run ≡ run' → a ≡ a' → b ≡ b' → c ≡ c' → d ≡ d' → e ≡ e' → f ≡ f' →
@@ -123,7 +130,9 @@ counted_one_more table step steps task tally =
     let one = λ (core : ℕ). run_at tally core + one_if (is_found_on core task (moment_of table step)) in
     let rest = λ (core : ℕ). count_after (is_found_on core task) (step_of step table).1 steps in
     same_tally
-    (numbers_so (λ core. run_at (tally_after stamp_queues (moment_of table step) task tally) core + rest core) (λ core. run_at tally core + (one_if (is_found_on core task (moment_of table step)) + rest core)) (length (map one (numbers (length tally.run)))) (length tally.run) (length_each one (length tally.run))
+    (numbers_so (λ core. run_at (tally_after stamp_queues (moment_of table step) task tally) core + rest core)
+    (λ core. run_at tally core + (one_if (is_found_on core task (moment_of table step)) + rest core)) (length (map one (numbers (length tally.run))))
+    (length tally.run) (length_each one (length tally.run))
     (λ core below. omega (arith, each_at one (length tally.run) core 0 below)))
     (omega arith) (omega arith) (omega arith) (omega arith) (omega arith) (omega arith)
 
@@ -131,40 +140,51 @@ pub length_tallied : (moment : Moment Stamps) (tallies : List TaskTally) → len
 unfolding tallied
 length_tallied moment tallies = length_each (λ task. tally_after stamp_queues moment task (tally_at tallies task)) (length tallies)
 
-tallied_at : (moment : Moment Stamps) (tallies : List TaskTally) (task : ℕ) → task < length tallies → tally_at (tallied stamp_queues moment tallies) task ≡ tally_after stamp_queues moment task (tally_at tallies task)
+tallied_at : (moment : Moment Stamps) (tallies : List TaskTally) (task : ℕ) → task < length tallies → tally_at (tallied stamp_queues moment tallies) task ≡
+    tally_after stamp_queues moment task (tally_at tallies task)
 unfolding tallied
 tallied_at moment tallies task below = each_at (λ task. tally_after stamp_queues moment task (tally_at tallies task)) (length tallies) task _ below
 
 -- the tallies with all the steps after a table, task by task
-pub tallied_each : (table : Table) (steps : List Step) (tallies : List TaskTally) → tallied_after table steps tallies ≡ map (λ task. counted_after table steps task (tally_at tallies task)) (numbers (length tallies))
+pub tallied_each : (table : Table) (steps : List Step) (tallies : List TaskTally) → tallied_after table steps tallies ≡ map
+    (λ task. counted_after table steps task (tally_at tallies task)) (numbers (length tallies))
 tallied_each table [] tallies =
-    sym (numbers_agree (λ task. counted_after table [] task (tally_at tallies task)) (tally_at tallies) (length tallies) (λ task below. counted_none table task (tally_at tallies task)) ∙ own_items tallies _)
+    sym (numbers_agree (λ task. counted_after table [] task (tally_at tallies task)) (tally_at tallies) (length tallies)
+    (λ task below. counted_none table task (tally_at tallies task)) ∙ own_items tallies _)
 tallied_each table (step ∷ steps) tallies =
     let next = (step_of step table).1 in
     let later = tallied stamp_queues (moment_of table step) tallies in
     tallied_each next steps later
-    ∙ numbers_so (λ task. counted_after next steps task (tally_at later task)) (λ task. counted_after table (step ∷ steps) task (tally_at tallies task)) (length later) (length tallies) (length_tallied (moment_of table step) tallies)
-    (λ task below. ap (counted_after next steps task) (tallied_at (moment_of table step) tallies task below) ∙ counted_one_more table step steps task (tally_at tallies task))
+    ∙ numbers_so (λ task. counted_after next steps task (tally_at later task)) (λ task. counted_after table (step ∷ steps) task (tally_at tallies task))
+    (length later) (length tallies) (length_tallied (moment_of table step) tallies)
+    (λ task below. ap (counted_after next steps task) (tallied_at (moment_of table step) tallies task below) ∙ counted_one_more table step steps task
+    (tally_at tallies task))
 
 -- those from the first tallies on
-pub part_each : (settings : Settings) (table : Table) (steps : List Step) → part_tallies settings table steps ≡ map (λ task. counted_after table steps task (first_tally settings table.control task)) (numbers settings.tasks)
+pub part_each : (settings : Settings) (table : Table) (steps : List Step) → part_tallies settings table steps ≡ map
+    (λ task. counted_after table steps task (first_tally settings table.control task)) (numbers settings.tasks)
 part_each settings table steps =
     let first = first_tallies settings table.control in
     tallied_each table steps first
-    ∙ numbers_so (λ task. counted_after table steps task (tally_at first task)) (λ task. counted_after table steps task (first_tally settings table.control task)) (length first) settings.tasks (length_each (first_tally settings table.control) settings.tasks)
+    ∙ numbers_so (λ task. counted_after table steps task (tally_at first task))
+    (λ task. counted_after table steps task (first_tally settings table.control task)) (length first) settings.tasks
+    (length_each (first_tally settings table.control) settings.tasks)
     (λ task below. ap (counted_after table steps task) (each_at (first_tally settings table.control) settings.tasks task _ below))
 
 run_from_zero : (cores core n : ℕ) → core < cores → slice_index_or (replicate cores 0) core 0 + n ≡ n
 run_from_zero cores core n below = omega (arith, get_or-replicate {A = ℕ} cores core 0 0 below)
 
 -- the tally of a session, task by task
-session_tally : (header : Header) (steps : List Step) (task : ℕ) → tally_of header steps task ≡ counted_after (start header) steps task (first_tally (settings_of header) (start header).control task)
+session_tally : (header : Header) (steps : List Step) (task : ℕ) → tally_of header steps task ≡ counted_after (start header) steps task
+    (first_tally (settings_of header) (start header).control task)
 unfolding counted_after moment_at state_at
 session_tally header steps task =
     let table = start header in
     let cores = header.config.cores in
     same_tally
-    (sym (numbers_so (λ core. run_at (first_tally (settings_of header) table.control task) core + count_after (is_found_on core task) table steps) (λ core. count_by (passes_at (is_found_on core task) table steps) (numbers (length steps))) (length (replicate cores 0)) cores (length-replicate cores 0)
+    (sym (numbers_so (λ core. run_at (first_tally (settings_of header) table.control task) core + count_after (is_found_on core task) table steps)
+    (λ core. count_by (passes_at (is_found_on core task) table steps) (numbers (length steps))) (length (replicate cores 0)) cores
+    (length-replicate cores 0)
     (λ core below. run_from_zero cores core _ below ∙ sym (places_counted (is_found_on core task) table steps))))
     (omega (arith, places_counted (is_found_waiting stamp_queues task) table steps))
     (omega (arith, places_counted (is_inverted stamp_queues task) table steps))
@@ -175,11 +195,13 @@ session_tally header steps task =
 
 pub stepwise : (header : Header) (steps : List Step) → tallies header steps ≡ part_tallies (settings_of header) (start header) steps
 stepwise header steps =
-    numbers_agree (tally_of header steps) (λ task. counted_after (start header) steps task (first_tally (settings_of header) (start header).control task)) (settings_of header).tasks (λ task below. session_tally header steps task)
+    numbers_agree (tally_of header steps) (λ task. counted_after (start header) steps task (first_tally (settings_of header) (start header).control task))
+    (settings_of header).tasks (λ task below. session_tally header steps task)
     ∙ sym (part_each (settings_of header) (start header) steps)
 
 -- A session that is cut in two.
-count_parts : (test : Moment Stamps → Bool) (table : Table) (first second : List Step) → count_after test table (first ++ second) ≡ count_after test table first + count_after test (state_after table first) second
+count_parts : (test : Moment Stamps → Bool) (table : Table) (first second : List Step) → count_after test table (first ++ second) ≡ count_after test table first
+    + count_after test (state_after table first) second
 count_parts test table [] second = omega arith
 count_parts test table (step ∷ first) second = omega (arith, count_parts test (step_of step table).1 first second)
 
@@ -188,13 +210,15 @@ top_at_cut : (task : ℕ) (table : Table) (first : List Step) → in_use_of task
 top_at_cut task table [] = omega arith
 top_at_cut task table (step ∷ first) = omega (arith, top_at_cut task (step_of step table).1 first)
 
-top_parts : (task : ℕ) (table : Table) (first second : List Step) → top_after task table (first ++ second) ≡ max (top_after task table first) (top_after task (state_after table first) second)
+top_parts : (task : ℕ) (table : Table) (first second : List Step) → top_after task table (first ++ second) ≡ max (top_after task table first)
+    (top_after task (state_after table first) second)
 top_parts task table [] second = omega arith
 top_parts task table (step ∷ first) second = omega (arith, top_parts task (step_of step table).1 first second)
 
 added_parts : (settings : Settings) (table : Table) (first second : List Step) (task : ℕ) →
     counted_after table (first ++ second) task (first_tally settings table.control task)
-    ≡ added_tally (counted_after table first task (first_tally settings table.control task)) (counted_after (state_after table first) second task (first_tally settings (state_after table first).control task))
+    ≡ added_tally (counted_after table first task (first_tally settings table.control task))
+    (counted_after (state_after table first) second task (first_tally settings (state_after table first).control task))
 unfolding counted_after added_tally
 added_parts settings table first second task =
     let cut = state_after table first in
@@ -203,10 +227,19 @@ added_parts settings table first second task =
     let before = λ (core : ℕ). run_at (first_tally settings table.control task) core + count_after (is_found_on core task) table first in
     let later = λ (core : ℕ). run_at (first_tally settings cut.control task) core + count_after (is_found_on core task) cut second in
     same_tally
-    (sym (numbers_so (λ core. slice_index_or (map before (numbers cores)) core 0 + slice_index_or (map later (numbers cores)) core 0) (λ core. run_at (first_tally settings table.control task) core + count_after (is_found_on core task) table (first ++ second)) (length (map before (numbers cores))) cores (length_each before cores)
+    (sym (numbers_so (λ core. slice_index_or (map before (numbers cores)) core 0 + slice_index_or (map later (numbers cores)) core 0)
+    (λ core. run_at (first_tally settings table.control task) core + count_after (is_found_on core task) table (first ++ second))
+    (length (map before (numbers cores))) cores (length_each before cores)
     (λ core below.
     let low : core < settings.cores = omega (arith, length-replicate {A = ℕ} settings.cores 0, below) in
-    omega (arith, each_at before cores core 0 below, each_at later cores core 0 below, run_from_zero settings.cores core 0 low, count_parts (is_found_on core task) table first second))))
+    omega (
+      arith,
+      each_at before cores core 0 below,
+      each_at later cores core 0 below,
+      run_from_zero settings.cores core 0 low,
+      count_parts
+          (is_found_on core task) table first second,
+    ))))
     (omega (arith, count_parts (is_found_waiting stamp_queues task) table first second))
     (omega (arith, count_parts (is_inverted stamp_queues task) table first second))
     (omega (arith, count_parts (is_switched_in task) table first second))
@@ -215,20 +248,28 @@ added_parts settings table first second task =
     (omega (arith, top_parts task table first second, top_at_cut task table first))
 
 length_part : (settings : Settings) (table : Table) (steps : List Step) → length (part_tallies settings table steps) ≡ settings.tasks
-length_part settings table steps = ap length (part_each settings table steps) ∙ length_each (λ task. counted_after table steps task (first_tally settings table.control task)) settings.tasks
+length_part settings table steps = ap length (part_each settings table steps) ∙ length_each
+    (λ task. counted_after table steps task (first_tally settings table.control task)) settings.tasks
 
-part_at : (settings : Settings) (table : Table) (steps : List Step) (task : ℕ) → task < settings.tasks → tally_at (part_tallies settings table steps) task ≡ counted_after table steps task (first_tally settings table.control task)
-part_at settings table steps task below = ap (λ tallies. tally_at tallies task) (part_each settings table steps) ∙ each_at (λ task. counted_after table steps task (first_tally settings table.control task)) settings.tasks task _ below
+part_at : (settings : Settings) (table : Table) (steps : List Step) (task : ℕ) → task < settings.tasks → tally_at (part_tallies settings table steps) task ≡
+    counted_after table steps task (first_tally settings table.control task)
+part_at settings table steps task below = ap (λ tallies. tally_at tallies task) (part_each settings table steps) ∙ each_at
+    (λ task. counted_after table steps task (first_tally settings table.control task)) settings.tasks task _ below
 
-pub parts_added : (settings : Settings) (table : Table) (first second : List Step) → part_tallies settings table (first ++ second) ≡ added (part_tallies settings table first) (part_tallies settings (state_after table first) second)
+pub parts_added : (settings : Settings) (table : Table) (first second : List Step) → part_tallies settings table (first ++ second) ≡ added
+    (part_tallies settings table first) (part_tallies settings (state_after table first) second)
 unfolding added
 parts_added settings table first second =
     let cut = state_after table first in
     let before = part_tallies settings table first in
     let later = part_tallies settings cut second in
     part_each settings table (first ++ second)
-    ∙ sym (numbers_so (λ task. added_tally (tally_at before task) (tally_at later task)) (λ task. counted_after table (first ++ second) task (first_tally settings table.control task)) (length before) settings.tasks (length_part settings table first)
-    (λ task below. ap (λ tally. added_tally tally (tally_at later task)) (part_at settings table first task below) ∙ ap (added_tally (counted_after table first task (first_tally settings table.control task))) (part_at settings cut second task below) ∙ sym (added_parts settings table first second task)))
+    ∙ sym (numbers_so (λ task. added_tally (tally_at before task) (tally_at later task))
+    (λ task. counted_after table (first ++ second) task (first_tally settings table.control task)) (length before) settings.tasks
+    (length_part settings table first)
+    (λ task below. ap (λ tally. added_tally tally (tally_at later task)) (part_at settings table first task below) ∙ ap
+    (added_tally (counted_after table first task (first_tally settings table.control task))) (part_at settings cut second task below) ∙ sym
+    (added_parts settings table first second task)))
 
 -- A count is at most the number of steps.
 one_at_most : (b : Bool) → one_if b ≤ 1
@@ -239,7 +280,8 @@ count_few : (test : Moment Stamps → Bool) (table : Table) (steps : List Step) 
 count_few test table [] = omega arith
 count_few test table (step ∷ steps) = omega (arith, count_few test (step_of step table).1 steps, one_at_most (test (moment_of table step)))
 
-few_after : (settings : Settings) (table : Table) (steps : List Step) (task : ℕ) → CountsBelow (suc (length steps)) (counted_after table steps task (first_tally settings table.control task))
+few_after : (settings : Settings) (table : Table) (steps : List Step) (task : ℕ) → CountsBelow (suc (length steps))
+    (counted_after table steps task (first_tally settings table.control task))
 unfolding counted_after
 few_after settings table steps task =
     let first = first_tally settings table.control task in
@@ -261,16 +303,20 @@ pub part_few : (settings : Settings) (table : Table) (steps : List Step) → All
 part_few settings table steps task d low =
     let below : task < settings.tasks = omega (arith, low, length_part settings table steps) in
     let each = λ (task : ℕ). counted_after table steps task (first_tally settings table.control task) in
-    subst (CountsBelow (suc (length steps))) (sym (ap (λ tallies. slice_index_or tallies task d) (part_each settings table steps) ∙ each_at each settings.tasks task d below)) (few_after settings table steps task)
+    subst (CountsBelow (suc (length steps))) (sym
+    (ap (λ tallies. slice_index_or tallies task d) (part_each settings table steps) ∙ each_at each settings.tasks task d below))
+    (few_after settings table steps task)
 
 -- A step over lists.
-waiting_seen : (moment : Moment Stamps) (task : ℕ) → IsConsistent moment.before → task < moment.before.settings.tasks → is_found_waiting stamp_queues task moment ≡ is_found_waiting list_queues task (seen_moment moment)
+waiting_seen : (moment : Moment Stamps) (task : ℕ) → IsConsistent moment.before → task < moment.before.settings.tasks → is_found_waiting stamp_queues task
+    moment ≡ is_found_waiting list_queues task (seen_moment moment)
 waiting_seen moment task sound below =
     let before = moment.before in
     let ready = is_ready_seen before.control before.orders task sound.stamped.given (omega (arith, sound.sized.rows, below)) in
     ap (λ b. is_tick moment.step && (b && not (is_current before.control task))) (sym ready)
 
-counted_seen : (moment : Moment Stamps) (task : ℕ) (tally : TaskTally) → IsConsistent moment.before → task < moment.before.settings.tasks → tally_after stamp_queues moment task tally ≡ tally_after list_queues (seen_moment moment) task tally
+counted_seen : (moment : Moment Stamps) (task : ℕ) (tally : TaskTally) → IsConsistent moment.before → task < moment.before.settings.tasks → tally_after
+    stamp_queues moment task tally ≡ tally_after list_queues (seen_moment moment) task tally
 unfolding tally_after
 counted_seen moment task tally sound below =
     let waiting = waiting_seen moment task sound below in
@@ -279,8 +325,10 @@ counted_seen moment task tally sound below =
     (ap (λ b. tally.counts.inverted + one_if (b && outranks_some moment.before.control task)) waiting)
     refl refl refl refl
 
-pub tallied_seen : (moment : Moment Stamps) (tallies : List TaskTally) → IsConsistent moment.before → length tallies ≤ moment.before.settings.tasks → tallied stamp_queues moment tallies ≡ tallied list_queues (seen_moment moment) tallies
+pub tallied_seen : (moment : Moment Stamps) (tallies : List TaskTally) → IsConsistent moment.before → length tallies ≤ moment.before.settings.tasks → tallied
+    stamp_queues moment tallies ≡ tallied list_queues (seen_moment moment) tallies
 unfolding tallied
 tallied_seen moment tallies sound few =
-    numbers_agree (λ task. tally_after stamp_queues moment task (tally_at tallies task)) (λ task. tally_after list_queues (seen_moment moment) task (tally_at tallies task)) (length tallies)
+    numbers_agree (λ task. tally_after stamp_queues moment task (tally_at tallies task))
+    (λ task. tally_after list_queues (seen_moment moment) task (tally_at tallies task)) (length tallies)
     (λ task below. counted_seen moment task (tally_at tallies task) sound (omega (arith, below, few)))

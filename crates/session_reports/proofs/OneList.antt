@@ -8,6 +8,7 @@ use Rattle.session_reports.specs.ReportLaws.{FiguresAreOne}
 
 pub figures_are_one : FiguresAreOne
 figures_are_one true session figures others one two =
-    let same = settled_run_is_one session.header session.steps one.settled.run two.settled.run one.settled.left two.settled.left one.settled.settled two.settled.settled in
+    let same = settled_run_is_one session.header session.steps one.settled.run two.settled.run one.settled.left two.settled.left one.settled.settled
+    two.settled.settled in
     one.are ∙ ap₂ (λ (run : List Step) (left : List WaitingCall). run_figures session.header run left) same.0 same.1 ∙ sym two.are
 figures_are_one false session figures others one two = one ∙ sym two

@@ -9,6 +9,6 @@ pub record Asked : Type 0 where
   pub bound : Bound
 
 -- how a check ends, and what is told of it
-pub record Told : Type 0 where
+pub record Printed : Type 0 where
   pub status : CheckStatus
   pub text : List ℕ

@@ -6,7 +6,7 @@ use Rattle.run_reports.specs.declared.figures.Figure.{Figure}
 use Rattle.run_reports.specs.declared.limits.Limit.{Limit}
 use Rattle.run_reports.specs.Limits.{has_name, limit_line, name_line}
 use Rattle.session_reports.specs.declared.limits.CheckStatus.TheVariants.{Kept, NotKept, Unknown}
-use Rattle.session_reports.specs.Asked.{Asked, Told}
+use Rattle.session_reports.specs.Asked.{Asked, Printed}
 use Rattle.session_reports.specs.Figures.{AreFigures}
 
 -- the figure that is asked for
@@ -32,7 +32,7 @@ unknown_text header figures name =
     ++ flat_map (name_line header) figures
 
 -- all limits are kept where there are no lines
-abbrev pub kept_or : List ℕ → Told
+abbrev pub kept_or : List ℕ → Printed
 kept_or [] = record { status = Kept; text = [] }
 kept_or (byte ∷ lines) = record { status = NotKept; text = byte ∷ lines }
 
@@ -42,19 +42,19 @@ unkept_lines header figures wanted =
     flat_map (limit_line header) (flat_map (limits_in header figures) wanted)
 
 -- what is told where some name is unknown, and where none is
-abbrev pub told_of : Header → List Figure → List Asked → Option Asked → Told
-told_of header figures wanted (Some asked) =
+abbrev pub printed_of : Header → List Figure → List Asked → Option Asked → Printed
+printed_of header figures wanted (Some asked) =
     record { status = Unknown; text = unknown_text header figures asked.name }
-told_of header figures wanted None = kept_or (unkept_lines header figures wanted)
+printed_of header figures wanted None = kept_or (unkept_lines header figures wanted)
 
 -- what is told of figures and limits
-abbrev pub checked : Header → List Figure → List Asked → Told
+abbrev pub checked : Header → List Figure → List Asked → Printed
 checked header figures wanted =
-    told_of header figures wanted (find (is_unknown header figures) wanted)
+    printed_of header figures wanted (find (is_unknown header figures) wanted)
 
 -- what is told of the session's run, settled or as its steps stand
-pub record IsCheck (settled : Bool) (session : Session) (wanted : List Asked) (told : Told) :
+pub record IsCheck (settled : Bool) (session : Session) (wanted : List Asked) (printed : Printed) :
     Type 0 where
   pub figures : List Figure
   pub are : AreFigures settled session figures
-  pub is : told ≡ checked session.header figures wanted
+  pub is : printed ≡ checked session.header figures wanted

@@ -51,9 +51,9 @@ pub struct Checked {
 
 impl Model for Checked {
     ghost use Rattle.std.specs.Prelude.{string_bytes};
-    ghost use Rattle.session_reports.specs.Asked.{Told};
+    ghost use Rattle.session_reports.specs.Asked.{Printed};
 
-    ghost Value = { Told };
+    ghost Value = { Printed };
 
     ghost view = { λ it. record { status = it.status; text = string_bytes it.text } };
 }
@@ -162,14 +162,14 @@ fn kept_or(lines: String) -> Checked
 }
 
 // Whether the figures keep the limits.
-fn told_of(
+fn printed_of(
     alloc: Global,
     header: &Header,
     figures: &[Figure],
     wanted: &[Wanted],
 ) -> Result<Checked, AllocError>
     ensures { IfOk result
-        (λ told. told ≡ checked header.now figures.now wanted.now) }
+        (λ printed. printed ≡ checked header.now figures.now wanted.now) }
 {
     if let Some(unknown) = first_unknown(alloc, header, figures, wanted)? {
         return Ok(Checked {
@@ -195,12 +195,12 @@ pub fn check(
     requires session { IsSession (record { header = header.now; steps = steps.now }) }
     requires few { length steps.now ≤ max_steps }
     ensures check { IfOk result
-        (λ told. IsCheck settled (record { header = header.now; steps = steps.now })
-        wanted.now told) }
+        (λ printed. IsCheck settled (record { header = header.now; steps = steps.now })
+        wanted.now printed) }
     ensures long { result ≡ Err TooManySteps
         → IsTooLong settled (record { header = header.now; steps = steps.now }) }
 {
     let figures = figures_of_session(alloc, meter, header, steps, settled)?;
-    let told = told_of(alloc, header, figures.as_slice(), wanted)?;
-    Ok(told)
+    let printed = printed_of(alloc, header, figures.as_slice(), wanted)?;
+    Ok(printed)
 }

@@ -1,5 +1,6 @@
 -- How many segments have a delay until a tick count.
-use Rattle.std.proofs.Common.{◌≡◌, ℕ, zero, suc, ◌+◌, ◌-◌, ◌<◌, ◌≤◌, Bool, true, false, cond, ltb, ◌||◌, List, [], ◌∷◌, ◌++◌, length, map, take, drop, refl, sym, ap, ap₂, ◌∙◌, arith}
+use Rattle.std.proofs.Common.{◌≡◌, ℕ, zero, suc, ◌+◌, ◌-◌, ◌<◌, ◌≤◌, Bool, true, false, cond, ltb, ◌||◌, List, [], ◌∷◌, ◌++◌, length, map, take, drop, refl}
+use Rattle.std.proofs.Common.{sym, ap, ap₂, ◌∙◌, arith}
 use Rattle.std.specs.List.{count_by}
 use Rattle.std.proofs.lemmas.Bool.Decides.{nat_tests}
 use Rattle.std.proofs.lemmas.List.{take-append-drop, drop-drop}
@@ -41,7 +42,8 @@ module _ (segments made : List SegmentView) (from to : ℕ) (order : from ≤ to
   pub fewer_than_all : count_delaying between ≤ count_delaying segments
   fewer_than_all = omega (arith, parts)
 
-  pub count_exchanged : count_delaying (take from segments ++ made ++ drop to segments) ≡ (count_delaying segments - count_delaying between) + count_delaying made
+  pub count_exchanged : count_delaying (take from segments ++ made ++ drop to segments) ≡ (count_delaying segments - count_delaying between) + count_delaying
+      made
   count_exchanged =
       let whole = count-append (take from segments ++ made) (drop to segments) in
       let front = count-append (take from segments) made in
@@ -52,10 +54,12 @@ none_reads : (segments : List SegmentView) → count_delaying segments ≡ 0 →
 none_reads [] none = refl
 none_reads (segment ∷ segments) none =
     let first : count_delaying (segment ∷ []) ≡ one segment = omega arith in
-    let parts : one segment + count_delaying segments ≡ 0 = ap (λ n. n + count_delaying segments) (sym first) ∙ sym (count-append (segment ∷ []) segments) ∙ none in
+    let parts : one segment + count_delaying segments ≡ 0 = ap (λ n. n + count_delaying segments) (sym first) ∙ sym (count-append (segment ∷ []) segments) ∙
+    none in
     both segment segments ∙ at (some_delays_until segment.steps) parts (none_reads segments (omega (arith, parts)))
   where
-    at : (b : Bool) → cond b 1 0 + count_delaying segments ≡ 0 → some_delays_until (all_steps segments) ≡ false → (b || some_delays_until (all_steps segments)) ≡ false
+    at : (b : Bool) → cond b 1 0 + count_delaying segments ≡ 0 → some_delays_until (all_steps segments) ≡ false → (b || some_delays_until (all_steps segments))
+        ≡ false
     at true none rest = absurd (omega (arith, none))
     at false none rest = rest
 

@@ -1,4 +1,4 @@
-pub mod Again
+pub mod Replaying
 pub mod Counts
 mod Delaying
 mod KeptRows

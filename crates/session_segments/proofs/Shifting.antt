@@ -1,11 +1,12 @@
 -- Segments that become so many ticks later, one after another.
-use Rattle.std.proofs.Common.{◌≡◌, ℕ, suc, false, cond, eqb, ◌+◌, ◌-◌, ◌<◌, ◌≤◌, List, [], ◌∷◌, ◌++◌, length, map, take, drop, refl, sym, ap, ap₂, subst, ◌∙◌, arith}
+use Rattle.std.proofs.Common.{◌≡◌, ℕ, suc, false, cond, eqb, ◌+◌, ◌-◌, ◌<◌, ◌≤◌, List, [], ◌∷◌, ◌++◌, length, map, take, drop, refl, sym, ap, ap₂, subst, ◌∙◌}
+use Rattle.std.proofs.Common.{arith}
 use Rattle.std.specs.Prelude.{Some, slice_get, slice_set}
 use Rattle.std.proofs.lemmas.Bool.Decides.{nat_tests}
 use Rattle.std.proofs.lemmas.List.{append-nil, append_assoc, drop_all, length-drop, length-map, length-take-le, map-append, take-append-drop, take_all}
 use Rattle.segment_laws.specs.Segments.{SegmentView, later_segment, later_segments}
 use Rattle.segment_laws.proofs.Following.{take_with}
-use Rattle.session_segments.proofs.Again.{found_there, set_there}
+use Rattle.session_segments.proofs.Replaying.{found_there, set_there}
 
 -- the segments of which those up to the index are later
 abbrev pub so_far : ℕ → List SegmentView → ℕ → ℕ → List SegmentView
@@ -27,7 +28,8 @@ module _ (by : ℕ) (old : List SegmentView) (from index : ℕ) (order : from �
   front_size = length-take-le from old (omega (arith, order, early))
 
   made_size : length made ≡ index - from
-  made_size = length-map (take (index - from) (drop from old)) (later_segment by) ∙ length-take-le (index - from) (drop from old) (omega (arith, order, early, length-drop from old))
+  made_size = length-map (take (index - from) (drop from old)) (later_segment by) ∙ length-take-le (index - from) (drop from old)
+      (omega (arith, order, early, length-drop from old))
 
   place : length (take from old) + (index - from) ≡ index
   place = omega (arith, front_size, order)
@@ -35,7 +37,8 @@ module _ (by : ℕ) (old : List SegmentView) (from index : ℕ) (order : from �
   pub shift_found : slice_get (so_far by old from index) index ≡ slice_get (drop from old) (index - from)
   shift_found = ap (slice_get (so_far by old from index)) (sym place) ∙ found_there (take from old) made (drop from old) (index - from) made_size
 
-  pub shift_goes : (segment : SegmentView) → slice_get (drop from old) (index - from) ≡ Some segment → slice_set (so_far by old from index) index (later_segment by segment) ≡ so_far by old from (index + 1)
+  pub shift_goes : (segment : SegmentView) → slice_get (drop from old) (index - from) ≡ Some segment → slice_set (so_far by old from index) index
+      (later_segment by segment) ≡ so_far by old from (index + 1)
   shift_goes segment found =
       let next : index - from + 1 ≡ index + 1 - from = omega (arith, order) in
       let more : suc (index - from) ≡ index + 1 - from = omega (arith, order) in
@@ -46,11 +49,13 @@ module _ (by : ℕ) (old : List SegmentView) (from index : ℕ) (order : from �
       ∙ set_there (take from old) made (drop from old) (index - from) segment (later_segment by segment) made_size found
       ∙ ap₂ (λ xs n. take from old ++ xs ++ drop n (drop from old)) longer next
 
-pub shift_ends : (by : ℕ) (old : List SegmentView) (from index : ℕ) → (by ≡ 0 → ⊥) → from ≤ length old → length old ≤ index → so_far by old from index ≡ take from old ++ later_segments by (drop from old)
+pub shift_ends : (by : ℕ) (old : List SegmentView) (from index : ℕ) → (by ≡ 0 → ⊥) → from ≤ length old → length old ≤ index → so_far by old from index ≡ take
+    from old ++ later_segments by (drop from old)
 shift_ends by old from index some within all =
     let past : length (drop from old) ≤ index - from = omega (arith, within, all, length-drop from old) in
     let other : eqb by 0 ≡ false = grind (arith, nat_tests, some) in
-    ap₂ (λ xs ys. take from old ++ map (later_segment by) xs ++ ys) (take_all (index - from) (drop from old) past) (drop_all (index - from) (drop from old) past)
+    ap₂ (λ xs ys. take from old ++ map (later_segment by) xs ++ ys) (take_all (index - from) (drop from old) past)
+    (drop_all (index - from) (drop from old) past)
     ∙ append-nil (take from old ++ map (later_segment by) (drop from old))
     ∙ ap (λ b. take from old ++ cond b (drop from old) (map (later_segment by) (drop from old))) (sym other)
 

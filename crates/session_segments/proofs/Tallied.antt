@@ -29,12 +29,15 @@ pub record IsTallied (settings : Settings) (table : Table) (steps : List Step) (
   pub counts : counted ≡ part_tallies settings table (take place steps)
   pub sizes : shape counted ≡ shape_of settings
 
-pub tallied_starts : (settings : Settings) (table : Table) (steps : List Step) (counted : List TaskTally) → counted ≡ first_tallies settings table.control → shape counted ≡ shape_of settings → IsTallied settings table steps 0 counted
+pub tallied_starts : (settings : Settings) (table : Table) (steps : List Step) (counted : List TaskTally) → counted ≡ first_tallies settings table.control →
+    shape counted ≡ shape_of settings → IsTallied settings table steps 0 counted
 tallied_starts settings table steps counted first sizes = record { counts = first; sizes = sizes }
 
 -- one step more of those that are counted after a table, as a kernel makes it
-pub counted_goes : (settings : Settings) (table : Table) (steps : List Step) (place : ℕ) (view next : View) (reply : Reply) (first old new : List TaskTally) → place < length steps → settings ≡ view.settings
-    → StandsFor view (state_after table (take place steps)) → reply ≡ (step_of (get_or steps place Tick) (state_after table (take place steps))).0 → StandsFor next (step_of (get_or steps place Tick) (state_after table (take place steps))).1
+pub counted_goes : (settings : Settings) (table : Table) (steps : List Step) (place : ℕ) (view next : View) (reply : Reply) (first old new : List TaskTally) →
+    place < length steps → settings ≡ view.settings
+    → StandsFor view (state_after table (take place steps)) → reply ≡ (step_of (get_or steps place Tick) (state_after table (take place steps))).0 → StandsFor
+    next (step_of (get_or steps place Tick) (state_after table (take place steps))).1
     → new ≡ tallied list_queues (record { before = view; step = get_or steps place Tick; reply = reply; after = next }) old
     → shape old ≡ shape_of settings → old ≡ tallied_after table (take place steps) first → new ≡ tallied_after table (take (place + 1) steps) first
 counted_goes settings table steps place view next reply first old new early same stands replied later counted sizes so_far =
@@ -42,26 +45,39 @@ counted_goes settings table steps place view next reply first old new early same
     let step = get_or steps place Tick in
     let moment = moment_of before step in
     let shown : seen_moment moment ≡ record { before = view; step = step; reply = reply; after = next } = cc (stands.shows, sym replied, later.shows) in
-    let few : length old ≤ before.settings.tasks = omega (arith, shape_length old settings sizes, ap (λ (s : Settings). s.tasks) same, ap (λ (v : View). v.settings.tasks) stands.shows) in
-    counted ∙ ap (λ m. tallied list_queues m old) (sym shown) ∙ sym (tallied_seen moment old stands.sound.consistent few) ∙ ap (tallied stamp_queues moment) so_far
+    let few : length old ≤ before.settings.tasks = omega (
+      arith,
+      shape_length old settings sizes,
+      ap (λ (s : Settings). s.tasks) same,
+      ap
+          (λ (v : View). v.settings.tasks) stands.shows,
+    ) in
+    counted ∙ ap (λ m. tallied list_queues m old) (sym shown) ∙ sym (tallied_seen moment old stands.sound.consistent few) ∙ ap (tallied stamp_queues moment)
+    so_far
     ∙ sym (tallied_push table (take place steps) step first) ∙ ap (λ (ss : List Step). tallied_after table ss first) (sym (take_more steps place Tick early))
 
-pub tallied_goes : (settings : Settings) (table : Table) (steps : List Step) (place : ℕ) (view next : View) (reply : Reply) (old new : List TaskTally) → place < length steps → settings ≡ view.settings
-    → StandsFor view (state_after table (take place steps)) → reply ≡ (step_of (get_or steps place Tick) (state_after table (take place steps))).0 → StandsFor next (step_of (get_or steps place Tick) (state_after table (take place steps))).1
+pub tallied_goes : (settings : Settings) (table : Table) (steps : List Step) (place : ℕ) (view next : View) (reply : Reply) (old new : List TaskTally) → place <
+    length steps → settings ≡ view.settings
+    → StandsFor view (state_after table (take place steps)) → reply ≡ (step_of (get_or steps place Tick) (state_after table (take place steps))).0 → StandsFor
+    next (step_of (get_or steps place Tick) (state_after table (take place steps))).1
     → new ≡ tallied list_queues (record { before = view; step = get_or steps place Tick; reply = reply; after = next }) old
     → IsTallied settings table steps place old → IsTallied settings table steps (place + 1) new
 tallied_goes settings table steps place view next reply old new early same stands replied later counted so_far = record {
-  counts = counted_goes settings table steps place view next reply (first_tallies settings table.control) old new early same stands replied later counted so_far.sizes so_far.counts;
-  sizes = ap shape counted ∙ tallied_shape list_queues (record { before = view; step = get_or steps place Tick; reply = reply; after = next }) old ∙ so_far.sizes;
+  counts = counted_goes settings table steps place view next reply (first_tallies settings table.control) old new early same stands replied later counted
+      so_far.sizes so_far.counts;
+  sizes = ap shape counted ∙ tallied_shape list_queues (record { before = view; step = get_or steps place Tick; reply = reply; after = next }) old ∙
+      so_far.sizes;
 }
 
 -- no count of few steps is near the end of its numbers
-pub tallied_room : (settings : Settings) (table : Table) (steps : List Step) (place : ℕ) (counted : List TaskTally) → place ≤ length steps → length steps ≤ max_steps → IsTallied settings table steps place counted → AllCountsBelow (2 ^ 32 - 1) counted
+pub tallied_room : (settings : Settings) (table : Table) (steps : List Step) (place : ℕ) (counted : List TaskTally) → place ≤ length steps → length steps ≤
+    max_steps → IsTallied settings table steps place counted → AllCountsBelow (2 ^ 32 - 1) counted
 tallied_room settings table steps place counted within few so_far =
     let bound : suc (length (take place steps)) ≤ 2 ^ 32 - 1 = omega (arith, length-take-le place steps within, within, few) in
     wider_room counted bound (subst (AllCountsBelow (suc (length (take place steps)))) (sym so_far.counts) (part_few settings table (take place steps)))
 
-pub tallied_ends : (settings : Settings) (table : Table) (steps : List Step) (place : ℕ) (counted : List TaskTally) → length steps ≤ place → IsTallied settings table steps place counted → counted ≡ part_tallies settings table steps
+pub tallied_ends : (settings : Settings) (table : Table) (steps : List Step) (place : ℕ) (counted : List TaskTally) → length steps ≤ place → IsTallied settings
+    table steps place counted → counted ≡ part_tallies settings table steps
 tallied_ends settings table steps place counted all so_far = so_far.counts ∙ ap (part_tallies settings table) (take_all place steps all)
 
 -- the first tallies of a kernel are those of a table that it stands for

@@ -7,7 +7,7 @@ use Rattle.bench_model.specs.Equal.{Same}
 use Rattle.bench_model.specs.Lists.{View, view_of}
 use Rattle.bench_model.specs.Shifted.{SameShifted, is_met, some_delays_until}
 use Rattle.bench_model.specs.Table.{Table}
-use Rattle.shift_laws.proofs.ShiftTests.{met_told}
+use Rattle.shift_laws.proofs.ShiftTests.{met_decided}
 use Rattle.shift_laws.proofs.Steps.{tick_below, same_from_shifted, not_shifted}
 use Rattle.shift_laws.specs.Shifts.{IsShifted}
 
@@ -27,15 +27,17 @@ unmet_apart a b steps apart = at (is_met a b steps) refl
   where
     at : (x : Bool) → is_met a b steps ≡ x → x ≡ false
     at false is = refl
-    at true is = ⊎_elim (λ same. absurd (apart (same_from_shifted 0 a b (not_shifted a b same)))) (λ both. absurd (apart both.0)) ((met_told a b steps).0 is)
+    at true is = ⊎_elim (λ same. absurd (apart (same_from_shifted 0 a b (not_shifted a b same)))) (λ both. absurd (apart both.0)) ((met_decided a b steps).0 is)
 
 -- the tick counts differ, and a step reads them
-pub unmet_read : (by : ℕ) (a b : Table) (steps : List Step) → by < 2 ^ 32 → (by ≡ 0 → ⊥) → IsShifted by a b → some_delays_until steps ≡ true → is_met a b steps ≡ false
+pub unmet_read : (by : ℕ) (a b : Table) (steps : List Step) → by < 2 ^ 32 → (by ≡ 0 → ⊥) → IsShifted by a b → some_delays_until steps ≡ true → is_met a b steps
+    ≡ false
 unmet_read by a b steps word some later reads = at (is_met a b steps) refl
   where
     at : (x : Bool) → is_met a b steps ≡ x → x ≡ false
     at false is = refl
-    at true is = ⊎_elim (λ same. absurd (not_same by a b word some later same)) (λ both. absurd (true≢false (sym reads ∙ both.1))) ((met_told a b steps).0 is)
+    at true is = ⊎_elim (λ same. absurd (not_same by a b word some later same)) (λ both. absurd (true≢false (sym reads ∙ both.1)))
+        ((met_decided a b steps).0 is)
 
 -- the item that an index reads is the one that is there
 pub read_there : {X : Type 0} (xs : List X) (index : ℕ) (x read : X) → slice_get xs index ≡ Some x → read ≡ slice_index_or xs index read → x ≡ read

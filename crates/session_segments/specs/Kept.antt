@@ -8,7 +8,7 @@ use Rattle.segment_laws.specs.Segments.{SegmentView, all_steps, lengths, starts}
 use Rattle.smp_kernel.specs.Kernel.{StandsForSome}
 
 -- a kernel, and steps that it can make
-pub record IsBegun (kernel : View) (steps : List Step) : Type 0 where
+pub record MayBeReplayed (kernel : View) (steps : List Step) : Type 0 where
   pub stands : StandsForSome kernel
   pub few_cores : kernel.settings.cores ≤ max_cores
   pub checked : All (IsCheckedStep kernel.settings) steps

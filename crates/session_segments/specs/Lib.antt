@@ -1,4 +1,4 @@
-pub mod Again
+pub mod Replaying
 pub mod Counting
 pub mod Kept
 pub mod Meetings

@@ -3,14 +3,14 @@
 #![tactic(auto)]
 
 mod checkpoint;
+mod kept_results;
 mod meeting;
 mod replay;
 mod segment;
 mod segments;
-mod tracing;
 
+pub use kept_results::{KeptResults, NoResults, Results};
 pub use meeting::met_by;
 pub use replay::{advance, tally_steps};
 pub use segment::Segment;
 pub use segments::Segments;
-pub use tracing::{Traced, Tracing, Untraced};

@@ -7,12 +7,12 @@ ghost use Rattle.meeting_laws.specs.RunLaws.{MeetBy};
 ghost use Rattle.segment_laws.specs.Segments.{SegmentView, all_steps};
 ghost use Rattle.session_segments.specs.Meetings.{IsMeetingAt, IsUnreadFrom};
 
+use crate::kept_results::KeptResults;
 use crate::segment::Segment;
-use crate::tracing::Tracing;
 use smp_kernel::Kernel;
 
 // The least index from which on no segment has a delay until a tick count.
-fn unread_from<K: Tracing>(segments: &[Segment<K>]) -> usize
+fn unread_from<K: KeptResults>(segments: &[Segment<K>]) -> usize
     ensures { IsUnreadFrom segments.now result }
 {
     let mut from = segments.len();
@@ -24,7 +24,11 @@ fn unread_from<K: Tracing>(segments: &[Segment<K>]) -> usize
 
 // Whether no segment from the index on has a delay until a tick count. The first call looks at the
 // segments, later ones at what it found.
-fn is_unread<K: Tracing>(known: &mut Option<usize>, segments: &[Segment<K>], index: usize) -> bool
+fn is_unread<K: KeptResults>(
+    known: &mut Option<usize>,
+    segments: &[Segment<K>],
+    index: usize,
+) -> bool
     requires known { IfSome known.old (IsUnreadFrom segments.now) }
     ensures known { IfSome known.new (IsUnreadFrom segments.now) }
     ensures unread { result ≡ not (some_delays_until (all_steps (drop index segments.now))) }
@@ -43,7 +47,7 @@ fn is_unread<K: Tracing>(known: &mut Option<usize>, segments: &[Segment<K>], ind
 ///
 /// `known` is `None` at the first call. It keeps what was found of the segments' steps for further
 /// calls with the same segments, whatever their kernels.
-pub fn met_by<K: Tracing>(
+pub fn met_by<K: KeptResults>(
     known: &mut Option<usize>,
     segments: &[Segment<K>],
     index: usize,

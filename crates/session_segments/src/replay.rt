@@ -5,7 +5,7 @@ ghost use Rattle.bench_types.specs.Limits.{max_steps};
 ghost use Rattle.bench_types.specs.Step.{step_check, IsCheckedStep};
 ghost use Rattle.bench_model.specs.Control.{running};
 ghost use Rattle.bench_model.specs.Equal.{StandsFor};
-ghost use Rattle.bench_model.specs.Session.{state_after, trace};
+ghost use Rattle.bench_model.specs.Session.{state_after, run_results};
 ghost use Rattle.bench_model.specs.Table.{Table};
 ghost use Rattle.bench_model.specs.Tallied.{first_tallies, part_tallies, shape, shape_of, tallied_after, AllCountsBelow};
 ghost use Rattle.segment_laws.specs.Segments.{currents_after};
@@ -80,7 +80,7 @@ pub(crate) fn push_outcomes(
     requires stands { StandsForSome kernel.old }
     requires steps { All (IsCheckedStep kernel.old.settings) steps.now }
     requires few_steps { length steps.now ≤ max_steps }
-    requires begun { tallies.old ≡ first_tallies kernel.old.settings kernel.old.control }
+    requires replayable { tallies.old ≡ first_tallies kernel.old.settings kernel.old.control }
     requires sizes { shape tallies.old ≡ shape_of kernel.old.settings }
     requires tops { HasTops kernel.old.control tallies.old }
     requires no_replies { replies.old.items ≡ [] }
@@ -88,7 +88,7 @@ pub(crate) fn push_outcomes(
     requires no_currents { currents.old.items ≡ [] }
     requires current_room { length steps.now ≤ vec_capacity currents.old }
     ensures replies { (table : Table) → StandsFor kernel.old table
-        → replies.new.items ≡ map (λ outcome. outcome.0) (trace table steps.now) }
+        → replies.new.items ≡ map (λ outcome. outcome.0) (run_results table steps.now) }
     ensures reply_room { vec_capacity replies.new ≡ vec_capacity replies.old }
     ensures currents { (table : Table) → StandsFor kernel.old table
         → currents.new.items ≡ currents_after table steps.now }

@@ -11,14 +11,14 @@ ghost use Rattle.bench_model.specs.Table.{Table};
 ghost use Rattle.bench_model.specs.Tallied.{first_tallies, part_tallies, shape, shape_of, AllCountsBelow};
 ghost use Rattle.bench_reports.specs.Tops.{HasTops};
 ghost use Rattle.shift_laws.specs.Shifts.{IsShifted};
-ghost use Rattle.segment_laws.specs.Segments.{later_segment, reply_after, running_after, IsTold};
+ghost use Rattle.segment_laws.specs.Segments.{later_segment, reply_after, running_after, AreResults};
 ghost use Rattle.smp_kernel.specs.Kernel.{StandsForSome};
 ghost use Rattle.session_segments.specs.Counting.{meter_after, CountsUpTo};
 ghost use Rattle.session_segments.specs.Kept.{HasRoom};
 
 use crate::checkpoint::Checkpoint;
+use crate::kept_results::{KeptResults, NoResults, Results};
 use crate::replay::{advance, first_row};
-use crate::tracing::{Traced, Tracing, Untraced};
 use bench_reports::Tallies;
 use bench_types::{Call, Reply, Settings, Step};
 use smp_kernel::{Kernel, Meter};
@@ -26,9 +26,9 @@ use std::alloc::{AllocError, Global};
 use std::marker::Model;
 
 /// The steps from one checkpoint to the next or to the end, with the kernel at the first and, if it
-/// is [`Traced`], what the steps led to.
+/// is [`Results`], what the steps led to.
 #[derive(Debug)]
-pub struct Segment<K: Tracing = Traced> {
+pub struct Segment<K: KeptResults = Results> {
     kernel: Checkpoint,
     steps: Vec<Step>,
     /// Whether one of the steps delays until a tick count.
@@ -38,7 +38,7 @@ pub struct Segment<K: Tracing = Traced> {
 }
 
 // Written out, so that whoever drops one has one call to prove, and not one for each list in it.
-impl<K: Tracing> Drop for Segment<K> {
+impl<K: KeptResults> Drop for Segment<K> {
     fn drop(self) {
         let Segment {
             kernel: _,
@@ -49,18 +49,18 @@ impl<K: Tracing> Drop for Segment<K> {
     }
 }
 
-impl<K: Tracing> Model for Segment<K> {
+impl<K: KeptResults> Model for Segment<K> {
     ghost use Rattle.std.specs.Prelude.{◌≡◌};
     ghost use Rattle.bench_model.specs.Shifted.{some_delays_until};
     ghost use Rattle.segment_laws.specs.Segments.{SegmentView};
 
     ghost Value = { SegmentView };
 
-    ghost use Rattle.session_segments.specs.Kept.{IsBegun};
+    ghost use Rattle.session_segments.specs.Kept.{MayBeReplayed};
 
     ghost view = { λ segment. record { kernel = segment.kernel; steps = segment.steps.items } };
 
-    ghost invariant = { λ segment. IsBegun segment.kernel segment.steps.items
+    ghost invariant = { λ segment. MayBeReplayed segment.kernel segment.steps.items
         × (segment.delays_until ≡ some_delays_until segment.steps.items)
         × K.fits segment.kernel segment.steps.items segment.kept };
 }
@@ -90,7 +90,7 @@ fn reply_at(replies: &[Reply], index: u32) -> Option<Reply>
     replies.get(index as usize).copied()
 }
 
-impl<K: Tracing> Segment<K> {
+impl<K: KeptResults> Segment<K> {
     /// Replays the steps on the kernel, and keeps them with a copy of the kernel as it was before.
     pub fn replay(
         alloc: Global,
@@ -124,7 +124,7 @@ impl<K: Tracing> Segment<K> {
 
     /// Makes the steps on the kernel instead of the one before the first of them, in place of what
     /// they led to from that one. No memory is taken.
-    pub fn replay_again(&mut self, kernel: &mut Kernel, meter: &mut Meter)
+    pub fn replay_in_place(&mut self, kernel: &mut Kernel, meter: &mut Meter)
         requires stands { StandsForSome kernel.old }
         requires settings { kernel.old.settings ≡ self.old.kernel.settings }
         ensures segment { self.new ≡ record self.old { kernel = kernel.old } }
@@ -134,7 +134,7 @@ impl<K: Tracing> Segment<K> {
         ensures meter { meter.new ≡ meter_after (length self.old.steps) meter.old }
     {
         self.kernel.replace(kernel);
-        self.kept.again(kernel, &self.steps, meter);
+        self.kept.redo(kernel, &self.steps, meter);
     }
 
     /// A kernel as this segment's is before the first step.
@@ -309,10 +309,10 @@ impl Segment {
     }
 }
 
-impl Segment<Untraced> {
+impl Segment<NoResults> {
     /// The same segment with what its steps lead to. They are made once more, on a copy of its
     /// kernel, which the meter counts.
-    pub fn traced(self, alloc: Global, meter: &mut Meter) -> Result<Segment, AllocError>
+    pub fn with_results(self, alloc: Global, meter: &mut Meter) -> Result<Segment, AllocError>
         ensures segment { IfOk result (λ segment. segment ≡ self) }
         ensures meter { OnOk result (meter.new ≡ meter_after (length self.steps) meter.old) }
         ensures some { OnErr result (CountsUpTo (length self.steps) meter.old meter.new) }
@@ -323,7 +323,7 @@ impl Segment<Untraced> {
             delays_until,
             kept: _,
         } = self;
-        let kept = told(alloc, &kernel, steps.as_slice(), delays_until, meter)?;
+        let kept = shown(alloc, &kernel, steps.as_slice(), delays_until, meter)?;
         Ok(Segment {
             kernel,
             steps,
@@ -349,24 +349,24 @@ fn kernel_for(alloc: Global, kernel: &Checkpoint, delays_until: bool) -> Result<
 }
 
 // What the steps lead to on a copy of the kernel. A copy is dear to drop, so one call follows.
-fn told(
+fn shown(
     alloc: Global,
     kernel: &Checkpoint,
     steps: &[Step],
     delays_until: bool,
     meter: &mut Meter,
-) -> Result<Traced, AllocError>
+) -> Result<Results, AllocError>
     requires delaying { delays_until ≡ some_delays_until steps.now }
     requires stands { StandsForSome kernel.now }
     requires few { kernel.now.settings.cores ≤ max_cores }
     requires steps { All (IsCheckedStep kernel.now.settings) steps.now }
     requires few_steps { length steps.now ≤ max_steps }
-    ensures kept { IfOk result (λ kept. IsTold kernel.now steps.now kept.replies.items
+    ensures kept { IfOk result (λ kept. AreResults kernel.now steps.now kept.replies.items
         kept.currents.items kept.tallies
         × HasRoom steps.now (vec_capacity kept.replies) (vec_capacity kept.currents)) }
     ensures meter { OnOk result (meter.new ≡ meter_after (length steps.now) meter.old) }
     ensures some { OnErr result (CountsUpTo (length steps.now) meter.old meter.new) }
 {
     let mut next = kernel_for(alloc, kernel, delays_until)?;
-    Traced::of(alloc, &mut next, steps, meter)
+    Results::of(alloc, &mut next, steps, meter)
 }

@@ -6,13 +6,13 @@ ghost use Rattle.bench_model.specs.Table.{Table};
 ghost use Rattle.bench_model.specs.Shifted.{some_delays_until};
 ghost use Rattle.segment_laws.specs.Segments.{all_steps, later_segments, lengths, starts, IsIndexOf};
 ghost use Rattle.smp_kernel.specs.Kernel.{StandsForSome};
-ghost use Rattle.session_segments.specs.Again.{AreReplayedFrom, HasSettings};
+ghost use Rattle.session_segments.specs.Replaying.{AreReplayedFrom, HasSettings};
 ghost use Rattle.session_segments.specs.Counting.{meter_after, CountsUpTo};
 ghost use Rattle.session_segments.specs.Meetings.{count_delaying, IsUnreadFrom};
 
+use crate::kept_results::{KeptResults, NoResults, Results};
 use crate::meeting::met_by;
 use crate::segment::Segment;
-use crate::tracing::{Traced, Tracing, Untraced};
 use smp_kernel::{Kernel, Meter};
 use std::alloc::{AllocError, Global};
 use std::marker::Model;
@@ -20,7 +20,7 @@ use std::marker::Model;
 /// Segments one after another, with the place where each begins. There is always a first one, which
 /// begins at the start.
 #[derive(Debug)]
-pub struct Segments<K: Tracing = Traced> {
+pub struct Segments<K: KeptResults = Results> {
     places: Vec<u32>,
     segments: Vec<Segment<K>>,
     /// How many of the segments have a delay until a tick count.
@@ -28,7 +28,7 @@ pub struct Segments<K: Tracing = Traced> {
 }
 
 // Written out, so that whoever drops one has one call to prove, and not one for each list in it.
-impl<K: Tracing> Drop for Segments<K> {
+impl<K: KeptResults> Drop for Segments<K> {
     fn drop(self) {
         let Segments {
             places: _,
@@ -38,7 +38,7 @@ impl<K: Tracing> Drop for Segments<K> {
     }
 }
 
-impl<K: Tracing> Model for Segments<K> {
+impl<K: KeptResults> Model for Segments<K> {
     ghost use Rattle.std.specs.Prelude.{List};
     ghost use Rattle.segment_laws.specs.Segments.{SegmentView};
 
@@ -55,7 +55,7 @@ impl<K: Tracing> Model for Segments<K> {
 }
 
 // The place after the last segment that has one.
-fn end_of<K: Tracing>(places: &[u32], segments: &[Segment<K>]) -> u32
+fn end_of<K: KeptResults>(places: &[u32], segments: &[Segment<K>]) -> u32
     requires places { places.now ≡ starts 0 (lengths (take (length places.now) segments.now)) }
     requires within { length places.now ≤ length segments.now }
     requires few { length (all_steps segments.now) < 2 ^ 32 }
@@ -68,7 +68,7 @@ fn end_of<K: Tracing>(places: &[u32], segments: &[Segment<K>]) -> u32
 }
 
 // Makes the places of the segments from the index on anew. There is room for them.
-fn place_from<K: Tracing>(places: &mut Vec<u32>, from: usize, segments: &[Segment<K>])
+fn place_from<K: KeptResults>(places: &mut Vec<u32>, from: usize, segments: &[Segment<K>])
     requires placed { take from places.old.items ≡ starts 0 (lengths (take from segments.now)) }
     requires within { from ≤ length segments.now }
     requires room { length segments.now ≤ vec_capacity places.old }
@@ -84,7 +84,7 @@ fn place_from<K: Tracing>(places: &mut Vec<u32>, from: usize, segments: &[Segmen
 }
 
 // How many of the segments have a delay until a tick count.
-fn count_delaying<K: Tracing>(segments: &[Segment<K>]) -> usize
+fn count_delaying<K: KeptResults>(segments: &[Segment<K>]) -> usize
     ensures { result ≡ count_delaying segments.now }
 {
     segments
@@ -94,7 +94,7 @@ fn count_delaying<K: Tracing>(segments: &[Segment<K>]) -> usize
 }
 
 // The made segments take the place of those from the first index up to the second.
-fn exchange<K: Tracing>(
+fn exchange<K: KeptResults>(
     segments: &mut Vec<Segment<K>>,
     from: usize,
     to: usize,
@@ -110,7 +110,7 @@ fn exchange<K: Tracing>(
     Ok(())
 }
 
-impl<K: Tracing> Segments<K> {
+impl<K: KeptResults> Segments<K> {
     /// The segments, the first of which begins at the start.
     pub fn new(alloc: Global, segments: Vec<Segment<K>>) -> Result<Segments<K>, AllocError>
         requires some { 0 < length segments.items }
@@ -157,7 +157,7 @@ impl<K: Tracing> Segments<K> {
         ensures index { IsIndexOf (starts 0 (lengths self.now)) place result.0 result.1 }
         ensures within { result.0 < length self.now }
     {
-        let index = last_begun(self.places.as_slice(), place);
+        let index = last_replayable(self.places.as_slice(), place);
         (index, self.places[index])
     }
 
@@ -212,7 +212,7 @@ impl<K: Tracing> Segments<K> {
 }
 
 // The segments from the index on become so many ticks later.
-fn shift_from<K: Tracing>(segments: &mut [Segment<K>], from: usize, by: u32)
+fn shift_from<K: KeptResults>(segments: &mut [Segment<K>], from: usize, by: u32)
     requires within { from ≤ length segments.old }
     requires unread { (by ≡ 0)
         ⊎ (some_delays_until (all_steps (drop from segments.old)) ≡ false) }
@@ -228,7 +228,7 @@ fn shift_from<K: Tracing>(segments: &mut [Segment<K>], from: usize, by: u32)
 
 // Replays the segments from the index on. What is known of their steps is the least index from
 // which on none has a delay until a tick count.
-fn replay_each<K: Tracing>(
+fn replay_each<K: KeptResults>(
     kernel: &mut Kernel,
     segments: &mut [Segment<K>],
     first: usize,
@@ -251,7 +251,7 @@ fn replay_each<K: Tracing>(
             shift_from(segments, index, by);
             return index;
         }
-        segments[index].replay_again(kernel, meter);
+        segments[index].replay_in_place(kernel, meter);
     }
     segments.len()
 }
@@ -259,10 +259,10 @@ fn replay_each<K: Tracing>(
 // The segments, each with what its steps lead to.
 fn all_traced(
     alloc: Global,
-    segments: Vec<Segment<Untraced>>,
+    segments: Vec<Segment<NoResults>>,
     meter: &mut Meter,
 ) -> Result<Vec<Segment>, AllocError>
-    ensures segments { IfOk result (λ traced. traced.items ≡ segments.items) }
+    ensures segments { IfOk result (λ with_results. with_results.items ≡ segments.items) }
     ensures meter { OnOk result
         (meter.new ≡ meter_after (length (all_steps segments.items)) meter.old) }
     ensures some { OnErr result
@@ -270,17 +270,17 @@ fn all_traced(
 {
     let mut made = Vec::with_capacity(alloc, segments.len())?;
     for segment in segments {
-        let one = segment.traced(alloc, meter)?;
+        let one = segment.with_results(alloc, meter)?;
         made.push(one)?;
     }
     Ok(made)
 }
 
-impl Segments<Untraced> {
+impl Segments<NoResults> {
     /// The same segments with what their steps lead to, which are made once more. The meter counts
     /// them.
-    pub fn traced(self, alloc: Global, meter: &mut Meter) -> Result<Segments, AllocError>
-        ensures segments { IfOk result (λ traced. traced ≡ self) }
+    pub fn with_results(self, alloc: Global, meter: &mut Meter) -> Result<Segments, AllocError>
+        ensures segments { IfOk result (λ with_results. with_results ≡ self) }
         ensures meter { OnOk result (meter.new ≡ meter_after (length (all_steps self)) meter.old) }
         ensures some { OnErr result (CountsUpTo (length (all_steps self)) meter.old meter.new) }
     {
@@ -299,7 +299,7 @@ impl Segments<Untraced> {
 }
 
 // The index of the last of the ascending places that is not after the place.
-fn last_begun(places: &[u32], place: u32) -> usize
+fn last_replayable(places: &[u32], place: u32) -> usize
     requires { slice_get places.now 0 ≡ Some 0 }
     ensures index { IsIndexOf places.now place result (slice_index_or places.now result 0) }
     ensures within { result < length places.now }

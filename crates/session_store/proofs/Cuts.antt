@@ -12,7 +12,8 @@ use Rattle.session_segments.proofs.Counts.{counted_twice}
 -- ---- steps that were counted
 
 -- some of the steps come after others
-pub some_later : (first second most old middle new : ℕ) → first + second ≤ most → middle ≡ meter_after first old → CountsUpTo second middle new → CountsUpTo most old new
+pub some_later : (first second most old middle new : ℕ) → first + second ≤ most → middle ≡ meter_after first old → CountsUpTo second middle new → CountsUpTo
+    most old new
 some_later first second most old middle new within before some =
     (first + some.0, omega (arith, some.1), some.2 ∙ ap (meter_after some.0) before ∙ counted_twice first some.0 old)
 
@@ -27,14 +28,16 @@ on_err (Err why) given = given
 pub rest_is : {X : Type 0} (from : ℕ) (xs : List X) → take (length xs - from) (drop from xs) ≡ drop from xs
 rest_is from xs = take_all (length xs - from) (drop from xs) (omega (arith, length-drop from xs))
 
-pub state_of_parts : (table : Table) (span : ℕ) (steps : List Step) → state_after (state_after table (take span steps)) (drop span steps) ≡ state_after table steps
+pub state_of_parts : (table : Table) (span : ℕ) (steps : List Step) → state_after (state_after table (take span steps)) (drop span steps) ≡ state_after table
+    steps
 state_of_parts table span steps = sym (state_append table (take span steps) (drop span steps)) ∙ ap (state_after table) (take-append-drop span steps)
 
 pub length_of_parts : (span : ℕ) (steps : List Step) → length (take span steps) + length (drop span steps) ≡ length steps
 length_of_parts span steps = omega (arith, length-append (take span steps) (drop span steps), ap length (take-append-drop span steps))
 
 -- the same of a slice of the steps from one on
-pub state_of_slices : (table : Table) (span : ℕ) (steps : List Step) → state_after (state_after table (take span steps)) (take (length steps - span) (drop span steps)) ≡ state_after table steps
+pub state_of_slices : (table : Table) (span : ℕ) (steps : List Step) → state_after (state_after table (take span steps))
+    (take (length steps - span) (drop span steps)) ≡ state_after table steps
 state_of_slices table span steps = ap (state_after (state_after table (take span steps))) (rest_is span steps) ∙ state_of_parts table span steps
 
 pub length_of_slices : (span : ℕ) (steps : List Step) → length (take span steps) + length (take (length steps - span) (drop span steps)) ≡ length steps

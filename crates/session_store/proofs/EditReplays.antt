@@ -30,23 +30,23 @@ use Rattle.segment_laws.specs.SegmentLaws.{IsEdited}
 use Rattle.segment_laws.specs.Segments.{SegmentView, steps_of, all_steps, later_segments, AreSegments}
 use Rattle.segment_laws.proofs.EditedSegments.{edited_segments_stand, unmet_are_replayed}
 use Rattle.segment_laws.proofs.EditedPlaces.{begins_there}
-use Rattle.segment_laws.proofs.EditedSteps.{made_steps, parted_steps}
-use Rattle.segment_laws.proofs.Following.{All_front, all_more, all_parted}
+use Rattle.segment_laws.proofs.EditedSteps.{made_steps, split_steps}
+use Rattle.segment_laws.proofs.Following.{All_front, all_more, segments_split}
 use Rattle.step_laws.proofs.Along.{start_settings}
 use Rattle.segment_laws.proofs.Reading.{state_front, front_settings, back_checked}
 use Rattle.segment_laws.proofs.LaterSegments.{later_steps}
 use Rattle.segment_laws.proofs.Shifts.{shifts}
-use Rattle.session_segments.specs.Again.{AreReplayedFrom, HasSettings, IsReplayOf}
+use Rattle.session_segments.specs.Replaying.{AreReplayedFrom, HasSettings, IsReplayOf}
 use Rattle.session_segments.specs.Counting.{meter_after, CountsUpTo}
 use Rattle.session_segments.proofs.Counts.{counted_twice}
 use Rattle.smp_kernel.specs.Kernel.{StandsForSome}
 use Rattle.session_store.specs.Kept.{kept_of, session_of, IsKept}
 use Rattle.session_store.specs.Outcomes.{outcome_of}
-use Rattle.session_store.specs.Replays.{AreMade, AreRemade, IsParting, IsEditReplay}
+use Rattle.session_store.specs.Replays.{AreMade, AreRemade, IsEditedSegment, IsEditReplay}
 use Rattle.session_store.specs.Trials.{tallies_after, AreTalliedAfter, IsMeeting, StayLater}
-use Rattle.session_store.proofs.EditTold.{kept_parts}
+use Rattle.session_store.proofs.EditShown.{kept_parts}
 use Rattle.session_store.proofs.GoingOn.{cut_some, goes_on, made_are_steps, none_left}
-use Rattle.session_store.proofs.Parted.{follow_settings}
+use Rattle.session_store.proofs.SegmentsOfEdits.{follow_settings}
 use Rattle.session_store.proofs.Retraces.{made_from, meeting_replayed}
 use Rattle.session_store.proofs.StoreTallies.{replay_of}
 
@@ -54,7 +54,8 @@ use Rattle.session_store.proofs.StoreTallies.{replay_of}
 pub few_cores : (session : Session) → IsSession session → (settings_of session.header).cores ≤ max_cores
 few_cores session is = (header_facts session.header (passes_whole session.header is.header.passes)).few_cores
 
-module _ (header : Header) (span : ℕ) (segments : List SegmentView) (edit : Edit) (kept : IsKept header span segments) (words : IsEditOfWords edit) (accepts : accepted (session_of header segments) edit ≡ Ok tt) where
+module _ {header : Header} {span : ℕ} {segments : List SegmentView} (edit : Edit) (kept : IsKept header span segments) (words : IsEditOfWords edit)
+    (accepts : accepted (session_of header segments) edit ≡ Ok tt) where
   abbrev next : Session
   next = edited edit (session_of header segments)
 
@@ -73,7 +74,8 @@ module _ (header : Header) (span : ℕ) (segments : List SegmentView) (edit : Ed
   next_few : length next.steps ≤ max_steps
   next_few = edited_room (session_of header segments) edit kept.few_steps accepts
 
-  module _ (kernel : View) (steps : List Step) (before after : ℕ) (parting : IsParting (session_of header segments) edit segments kernel steps before after) where
+  module _ {kernel : View} {steps : List Step} {before after : ℕ}
+      (edited_segment : IsEditedSegment (session_of header segments) edit segments kernel steps before after) where
     abbrev front : List SegmentView
     front = take before segments
 
@@ -85,7 +87,7 @@ module _ (header : Header) (span : ℕ) (segments : List SegmentView) (edit : Ed
     begin = state_at next.header next.steps (length (all_steps front))
 
     whole : next.steps ≡ all_steps front ++ (steps ++ all_steps rest)
-    whole = parted_steps (kept_of header span segments) edit segments front steps rest accepts are parting.parted
+    whole = split_steps (kept_of header span segments) edit segments front steps rest accepts are edited_segment.split
 
     pub begin_is : begin ≡ state_after (start next.header) (all_steps front)
     begin_is = state_front next.header next.steps (all_steps front) (steps ++ all_steps rest) whole
@@ -94,10 +96,10 @@ module _ (header : Header) (span : ℕ) (segments : List SegmentView) (edit : Ed
     begin_next = ap (λ (table : Table). table.settings) begin_is ∙ front_settings next (all_steps front) (steps ++ all_steps rest) next_is whole
 
     pub kernel_next : kernel.settings ≡ settings_of next.header
-    kernel_next = sym (ap (λ (view : View). view.settings) parting.stands.shows) ∙ begin_next
+    kernel_next = sym (ap (λ (view : View). view.settings) edited_segment.stands.shows) ∙ begin_next
 
     pub kernel_some : StandsForSome kernel
-    kernel_some = (begin, parting.stands)
+    kernel_some = (begin, edited_segment.stands)
 
     pub kernel_few : kernel.settings.cores ≤ max_cores
     kernel_few = subst (λ (settings : Settings). settings.cores ≤ max_cores) (sym kernel_next) (few_cores next next_is)
@@ -105,7 +107,8 @@ module _ (header : Header) (span : ℕ) (segments : List SegmentView) (edit : Ed
     pub part_checked : All (IsCheckedStep kernel.settings) steps
     part_checked =
         subst (λ settings. All (IsCheckedStep settings) steps) (sym kernel_next)
-        (All_front (IsCheckedStep (settings_of next.header)) steps (all_steps rest) (back_checked next (all_steps front) (steps ++ all_steps rest) next_is whole))
+        (All_front (IsCheckedStep (settings_of next.header)) steps (all_steps rest)
+        (back_checked next (all_steps front) (steps ++ all_steps rest) next_is whole))
 
     lengths_whole : length next.steps ≡ length (all_steps front) + (length steps + length (all_steps rest))
     lengths_whole =
@@ -120,29 +123,33 @@ module _ (header : Header) (span : ℕ) (segments : List SegmentView) (edit : Ed
 
     pub rest_settings : All (HasSettings kernel.settings) rest
     rest_settings =
-        subst (λ settings. All (HasSettings settings) rest) (sym parting.settings)
-        (All-drop (HasSettings (settings_of header)) after segments (follow_settings (settings_of header) (start header) segments (start_settings header) kept.session.steps kept.follow))
+        subst (λ settings. All (HasSettings settings) rest) (sym edited_segment.settings)
+        (All-drop (HasSettings (settings_of header)) after segments (follow_settings (settings_of header) (start header) segments (start_settings header)
+        kept.session.steps kept.follow))
 
     front_is : length (all_steps front) ≡ replayed_from (kept_of header span segments) edit
     front_is =
-        let shift = shifts (kept_of header span segments) segments front steps rest kept.checkpoints are edit accepts parting.parted in
+        let shift = shifts (kept_of header span segments) segments front steps rest kept.checkpoints are edit accepts edited_segment.split in
         begins_there (kept_of header span segments) edit segments front steps rest shift.0 some_span accepts kept.checkpoints are shift.1
 
     -- so many of the segments after it
     front_rest : (count : ℕ) → length (all_steps rest) ≡ length (all_steps (take count rest)) + length (all_steps (drop count rest))
-    front_rest count = ap length (all_parted count rest) ∙ length-append (all_steps (take count rest)) (all_steps (drop count rest))
+    front_rest count = ap length (segments_split count rest) ∙ length-append (all_steps (take count rest)) (all_steps (drop count rest))
 
     -- no more steps are edited than are replayed
     part_within : length steps ≤ replayed (kept_of header span segments) edit
     part_within =
-        let within = unmet_are_replayed (kept_of header span segments) edit segments front steps rest 0 accepts some_span kept.checkpoints are parting.parted (λ i segment old below. absurd (omega arith)) in
+        let within = unmet_are_replayed (kept_of header span segments) edit segments front steps rest 0 accepts some_span kept.checkpoints are
+        edited_segment.split (λ i segment old below. absurd (omega arith)) in
         omega (arith, within, front_is)
 
     -- where the edited steps were replayed, all or some
-    pub gives_up : (given : List Step) (old new : ℕ) → given ≡ steps → CountsUpTo (length given) old new → CountsUpTo (replayed (kept_of header span segments) edit) old new
+    pub gives_up : (given : List Step) (old new : ℕ) → given ≡ steps → CountsUpTo (length given) old new → CountsUpTo
+        (replayed (kept_of header span segments) edit) old new
     gives_up given old new same some = (some.0, omega (arith, some.1, part_within, ap length same), some.2)
 
-    pub gave_up : (given : List Step) (old new : ℕ) → given ≡ steps → new ≡ meter_after (length given) old → CountsUpTo (replayed (kept_of header span segments) edit) old new
+    pub gave_up : (given : List Step) (old new : ℕ) → given ≡ steps → new ≡ meter_after (length given) old → CountsUpTo
+        (replayed (kept_of header span segments) edit) old new
     gave_up given old new same counts = (length given, omega (arith, part_within, ap length same), counts)
 
     module _ (made : List SegmentView) (count by : ℕ) (runs : AreReplayed span begin steps rest made count by) where
@@ -154,7 +161,8 @@ module _ (header : Header) (span : ℕ) (segments : List SegmentView) (edit : Ed
       made_few = omega (arith, made_length, lengths_whole, next_few, front_rest count)
 
       edited_is : IsEdited (kept_of header span segments) edit front made (later_segments by (drop count rest))
-      edited_is = edited_segments_stand (kept_of header span segments) edit segments front steps rest made count by kept.session words accepts some_span kept.checkpoints are parting.parted runs
+      edited_is = edited_segments_stand (kept_of header span segments) edit segments front steps rest made count by kept.session words accepts some_span
+          kept.checkpoints are edited_segment.split runs
 
       pub met_is : length (all_steps front) + length (all_steps made) ≡ met (kept_of header span segments) edit
       met_is = edited_is.met
@@ -167,17 +175,20 @@ module _ (header : Header) (span : ℕ) (segments : List SegmentView) (edit : Ed
 
       pub edit_replay : IsEditReplay (kept_of header span segments) edit segments made before (after + count) by
       edit_replay = record {
-        order = omega (arith, parting.order);
-        within = omega (arith, parting.within, runs.within, length-drop after segments);
-        edited = subst (λ behind. IsEdited (kept_of header span segments) edit front made (later_segments by behind)) (drop-drop count after segments) edited_is;
+        order = omega (arith, edited_segment.order);
+        within = omega (arith, edited_segment.within, runs.within, length-drop after segments);
+        edited = subst (λ behind. IsEdited (kept_of header span segments) edit front made (later_segments by behind)) (drop-drop count after segments)
+            edited_is;
       }
 
-      pub counted : (given : List Step) (later : List SegmentView) (old new : ℕ) → given ≡ steps → later ≡ rest → new ≡ meter_after (length given + length (all_steps (take count later))) old → new ≡ meter_after (replayed (kept_of header span segments) edit) old
+      pub counted : (given : List Step) (later : List SegmentView) (old new : ℕ) → given ≡ steps → later ≡ rest → new ≡ meter_after
+          (length given + length (all_steps (take count later))) old → new ≡ meter_after (replayed (kept_of header span segments) edit) old
       counted given later old new same there count_is =
           count_is ∙ ap₂ (λ (ss : List Step) (after : List SegmentView). meter_after (length ss + length (all_steps (take count after))) old) same there
           ∙ ap (λ n. meter_after n old) (sym made_length ∙ replayed_is)
 
-      pub outcome_is : (from more : ℕ) → from ≡ length (all_steps front) → more ≡ length (all_steps made) → record { from = from; met = from + more; replayed = more } ≡ outcome_of (kept_of header span segments) edit
+      pub outcome_is : (from more : ℕ) → from ≡ length (all_steps front) → more ≡ length (all_steps made) →
+          record { from = from; met = from + more; replayed = more } ≡ outcome_of (kept_of header span segments) edit
       outcome_is from more begins are_made =
           let first = begins ∙ from_is in
           let last : from + more ≡ met (kept_of header span segments) edit = omega (arith, begins, are_made, met_is) in
@@ -191,9 +202,11 @@ module _ (header : Header) (span : ℕ) (segments : List SegmentView) (edit : Ed
         ap (λ n. n == 0) left ∙ none_left rest
 
     -- the edited steps in new segments
-    module _ (given : List Step) (same : given ≡ steps) (is_last : Bool) (last : is_last ≡ has_none rest) (cut_made : List SegmentView) (told : (table : Table) → StandsFor kernel table → AreMade table (cut span is_last given) cut_made) where
+    module _ {given : List Step} (same : given ≡ steps) {is_last : Bool} (last : is_last ≡ has_none rest) {cut_made : List SegmentView}
+        (shown : (table : Table) → StandsFor kernel table → AreMade table (cut span is_last given) cut_made) where
       cut_is : AreMade begin (cut span (has_none rest) steps) cut_made
-      cut_is = subst (λ steps. AreMade begin (cut span (has_none rest) steps) cut_made) same (subst (λ b. AreMade begin (cut span b given) cut_made) last (told begin parting.stands))
+      cut_is = subst (λ steps. AreMade begin (cut span (has_none rest) steps) cut_made) same
+          (subst (λ b. AreMade begin (cut span b given) cut_made) last (shown begin edited_segment.stands))
 
       cut_steps : all_steps cut_made ≡ steps
       cut_steps = made_are_steps span begin steps rest cut_made cut_is
@@ -212,13 +225,14 @@ module _ (header : Header) (span : ℕ) (segments : List SegmentView) (edit : Ed
 
       pub placed_few : length (all_steps placed) < 2 ^ 32
       placed_few =
-          let all = ap length (all_more (front ++ cut_made) rest ∙ ap (λ xs. xs ++ all_steps rest) (all_more front cut_made ∙ ap (λ xs. all_steps front ++ xs) cut_steps)) in
+          let all = ap length (all_more (front ++ cut_made) rest ∙ ap (λ xs. xs ++ all_steps rest)
+          (all_more front cut_made ∙ ap (λ xs. all_steps front ++ xs) cut_steps)) in
           omega (arith, all, length-append (all_steps front ++ steps) (all_steps rest), length-append (all_steps front) steps, lengths_whole, next_few)
 
       -- and those after them in place
-      module _ (parts : List SegmentView) (parts_are : parts ≡ placed) (start : ℕ) (starts_at : start ≡ length parts - (length segments - after)) where
+      module _ {parts : List SegmentView} (parts_are : parts ≡ placed) (start : ℕ) (starts_at : start ≡ length parts - (length segments - after)) where
         start_is : start ≡ length (front ++ cut_made)
-        start_is = omega (arith, starts_at, ap length parts_are, placed_length, length-append front cut_made, length-drop after segments, parting.within)
+        start_is = omega (arith, starts_at, ap length parts_are, placed_length, length-append front cut_made, length-drop after segments, edited_segment.within)
 
         pub start_within : start ≤ length parts
         start_within = omega (arith, starts_at)
@@ -230,11 +244,14 @@ module _ (header : Header) (span : ℕ) (segments : List SegmentView) (edit : Ed
         front_are = ap₂ (λ n xs. take n xs) start_is parts_are ∙ take_at (front ++ cut_made) rest (length (front ++ cut_made)) refl
 
         pub later_settings : (now : View) → now.settings ≡ kernel.settings → All (HasSettings now.settings) (drop start parts)
-        later_settings now settings = subst (λ s. All (HasSettings s) (drop start parts)) (sym settings) (subst (All (HasSettings kernel.settings)) (sym rest_is) rest_settings)
+        later_settings now settings = subst (λ s. All (HasSettings s) (drop start parts)) (sym settings)
+            (subst (All (HasSettings kernel.settings)) (sym rest_is) rest_settings)
 
-        module _ (moved : View) (moves : (table : Table) → StandsFor kernel table → StandsFor moved (state_after table given)) (new : List SegmentView) (end : ℕ) (again : (table : Table) → StandsFor moved table → AreReplayedFrom table start parts new end) where
+        module _ {moved : View} (moves : (table : Table) → StandsFor kernel table → StandsFor moved (state_after table given)) {new : List SegmentView}
+            {end : ℕ} (replay_in_place : (table : Table) → StandsFor moved table → AreReplayedFrom table start parts new end) where
           replay : AreReplayedFrom (state_after begin steps) start parts new end
-          replay = again (state_after begin steps) (subst (λ steps. StandsFor moved (state_after begin steps)) same (moves begin parting.stands))
+          replay = replay_in_place (state_after begin steps) (subst (λ steps. StandsFor moved (state_after begin steps)) same
+              (moves begin edited_segment.stands))
 
           abbrev count : ℕ
           count = end - start
@@ -243,7 +260,8 @@ module _ (header : Header) (span : ℕ) (segments : List SegmentView) (edit : Ed
           remade = cut_made ++ replay.made
 
           remade_runs : AreReplayed span begin steps rest remade count replay.by
-          remade_runs = goes_on begin steps rest span cut_made replay.made count replay.by cut_is (subst (λ xs. IsReplayOf (state_after begin steps) xs replay.made count replay.by) rest_is replay.replay)
+          remade_runs = goes_on begin steps rest span cut_made replay.made count replay.by cut_is
+              (subst (λ xs. IsReplayOf (state_after begin steps) xs replay.made count replay.by) rest_is replay.replay)
 
           -- those where it did not go
           abbrev behind : List SegmentView
@@ -274,16 +292,24 @@ module _ (header : Header) (span : ℕ) (segments : List SegmentView) (edit : Ed
           later_length : length replay.made ≡ count
           later_length =
               let within : count ≤ length (drop start parts) = replay.replay.within in
-              sym (length-map replay.made steps_of) ∙ ap length replay.replay.parts_are ∙ length-map (take count (drop start parts)) steps_of ∙ length-take-le count (drop start parts) within
+              sym (length-map replay.made steps_of) ∙ ap length replay.replay.parts_are ∙ length-map (take count (drop start parts)) steps_of ∙ length-take-le
+              count (drop start parts) within
 
           front_size : length front ≡ before
-          front_size = length-take-le before segments (omega (arith, parting.order, parting.within))
+          front_size = length-take-le before segments (omega (arith, edited_segment.order, edited_segment.within))
 
           -- the segments that were replayed, as a slice
           slice_is : take (end - before) (drop before new) ≡ remade
           slice_is =
               let from : before ≡ length front = sym front_size in
-              let size : end - before ≡ length remade = omega (arith, end_is, front_size, length-append front cut_made, length-append cut_made replay.made, later_length) in
+              let size : end - before ≡ length remade = omega (
+                arith,
+                end_is,
+                front_size,
+                length-append front cut_made,
+                length-append cut_made replay.made,
+                later_length,
+              ) in
               ap (λ xs. take (end - before) (drop before xs)) (whole_new ∙ append_assoc front remade (behind))
               ∙ ap (take (end - before)) (ap (λ n. drop n (front ++ (remade ++ behind))) from ∙ drop_at front (remade ++ behind) (length front) refl)
               ∙ ap (λ n. take n (remade ++ behind)) size ∙ take_at remade (behind) (length remade) refl
@@ -291,54 +317,71 @@ module _ (header : Header) (span : ℕ) (segments : List SegmentView) (edit : Ed
           pub slice_within : (before ≤ end) × (end ≤ length new)
           slice_within = (
             omega (arith, end_is, front_size, length-append front cut_made),
-            omega (arith, end_is, front_size, length-append front cut_made, later_length, ap length whole_new, length-append (front ++ remade) (behind), length-append front remade, length-append cut_made replay.made),
+            omega (
+              arith,
+              end_is,
+              front_size,
+              length-append front cut_made,
+              later_length,
+              ap length whole_new,
+              length-append (front ++ remade) (behind),
+              length-append front remade,
+              length-append cut_made replay.made,
+            ),
           )
 
           pub slice_few : length (all_steps front) + length (all_steps (take (end - before) (drop before new))) ≤ max_steps
           slice_few = omega (arith, made_few remade count replay.by remade_runs, ap (λ (xs : List SegmentView). length (all_steps xs)) slice_is)
 
-          pub remade_counted : (old middle last : ℕ) → middle ≡ meter_after (length given) old → last ≡ meter_after (length (all_steps (take (end - start) (drop start parts)))) middle → last ≡ meter_after (replayed (kept_of header span segments) edit) old
+          pub remade_counted : (old middle last : ℕ) → middle ≡ meter_after (length given) old → last ≡ meter_after
+              (length (all_steps (take (end - start) (drop start parts)))) middle → last ≡ meter_after (replayed (kept_of header span segments) edit) old
           remade_counted old middle last first second =
               counted remade count replay.by remade_runs given (drop start parts) old last same rest_is
-              (second ∙ ap (meter_after (length (all_steps (take count (drop start parts))))) first ∙ counted_twice (length given) (length (all_steps (take count (drop start parts)))) old)
+              (second ∙ ap (meter_after (length (all_steps (take count (drop start parts))))) first ∙ counted_twice (length given)
+              (length (all_steps (take count (drop start parts)))) old)
 
-          pub remade_outcome : (from more : ℕ) → from ≡ length (all_steps front) → more ≡ length (all_steps (take (end - before) (drop before new))) → record { from = from; met = from + more; replayed = more } ≡ outcome_of (kept_of header span segments) edit
-          remade_outcome from more begins are_made = outcome_is remade count replay.by remade_runs from more begins (are_made ∙ ap (λ (xs : List SegmentView). length (all_steps xs)) slice_is)
+          pub remade_outcome : (from more : ℕ) → from ≡ length (all_steps front) → more ≡ length (all_steps (take (end - before) (drop before new))) →
+              record { from = from; met = from + more; replayed = more } ≡ outcome_of (kept_of header span segments) edit
+          remade_outcome from more begins are_made = outcome_is remade count replay.by remade_runs from more begins
+              (are_made ∙ ap (λ (xs : List SegmentView). length (all_steps xs)) slice_is)
 
     -- only the tallies of the replay are kept, by what was lent of the steps and of the segments
-    module _ (given : List Step) (later : List SegmentView) (count : ℕ) (same : given ≡ steps) (there : later ≡ rest) (told : (table : Table) → StandsFor kernel table → IsMeeting table given later count) where
+    module _ {given : List Step} {later : List SegmentView} {count : ℕ} (same : given ≡ steps) (there : later ≡ rest)
+        (shown : (table : Table) → StandsFor kernel table → IsMeeting table given later count) where
       pub meets : IsMeeting begin steps rest count
-      meets = subst (λ segments. IsMeeting begin steps segments count) there (subst (λ steps. IsMeeting begin steps later count) same (told begin parting.stands))
+      meets = subst (λ segments. IsMeeting begin steps segments count) there
+          (subst (λ steps. IsMeeting begin steps later count) same (shown begin edited_segment.stands))
 
       -- segments that it could have made
-      abbrev pub traced : List SegmentView
-      traced = made_from span begin steps rest count
+      abbrev pub with_results : List SegmentView
+      with_results = made_from span begin steps rest count
 
       traced_checked : All (IsCheckedStep begin.settings) (steps ++ all_steps (take count rest))
       traced_checked =
           let own = settings_of next.header in
-          let cut : steps ++ all_steps rest ≡ steps ++ all_steps (take count rest) ++ all_steps (drop count rest) = ap (λ xs. steps ++ xs) (all_parted count rest) ∙ sym (append_assoc steps (all_steps (take count rest)) (all_steps (drop count rest))) in
+          let cut : steps ++ all_steps rest ≡ steps ++ all_steps (take count rest) ++ all_steps (drop count rest) = ap (λ xs. steps ++ xs)
+          (segments_split count rest) ∙ sym (append_assoc steps (all_steps (take count rest)) (all_steps (drop count rest))) in
           let all = subst (All (IsCheckedStep own)) cut (back_checked next (all_steps front) (steps ++ all_steps rest) next_is whole) in
           subst (λ settings. All (IsCheckedStep settings) (steps ++ all_steps (take count rest))) (sym begin_next)
           (All_front (IsCheckedStep own) (steps ++ all_steps (take count rest)) (all_steps (drop count rest)) all)
 
-      pub traced_runs : AreReplayed span begin steps rest traced count meets.by
-      traced_runs = meeting_replayed span begin steps rest count parting.stands.sound traced_checked meets
+      pub traced_runs : AreReplayed span begin steps rest with_results count meets.by
+      traced_runs = meeting_replayed span begin steps rest count edited_segment.stands.sound traced_checked meets
 
       pub traced_within : count ≤ length later
       traced_within = subst (λ (segments : List SegmentView). count ≤ length segments) (sym there) meets.within
 
       -- how many steps it made
-      pub traced_length : length given + length (all_steps (take count later)) ≡ length (all_steps traced)
+      pub traced_length : length given + length (all_steps (take count later)) ≡ length (all_steps with_results)
       traced_length =
           ap₂ (λ (ss : List Step) (after : List SegmentView). length ss + length (all_steps (take count after))) same there
-          ∙ sym (made_length traced count meets.by traced_runs)
+          ∙ sym (made_length with_results count meets.by traced_runs)
 
       pub traced_few : length (all_steps front) + (length given + length (all_steps (take count later))) ≤ max_steps
-      traced_few = omega (arith, traced_length, made_few traced count meets.by traced_runs)
+      traced_few = omega (arith, traced_length, made_few with_results count meets.by traced_runs)
 
-      pub traced_replay : IsEditReplay (kept_of header span segments) edit segments traced before (after + count) meets.by
-      traced_replay = edit_replay traced count meets.by traced_runs
+      pub traced_replay : IsEditReplay (kept_of header span segments) edit segments with_results before (after + count) meets.by
+      traced_replay = edit_replay with_results count meets.by traced_runs
 
       -- those where it did not go
       abbrev traced_behind : List SegmentView
@@ -351,26 +394,29 @@ module _ (header : Header) (span : ℕ) (segments : List SegmentView) (edit : Ed
         are = refl;
       }
 
-      abbrev pub traced_tallies : (replayed : List TaskTally) → ((table : Table) → StandsFor kernel table → replayed ≡ part_tallies kernel.settings table (given ++ all_steps (take count later))) → shape replayed ≡ shape_of kernel.settings → AreTalliedAfter front replayed
+      abbrev pub traced_tallies : (replayed : List TaskTally) → ((table : Table) → StandsFor kernel table → replayed ≡ part_tallies kernel.settings table
+          (given ++ all_steps (take count later))) → shape replayed ≡ shape_of kernel.settings → AreTalliedAfter front replayed
       traced_tallies replayed counts sized = record {
         header = next.header;
-        made = traced;
+        made = with_results;
         later = traced_behind;
-        replay = replay_of next.header span (front ++ traced ++ traced_behind) (kept_parts header span segments edit kept words accepts traced before (after + count) meets.by traced_replay next.header refl);
+        replay = replay_of next.header span (front ++ with_results ++ traced_behind)
+            (kept_parts header span segments edit kept words accepts with_results before (after + count) meets.by traced_replay next.header refl);
         counts =
-            counts begin parting.stands
+            counts begin edited_segment.stands
             ∙ ap₂ (λ (ss : List Step) (after : List SegmentView). part_tallies kernel.settings begin (ss ++ all_steps (take count after))) same there
-            ∙ ap (part_tallies kernel.settings begin) (sym (made_steps span begin steps rest traced count meets.by traced_runs))
-            ∙ ap₂ (λ (settings : Settings) (table : Table). part_tallies settings table (all_steps traced)) kernel_next begin_is;
+            ∙ ap (part_tallies kernel.settings begin) (sym (made_steps span begin steps rest with_results count meets.by traced_runs))
+            ∙ ap₂ (λ (settings : Settings) (table : Table). part_tallies settings table (all_steps with_results)) kernel_next begin_is;
         sizes = sized ∙ ap shape_of kernel_next;
       }
 
       -- no segment has other steps than it had
-      behind_steps : all_steps (front ++ traced ++ drop (after + count) segments) ≡ all_steps (front ++ traced ++ traced_behind)
+      behind_steps : all_steps (front ++ with_results ++ drop (after + count) segments) ≡ all_steps (front ++ with_results ++ traced_behind)
       behind_steps =
-          all_more (front ++ traced) (drop (after + count) segments)
-          ∙ ap (λ xs. all_steps (front ++ traced) ++ xs) (sym (later_steps meets.by (drop (after + count) segments)))
-          ∙ sym (all_more (front ++ traced) traced_behind)
+          all_more (front ++ with_results) (drop (after + count) segments)
+          ∙ ap (λ xs. all_steps (front ++ with_results) ++ xs) (sym (later_steps meets.by (drop (after + count) segments)))
+          ∙ sym (all_more (front ++ with_results) traced_behind)
 
-      pub traced_total : (total : List TaskTally) → total ≡ tallies next.header (all_steps (front ++ traced ++ drop (after + count) segments)) → total ≡ tallies_after edit (session_of header segments)
+      pub traced_total : (total : List TaskTally) → total ≡ tallies next.header (all_steps (front ++ with_results ++ drop (after + count) segments)) → total ≡
+          tallies_after edit (session_of header segments)
       traced_total total is = is ∙ ap (tallies next.header) (behind_steps ∙ traced_replay.edited.segments.steps)

@@ -1,5 +1,6 @@
 -- Sums of the tallies of a replay's last segments.
-use Rattle.std.proofs.Common.{◌≡◌, ◌⊎◌, inl, inr, ⊎_elim, false, ◌||◌, ℕ, zero, suc, ◌+◌, ◌-◌, ◌*◌, ◌≤◌, ◌^◌, List, [], ◌∷◌, ◌++◌, length, take, drop, Some, refl, sym, ap, subst, ◌∙◌, arith}
+use Rattle.std.proofs.Common.{◌≡◌, ◌⊎◌, inl, inr, ⊎_elim, false, ◌||◌, ℕ, zero, suc, ◌+◌, ◌-◌, ◌*◌, ◌≤◌, ◌^◌, List, [], ◌∷◌, ◌++◌, length, take, drop, Some}
+use Rattle.std.proofs.Common.{refl, sym, ap, subst, ◌∙◌, arith}
 use Rattle.std.specs.Prelude.{All, reverse, slice_get}
 use Rattle.std.proofs.lemmas.List.{append_assoc, append-nil, drop_all, drop-drop, length-append, length-drop, reverse-append, take_all, take-append-drop}
 use Rattle.std.proofs.lemmas.Bool.{or_parts}
@@ -25,7 +26,7 @@ use Rattle.meeting_laws.proofs.Meets.{met_run_alike}
 use Rattle.bench_reports.proofs.Additions.{run_lengths, same_length}
 use Rattle.bench_reports.proofs.Rooms.{first_shape, wider_room}
 use Rattle.segment_laws.specs.Segments.{SegmentView, all_steps, later_segments, AreSegments, Follow}
-use Rattle.segment_laws.proofs.Following.{All_front, all_more, all_parted, follow_back, kernel_at, segment_follows, state_append, take_with}
+use Rattle.segment_laws.proofs.Following.{All_front, all_more, segments_split, follow_back, kernel_at, segment_follows, state_append, take_with}
 use Rattle.segment_laws.proofs.LaterSegments.{later_steps}
 use Rattle.segment_laws.proofs.Reading.{back_checked, front_settings, front_sound, segment_kernel_settings}
 use Rattle.session_store.specs.Kept.{kept_of, session_of}
@@ -47,7 +48,8 @@ module _ {X : Type 0} where
   drop_cut : (xs : List X) (from next : ℕ) → from ≤ next → drop from xs ≡ take (next - from) (drop from xs) ++ drop next xs
   drop_cut xs from next order =
       let same : from + (next - from) ≡ next = omega (arith, order) in
-      sym (take-append-drop (next - from) (drop from xs)) ∙ ap (λ ys. take (next - from) (drop from xs) ++ ys) (drop-drop (next - from) from xs ∙ ap (λ n. drop n xs) same)
+      sym (take-append-drop (next - from) (drop from xs)) ∙ ap (λ ys. take (next - from) (drop from xs) ++ ys)
+      (drop-drop (next - from) from xs ∙ ap (λ n. drop n xs) same)
 
   reverse_pushed : (xs : List X) (x : X) → reverse (xs ++ x ∷ []) ≡ x ∷ reverse xs
   reverse_pushed xs x = reverse-append xs (x ∷ [])
@@ -63,13 +65,15 @@ same_tally run a b c d e f = cc
 tally_swaps : (a b : TaskTally) → length a.run ≡ length b.run → added_tally a b ≡ added_tally b a
 unfolding added_tally
 tally_swaps a b same =
-    same_tally (numbers_so (λ core. run_at a core + run_at b core) (λ core. run_at b core + run_at a core) (length a.run) (length b.run) same (λ core below. omega arith))
+    same_tally (numbers_so (λ core. run_at a core + run_at b core) (λ core. run_at b core + run_at a core) (length a.run) (length b.run) same
+    (λ core below. omega arith))
     (omega arith) (omega arith) (omega arith) (omega arith) (omega arith) (omega arith)
 
 added_swaps : (a b : List TaskTally) → shape a ≡ shape b → added a b ≡ added b a
 unfolding added
 added_swaps a b same =
-    numbers_so (λ task. added_tally (tally_at a task) (tally_at b task)) (λ task. added_tally (tally_at b task) (tally_at a task)) (length a) (length b) (same_length a b same)
+    numbers_so (λ task. added_tally (tally_at a task) (tally_at b task)) (λ task. added_tally (tally_at b task) (tally_at a task)) (length a) (length b)
+    (same_length a b same)
     (λ task below. tally_swaps (tally_at a task) (tally_at b task) (run_lengths a b task same (omega (arith, below, same_length a b same))))
 
 -- ---- the shape of a part's tallies
@@ -84,8 +88,10 @@ part_shape settings table steps = after_shape steps table _ ∙ first_shape sett
 
 -- ---- one segment more, before those that were counted
 
-module _ (header : Header) (segments : List SegmentView) (replay : IsReplay header segments) (index : ℕ) (segment : SegmentView) (found : slice_get segments index ≡ Some segment) (part : List TaskTally)
-    (told : (table : Table) → StandsFor segment.kernel table → part ≡ part_tallies segment.kernel.settings table segment.steps) (sized : shape part ≡ shape_of segment.kernel.settings) where
+module _ (header : Header) (segments : List SegmentView) (replay : IsReplay header segments) (index : ℕ) (segment : SegmentView)
+    (found : slice_get segments index ≡ Some segment) (part : List TaskTally)
+    (shown : (table : Table) → StandsFor segment.kernel table → part ≡ part_tallies segment.kernel.settings table segment.steps)
+    (sized : shape part ≡ shape_of segment.kernel.settings) where
   are : AreSegments (kept_of header 0 segments) segments
   are = record { steps = refl; places = refl; follow = replay.follow }
 
@@ -99,7 +105,8 @@ module _ (header : Header) (segments : List SegmentView) (replay : IsReplay head
   settings = segment_kernel_settings (kept_of header 0 segments) segments index segment are found replay.session
 
   part_is : part ≡ part_tallies (settings_of header) cut segment.steps
-  part_is = told cut (segment_follows (start header) segments index segment replay.follow found) ∙ ap (λ (s : Settings). part_tallies s cut segment.steps) settings
+  part_is = shown cut (segment_follows (start header) segments index segment replay.follow found) ∙ ap (λ (s : Settings). part_tallies s cut segment.steps)
+      settings
 
   part_sizes : shape part ≡ shape_of (settings_of header)
   part_sizes = sized ∙ ap shape_of settings
@@ -120,7 +127,8 @@ module _ (header : Header) (segments : List SegmentView) (replay : IsReplay head
     next_cut : state_after (start header) (all_steps (take (suc index) segments)) ≡ state_after cut segment.steps
     next_cut =
         ap (λ (xs : List SegmentView). state_after (start header) (all_steps xs)) (take_with segments index segment found)
-        ∙ ap (state_after (start header)) (all_more (take index segments) (segment ∷ []) ∙ ap (λ xs. all_steps (take index segments) ++ xs) (append-nil segment.steps))
+        ∙ ap (state_after (start header)) (all_more (take index segments) (segment ∷ []) ∙ ap (λ xs. all_steps (take index segments) ++ xs)
+        (append-nil segment.steps))
         ∙ state_append (start header) (all_steps (take index segments)) segment.steps
 
     pub earlier_shapes : shape total ≡ shape part
@@ -129,13 +137,14 @@ module _ (header : Header) (segments : List SegmentView) (replay : IsReplay head
     sum : added total part ≡ part_tallies (settings_of header) cut (all_steps (drop index segments))
     sum =
         added_swaps total part earlier_shapes ∙ ap (λ (a : List TaskTally). added a total) part_is
-        ∙ ap (added (part_tallies (settings_of header) cut segment.steps)) (so_far.counts ∙ ap (λ (table : Table). part_tallies (settings_of header) table rest) next_cut)
+        ∙ ap (added (part_tallies (settings_of header) cut segment.steps))
+        (so_far.counts ∙ ap (λ (table : Table). part_tallies (settings_of header) table rest) next_cut)
         ∙ sym (parts_added (settings_of header) cut segment.steps rest)
         ∙ ap (part_tallies (settings_of header) cut) (sym steps_from)
 
     few : suc (length (all_steps (drop index segments))) ≤ 2 ^ 32
     few =
-        let all = ap (λ (xs : List Step). length xs) (all_parted index segments) in
+        let all = ap (λ (xs : List Step). length xs) (segments_split index segments) in
         omega (arith, replay.few_steps, all, length-append (all_steps (take index segments)) (all_steps (drop index segments)))
 
     pub earlier_fits : AllCountsBelow (2 ^ 32) (added total part)
@@ -143,7 +152,8 @@ module _ (header : Header) (segments : List SegmentView) (replay : IsReplay head
         let steps = all_steps (drop index segments) in
         subst (AllCountsBelow (2 ^ 32)) (sym sum) (wider_room (part_tallies (settings_of header) cut steps) few (part_few (settings_of header) cut steps))
 
-    pub earlier_goes : (next : List TaskTally) → next ≡ added total part → shape next ≡ shape total → AreTalliedFrom header (take index segments) (drop index segments) next
+    pub earlier_goes : (next : List TaskTally) → next ≡ added total part → shape next ≡ shape total → AreTalliedFrom header (take index segments)
+        (drop index segments) next
     earlier_goes next is kept = record {
       counts = is ∙ sum;
       sizes = kept ∙ so_far.sizes;
@@ -154,50 +164,60 @@ module _ (header : Header) (segments : List SegmentView) (replay : IsReplay head
 -- what a list of sums says, the last of which is of this block
 abbrev pub AreFrom : Header → List SegmentView → ℕ → List (List TaskTally) → Type 0
 AreFrom header segments first sums =
-    (k j : ℕ) (sum : List TaskTally) → slice_get (reverse sums) j ≡ Some sum → k ≡ j + first → AreTalliedFrom header (take (k * block) segments) (drop (k * block) segments) sum
+    (k j : ℕ) (sum : List TaskTally) → slice_get (reverse sums) j ≡ Some sum → k ≡ j + first → AreTalliedFrom header (take (k * block) segments)
+    (drop (k * block) segments) sum
 
 -- the sum of the segments so far is pushed at each block's begin
-pub sum_pushed : (header : Header) (segments : List SegmentView) (index first : ℕ) (sums pushed : List (List TaskTally)) (sum : List TaskTally) → pushed ≡ sums ++ sum ∷ [] → index ≡ first * block → AreTalliedFrom header (take index segments) (drop index segments) sum
+pub sum_pushed : (header : Header) (segments : List SegmentView) (index first : ℕ) (sums pushed : List (List TaskTally)) (sum : List TaskTally) → pushed ≡ sums
+    ++ sum ∷ [] → index ≡ first * block → AreTalliedFrom header (take index segments) (drop index segments) sum
     → AreFrom header segments (suc first) sums → AreFrom header segments first pushed
 sum_pushed header segments index first sums pushed sum is here tallied each k zero one found place =
-    let same : sum ≡ one = same_Some sum one (ap (λ (xs : List (List TaskTally)). slice_get xs 0) (sym (ap (λ (xs : List (List TaskTally)). reverse xs) is ∙ reverse_pushed sums sum)) ∙ found) in
+    let same : sum ≡ one = same_Some sum one (ap (λ (xs : List (List TaskTally)). slice_get xs 0)
+    (sym (ap (λ (xs : List (List TaskTally)). reverse xs) is ∙ reverse_pushed sums sum)) ∙ found) in
     let there : index ≡ k * block = omega (arith, here, place) in
-    subst (λ (n : ℕ). AreTalliedFrom header (take n segments) (drop n segments) one) there (subst (AreTalliedFrom header (take index segments) (drop index segments)) same tallied)
+    subst (λ (n : ℕ). AreTalliedFrom header (take n segments) (drop n segments) one) there
+    (subst (AreTalliedFrom header (take index segments) (drop index segments)) same tallied)
 sum_pushed header segments index first sums pushed sum is here tallied each k (suc j) one found place =
-    each k j one (ap (λ (xs : List (List TaskTally)). slice_get xs (suc j)) (sym (ap (λ (xs : List (List TaskTally)). reverse xs) is ∙ reverse_pushed sums sum)) ∙ found) (omega (arith, place))
+    each k j one (ap (λ (xs : List (List TaskTally)). slice_get xs (suc j)) (sym (ap (λ (xs : List (List TaskTally)). reverse xs) is ∙ reverse_pushed sums sum))
+    ∙ found) (omega (arith, place))
 
 -- ---- segments that two replays have in common
 
-module _ (header : Header) (segments : List SegmentView) (replay : IsReplay header segments) (front later rest : List SegmentView) (whole : segments ≡ front ++ later ++ rest) (first : SegmentView) (found : slice_get later 0 ≡ Some first) where
+module _ (header : Header) (segments : List SegmentView) (replay : IsReplay header segments) (front later rest : List SegmentView)
+    (whole : segments ≡ front ++ later ++ rest) (first : SegmentView) (found : slice_get later 0 ≡ Some first) where
   abbrev begin : Table
   begin = state_after (start header) (all_steps front)
 
-  parted : segments ≡ front ++ (later ++ rest)
-  parted = whole ∙ append_assoc front later rest
+  split : segments ≡ front ++ (later ++ rest)
+  split = whole ∙ append_assoc front later rest
 
-  parted_steps : all_steps segments ≡ all_steps front ++ all_steps (later ++ rest)
-  parted_steps = ap all_steps parted ∙ all_more front (later ++ rest)
+  split_steps : all_steps segments ≡ all_steps front ++ all_steps (later ++ rest)
+  split_steps = ap all_steps split ∙ all_more front (later ++ rest)
 
   begin_sound : IsSound begin
-  begin_sound = front_sound (session_of header segments) (all_steps front) (all_steps (later ++ rest)) replay.session parted_steps
+  begin_sound = front_sound (session_of header segments) (all_steps front) (all_steps (later ++ rest)) replay.session split_steps
 
   begin_settings : begin.settings ≡ settings_of header
-  begin_settings = front_settings (session_of header segments) (all_steps front) (all_steps (later ++ rest)) replay.session parted_steps
+  begin_settings = front_settings (session_of header segments) (all_steps front) (all_steps (later ++ rest)) replay.session split_steps
 
   begin_stands : StandsFor first.kernel begin
   begin_stands =
-      kernel_at (later ++ rest) begin first (follow_back front (later ++ rest) (start header) (subst (Follow (start header)) parted replay.follow)) (first_there later rest first found)
+      kernel_at (later ++ rest) begin first (follow_back front (later ++ rest) (start header) (subst (Follow (start header)) split replay.follow))
+      (first_there later rest first found)
 
   begin_checked : All (IsCheckedStep begin.settings) (all_steps later)
   begin_checked =
       subst (λ (s : Settings). All (IsCheckedStep s) (all_steps later)) (sym begin_settings)
       (All_front (IsCheckedStep (settings_of header)) (all_steps later) (all_steps rest)
-      (subst (All (IsCheckedStep (settings_of header))) (all_more later rest) (back_checked (session_of header segments) (all_steps front) (all_steps (later ++ rest)) replay.session parted_steps)))
+      (subst (All (IsCheckedStep (settings_of header))) (all_more later rest)
+      (back_checked (session_of header segments) (all_steps front) (all_steps (later ++ rest)) replay.session split_steps)))
 
 -- a sum of them in one is that in the other, where they are so many ticks later
-module _ (header : Header) (segments : List SegmentView) (replay : IsReplay header segments) (front later rest : List SegmentView) (whole : segments ≡ front ++ later ++ rest)
+module _ (header : Header) (segments : List SegmentView) (replay : IsReplay header segments) (front later rest : List SegmentView)
+    (whole : segments ≡ front ++ later ++ rest)
     (by : ℕ) (unread : (by ≡ 0) ⊎ (some_delays_until (all_steps later) ≡ false))
-    (other : Header) (others : List SegmentView) (replayed : IsReplay other others) (before more : List SegmentView) (parts : others ≡ before ++ later_segments by later ++ more) (first : SegmentView) (found : slice_get later 0 ≡ Some first) where
+    (other : Header) (others : List SegmentView) (replayed : IsReplay other others) (before more : List SegmentView)
+    (parts : others ≡ before ++ later_segments by later ++ more) (first : SegmentView) (found : slice_get later 0 ≡ Some first) where
   later_alike : (total : List TaskTally) → AreTalliedFrom header front later total → AreTalliedFrom other before (later_segments by later) total
   later_alike total tallied =
       let a = state_after (start header) (all_steps front) in
@@ -209,9 +229,11 @@ module _ (header : Header) (segments : List SegmentView) (replay : IsReplay head
       let two = begin_stands other others replayed before moved more parts (later_one by first) there in
       let meet : MeetBy by a b steps = record { later = one_shifted by first a b one two; unread = unread } in
       let own = begin_settings header segments replay front later rest whole first found in
-      let settings : a.settings ≡ settings_of other = sym (ap (λ (view : View). view.settings) meet.later) ∙ begin_settings other others replayed before moved more parts (later_one by first) there in
+      let settings : a.settings ≡ settings_of other = sym (ap (λ (view : View). view.settings) meet.later) ∙ begin_settings other others replayed before moved
+      more parts (later_one by first) there in
       let run =
-      met_run_alike by a b steps (begin_sound header segments replay front later rest whole first found) (begin_sound other others replayed before moved more parts (later_one by first) there) meet
+      met_run_alike by a b steps (begin_sound header segments replay front later rest whole first found)
+      (begin_sound other others replayed before moved more parts (later_one by first) there) meet
       (begin_checked header segments replay front later rest whole first found) in
       record {
         counts =
@@ -222,12 +244,15 @@ module _ (header : Header) (segments : List SegmentView) (replay : IsReplay head
 
 -- ---- the last segments, as a slice lends them
 
-pub all_lent : (segments : List SegmentView) (from : ℕ) (total next : List TaskTally) → Counts total (take (length segments - from) (drop from segments)) next → Counts total (drop from segments) next
-all_lent segments from total next = subst (λ (xs : List SegmentView). Counts total xs next) (take_all (length segments - from) (drop from segments) (omega (arith, length-drop from segments)))
+pub all_lent : (segments : List SegmentView) (from : ℕ) (total next : List TaskTally) → Counts total (take (length segments - from) (drop from segments)) next →
+    Counts total (drop from segments) next
+all_lent segments from total next = subst (λ (xs : List SegmentView). Counts total xs next)
+    (take_all (length segments - from) (drop from segments) (omega (arith, length-drop from segments)))
 
 -- ---- the last segments, up to a checkpoint and from there on
 
-module _ (segments : List SegmentView) (from next : ℕ) (total sum : List TaskTally) (found : IsSumFrom segments from sum next) (known : AreTalliedLater total (drop from segments)) where
+module _ (segments : List SegmentView) (from next : ℕ) (total sum : List TaskTally) (found : IsSumFrom segments from sum next)
+    (known : AreTalliedLater total (drop from segments)) where
   abbrev pub near : List SegmentView
   near = take (next - from) (drop from segments)
 
@@ -252,7 +277,8 @@ module _ (segments : List SegmentView) (from next : ℕ) (total sum : List TaskT
   abbrev moved_far : List SegmentView
   moved_far = later_segments known.by far
 
-  pub near_whole : known.before.earlier ++ later_segments known.by (drop from segments) ++ known.before.later ≡ known.before.earlier ++ moved_near ++ moved_far ++ known.before.later
+  pub near_whole : known.before.earlier ++ later_segments known.by (drop from segments) ++ known.before.later ≡ known.before.earlier ++ moved_near ++ moved_far
+      ++ known.before.later
   near_whole =
       ap (λ xs. known.before.earlier ++ xs ++ known.before.later) (ap (later_segments known.by) cut_there ∙ later_append known.by near far)
       ∙ ap (λ xs. xs ++ known.before.later) (sym (append_assoc known.before.earlier moved_near moved_far))
@@ -260,12 +286,14 @@ module _ (segments : List SegmentView) (from next : ℕ) (total sum : List TaskT
   abbrev pub before_near : AreTalliedLater total near
   before_near = record {
     by = known.by;
-    unread = ⊎_elim (λ none. inl none) (λ (both : (some_delays_until (all_steps near) ≡ false) × (some_delays_until (all_steps far) ≡ false)). inr both.0) unread_parts;
+    unread = ⊎_elim (λ none. inl none) (λ (both : (some_delays_until (all_steps near) ≡ false) × (some_delays_until (all_steps far) ≡ false)). inr both.0)
+        unread_parts;
     before = record {
       header = known.before.header;
       earlier = known.before.earlier;
       later = moved_far ++ known.before.later;
-      replay = subst (IsReplay known.before.header) (near_whole ∙ append_assoc (known.before.earlier ++ moved_near) moved_far known.before.later) known.before.replay;
+      replay = subst (IsReplay known.before.header) (near_whole ∙ append_assoc (known.before.earlier ++ moved_near) moved_far known.before.later)
+          known.before.replay;
       tallied = known.before.tallied;
     };
   }
@@ -277,32 +305,39 @@ module _ (segments : List SegmentView) (from next : ℕ) (total sum : List TaskT
     near_tallied : AreTallied known.before.header (known.before.earlier ++ moved_near) total_1
     near_tallied =
         tallied_alike known.before.header (known.before.earlier ++ near) (known.before.earlier ++ moved_near) total_1
-        (all_more known.before.earlier near ∙ ap (λ xs. all_steps known.before.earlier ++ xs) (sym (later_steps known.by near)) ∙ sym (all_more known.before.earlier moved_near))
+        (all_more known.before.earlier near ∙ ap (λ xs. all_steps known.before.earlier ++ xs) (sym (later_steps known.by near)) ∙ sym
+        (all_more known.before.earlier moved_near))
         (counted before_near)
 
     far_tallied : AreTalliedFrom known.before.header (known.before.earlier ++ moved_near) moved_far sum
     far_tallied =
         let first = first_of far (omega (arith, found.within, length-drop next segments)) in
-        let parted : segments ≡ take next segments ++ far ++ [] = sym (append-nil (take next segments ++ far) ∙ take-append-drop next segments) in
-        later_alike found.header segments found.replay (take next segments) far [] parted known.by
-        (⊎_elim (λ none. inl none) (λ (both : (some_delays_until (all_steps near) ≡ false) × (some_delays_until (all_steps far) ≡ false)). inr both.1) unread_parts)
+        let split : segments ≡ take next segments ++ far ++ [] = sym (append-nil (take next segments ++ far) ∙ take-append-drop next segments) in
+        later_alike found.header segments found.replay (take next segments) far [] split known.by
+        (⊎_elim (λ none. inl none) (λ (both : (some_delays_until (all_steps near) ≡ false) × (some_delays_until (all_steps far) ≡ false)). inr both.1)
+        unread_parts)
         known.before.header all known.before.replay (known.before.earlier ++ moved_near) known.before.later near_whole
         first.0 first.1 sum found.tallied
 
     pub far_shapes : shape total_1 ≡ shape sum
-    far_shapes = run_shapes known.before.header all known.before.replay (known.before.earlier ++ moved_near) moved_far known.before.later near_whole sum total_1 far_tallied.counts near_tallied far_tallied.sizes
+    far_shapes = run_shapes known.before.header all known.before.replay (known.before.earlier ++ moved_near) moved_far known.before.later near_whole sum total_1
+        far_tallied.counts near_tallied far_tallied.sizes
 
     pub far_fits : AllCountsBelow (2 ^ 32) (added total_1 sum)
-    far_fits = run_fits known.before.header all known.before.replay (known.before.earlier ++ moved_near) moved_far known.before.later near_whole sum total_1 far_tallied.counts near_tallied
+    far_fits = run_fits known.before.header all known.before.replay (known.before.earlier ++ moved_near) moved_far known.before.later near_whole sum total_1
+        far_tallied.counts near_tallied
 
-    pub far_added : (total_2 : List TaskTally) → total_2 ≡ added total_1 sum → shape total_2 ≡ shape total_1 → AreTallied known.before.header (known.before.earlier ++ drop from segments) total_2
+    pub far_added : (total_2 : List TaskTally) → total_2 ≡ added total_1 sum → shape total_2 ≡ shape total_1 → AreTallied known.before.header
+        (known.before.earlier ++ drop from segments) total_2
     far_added total_2 is kept =
         tallied_alike known.before.header (known.before.earlier ++ moved_near ++ moved_far) (known.before.earlier ++ drop from segments) total_2 steps_there
-        (run_goes known.before.header all known.before.replay (known.before.earlier ++ moved_near) moved_far known.before.later near_whole sum total_1 far_tallied.counts near_tallied total_2 is kept)
+        (run_goes known.before.header all known.before.replay (known.before.earlier ++ moved_near) moved_far known.before.later near_whole sum total_1
+        far_tallied.counts near_tallied total_2 is kept)
       where
         steps_there : all_steps (known.before.earlier ++ moved_near ++ moved_far) ≡ all_steps (known.before.earlier ++ drop from segments)
         steps_there =
-            ap all_steps (append_assoc known.before.earlier moved_near moved_far ∙ ap (λ xs. known.before.earlier ++ xs) (sym (ap (later_segments known.by) cut_there ∙ later_append known.by near far)))
+            ap all_steps (append_assoc known.before.earlier moved_near moved_far ∙ ap (λ xs. known.before.earlier ++ xs)
+            (sym (ap (later_segments known.by) cut_there ∙ later_append known.by near far)))
             ∙ all_more known.before.earlier (later_segments known.by (drop from segments))
             ∙ ap (λ xs. all_steps known.before.earlier ++ xs) (later_steps known.by (drop from segments))
             ∙ sym (all_more known.before.earlier (drop from segments))

@@ -1,5 +1,6 @@
 -- The tallies of segments that are so many ticks later.
-use Rattle.std.proofs.Common.{◌≡◌, ◌⊎◌, inl, inr, ⊎_elim, ℕ, zero, suc, ◌+◌, ◌^◌, ◌<◌, ◌≤◌, Bool, true, false, cond, eqb, List, [], ◌∷◌, ◌++◌, length, map, take, drop, refl, sym, ap, subst, ◌∙◌, arith}
+use Rattle.std.proofs.Common.{◌≡◌, ◌⊎◌, inl, inr, ⊎_elim, ℕ, zero, suc, ◌+◌, ◌^◌, ◌<◌, ◌≤◌, Bool, true, false, cond, eqb, List, [], ◌∷◌, ◌++◌, length, map}
+use Rattle.std.proofs.Common.{take, drop, refl, sym, ap, subst, ◌∙◌, arith}
 use Rattle.std.specs.Prelude.{All, Some, slice_get}
 use Rattle.std.proofs.lemmas.Bool.Decides.{nat_tests}
 use Rattle.std.proofs.lemmas.List.{length-map, map-append}
@@ -33,10 +34,12 @@ use Rattle.session_store.proofs.StoreTallies.{ends_tallied, front, front_goes, r
 abbrev pub later_one : ℕ → SegmentView → SegmentView
 later_one by segment = cond (eqb by 0) segment (later_segment by segment)
 
-pub later_found : (by : ℕ) (segments : List SegmentView) (index : ℕ) (segment : SegmentView) → slice_get segments index ≡ Some segment → slice_get (later_segments by segments) index ≡ Some (later_one by segment)
+pub later_found : (by : ℕ) (segments : List SegmentView) (index : ℕ) (segment : SegmentView) → slice_get segments index ≡ Some segment → slice_get
+    (later_segments by segments) index ≡ Some (later_one by segment)
 later_found by segments index segment found = at (eqb by 0)
   where
-    moved : (segments : List SegmentView) (index : ℕ) → slice_get segments index ≡ Some segment → slice_get (map (later_segment by) segments) index ≡ Some (later_segment by segment)
+    moved : (segments : List SegmentView) (index : ℕ) → slice_get segments index ≡ Some segment → slice_get (map (later_segment by) segments) index ≡ Some
+        (later_segment by segment)
     moved [] index found = absurd (cc found)
     moved (first ∷ segments) zero found = ap (λ one. Some (later_segment by one)) (same_Some first segment found)
     moved (first ∷ segments) (suc index) found = moved segments index found
@@ -74,7 +77,8 @@ one_shifted by segment a b one two = at (eqb by 0) refl two
 pub later_append : (by : ℕ) (first second : List SegmentView) → later_segments by (first ++ second) ≡ later_segments by first ++ later_segments by second
 later_append by first second = at (eqb by 0)
   where
-    at : (b : Bool) → cond b (first ++ second) (map (later_segment by) (first ++ second)) ≡ cond b first (map (later_segment by) first) ++ cond b second (map (later_segment by) second)
+    at : (b : Bool) → cond b (first ++ second) (map (later_segment by) (first ++ second)) ≡ cond b first (map (later_segment by) first) ++ cond b second
+        (map (later_segment by) second)
     at true = refl
     at false = map-append (later_segment by) first second
 
@@ -87,8 +91,10 @@ later_length by segments = at (eqb by 0)
 
 -- ---- one of the segments after those that were counted
 
-module _ (before : List TaskTally) (segments : List SegmentView) (known : AreTalliedLater before segments) (index : ℕ) (segment : SegmentView) (found : slice_get segments index ≡ Some segment) (part : List TaskTally) (stands : StandsForSome segment.kernel)
-    (told : (table : Table) → StandsFor segment.kernel table → part ≡ part_tallies segment.kernel.settings table segment.steps) (sized : shape part ≡ shape_of segment.kernel.settings) where
+module _ (before : List TaskTally) (segments : List SegmentView) (known : AreTalliedLater before segments) (index : ℕ) (segment : SegmentView)
+    (found : slice_get segments index ≡ Some segment) (part : List TaskTally) (stands : StandsForSome segment.kernel)
+    (shown : (table : Table) → StandsFor segment.kernel table → part ≡ part_tallies segment.kernel.settings table segment.steps)
+    (sized : shape part ≡ shape_of segment.kernel.settings) where
   abbrev moved : List SegmentView
   moved = later_segments known.by segments
 
@@ -114,7 +120,8 @@ module _ (before : List TaskTally) (segments : List SegmentView) (known : AreTal
   are = record { steps = refl; places = refl; follow = known.before.replay.follow }
 
   settings : segment.kernel.settings ≡ settings_of known.before.header
-  settings = sym (one_settings known.by segment) ∙ kernel_settings (kept_of known.before.header 0 all) all own_front own own_rest are own_whole known.before.replay.session
+  settings = sym (one_settings known.by segment) ∙ kernel_settings (kept_of known.before.header 0 all) all own_front own own_rest are own_whole
+      known.before.replay.session
 
   checked : All (IsCheckedStep segment.kernel.settings) segment.steps
   checked =
@@ -122,8 +129,8 @@ module _ (before : List TaskTally) (segments : List SegmentView) (known : AreTal
       (subst (All (IsCheckedStep (settings_of known.before.header))) (one_steps known.by segment)
       (part_checked (kept_of known.before.header 0 all) all own_front own own_rest are own_whole known.before.replay.session))
 
-  own_told : (table : Table) → StandsFor own.kernel table → part ≡ part_tallies own.kernel.settings table own.steps
-  own_told table is =
+  own_shown : (table : Table) → StandsFor own.kernel table → part ≡ part_tallies own.kernel.settings table own.steps
+  own_shown table is =
       let was = stands.0 in
       let stood = stands.1 in
       let set : was.settings ≡ segment.kernel.settings = ap (λ (view : View). view.settings) stood.shows in
@@ -132,7 +139,7 @@ module _ (before : List TaskTally) (segments : List SegmentView) (known : AreTal
         unread = ⊎_elim (λ none. inl none) (λ unread. inr (unread_one segments index segment found unread)) known.unread;
       } in
       let run = met_run_alike known.by was table segment.steps stood.sound is.sound meet (subst (λ s. All (IsCheckedStep s) segment.steps) (sym set) checked) in
-      told was stood
+      shown was stood
       ∙ ap (λ (s : Settings). part_tallies s was segment.steps) (sym set)
       ∙ run.tallies
       ∙ ap (λ (s : Settings). part_tallies s table segment.steps) (set ∙ sym (one_settings known.by segment))
@@ -143,22 +150,25 @@ module _ (before : List TaskTally) (segments : List SegmentView) (known : AreTal
 
   module _ (total : List TaskTally) (so_far : AreTallied known.before.header (known.before.earlier ++ take index moved) total) where
     pub later_shapes : shape total ≡ shape part
-    later_shapes = sum_shapes known.before.header all known.before.replay own_front own own_rest own_whole part total own_told so_far own_sized
+    later_shapes = sum_shapes known.before.header all known.before.replay own_front own own_rest own_whole part total own_shown so_far own_sized
 
     pub later_fits : AllCountsBelow (2 ^ 32) (added total part)
-    later_fits = sum_fits known.before.header all known.before.replay own_front own own_rest own_whole part total own_told so_far
+    later_fits = sum_fits known.before.header all known.before.replay own_front own own_rest own_whole part total own_shown so_far
 
-    pub later_goes : (next : List TaskTally) → next ≡ added total part → shape next ≡ shape total → AreTallied known.before.header (known.before.earlier ++ take (index + 1) moved) next
+    pub later_goes : (next : List TaskTally) → next ≡ added total part → shape next ≡ shape total → AreTallied known.before.header
+        (known.before.earlier ++ take (index + 1) moved) next
     later_goes next sum kept =
         subst (λ (xs : List SegmentView). AreTallied known.before.header xs next) (front_goes before moved known.before index own own_found)
-        (tallied_goes known.before.header all known.before.replay own_front own own_rest own_whole part total own_told so_far next sum kept)
+        (tallied_goes known.before.header all known.before.replay own_front own own_rest own_whole part total own_shown so_far next sum kept)
 
 -- all of them are counted
-pub ends_later : (before : List TaskTally) (segments : List SegmentView) (known : AreTalliedLater before segments) (count : ℕ) (total : List TaskTally) → length segments ≤ count → AreTallied known.before.header (known.before.earlier ++ take count (later_segments known.by segments)) total
+pub ends_later : (before : List TaskTally) (segments : List SegmentView) (known : AreTalliedLater before segments) (count : ℕ) (total : List TaskTally) → length
+    segments ≤ count → AreTallied known.before.header (known.before.earlier ++ take count (later_segments known.by segments)) total
     → AreTallied known.before.header (known.before.earlier ++ segments) total
 ends_later before segments known count total all so_far =
     let moved = later_segments known.by segments in
     let same : all_steps (known.before.earlier ++ moved) ≡ all_steps (known.before.earlier ++ segments) =
-    all_more known.before.earlier moved ∙ ap (λ xs. all_steps known.before.earlier ++ xs) (later_steps known.by segments) ∙ sym (all_more known.before.earlier segments) in
+    all_more known.before.earlier moved ∙ ap (λ xs. all_steps known.before.earlier ++ xs) (later_steps known.by segments) ∙ sym
+    (all_more known.before.earlier segments) in
     tallied_alike known.before.header (known.before.earlier ++ moved) (known.before.earlier ++ segments) total same
     (ends_tallied known.before.header known.before.earlier moved count total (omega (arith, all, later_length known.by segments)) so_far)

@@ -1,13 +1,13 @@
 mod Cuts
 mod EditReplays
-mod EditTold
+mod EditShown
 mod GoingOn
 mod LaterSums
 mod LaterTallies
 mod Opened
 mod Openings
-pub mod Parted
-mod Partings
+pub mod SegmentsOfEdits
+mod EditedSegmentProofs
 mod RecordedSessions
 mod Retraces
 mod Spans

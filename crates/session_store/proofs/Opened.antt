@@ -1,5 +1,6 @@
 -- A session that is opened, in segments of a span each and a last one.
-use Rattle.std.proofs.Common.{◌≡◌, ◌⊎◌, inl, inr, ℕ, zero, suc, ◌+◌, ◌-◌, ◌*◌, ◌/◌, ◌%◌, ◌<◌, ◌≤◌, List, [], ◌∷◌, ◌++◌, length, take, drop, replicate, sym, ap, ap₂, subst, ◌∙◌, arith, length-drop, div-add-mod'}
+use Rattle.std.proofs.Common.{◌≡◌, ◌⊎◌, inl, inr, ℕ, zero, suc, ◌+◌, ◌-◌, ◌*◌, ◌/◌, ◌%◌, ◌<◌, ◌≤◌, List, [], ◌∷◌, ◌++◌, length, take, drop, replicate, sym, ap}
+use Rattle.std.proofs.Common.{ap₂, subst, ◌∙◌, arith, length-drop, div-add-mod'}
 use Rattle.std.specs.Prelude.{true, Result, Ok, Err, IfOk, OnOk}
 use Rattle.std.proofs.Math.Nat.{zero-div}
 use Rattle.std.proofs.lemmas.Bool.Decides.{nat_tests}
@@ -53,7 +54,8 @@ some_span span fits = grind (arith, nat_tests, fits)
 
 -- ---- the last segment
 
-module _ (steps : List Step) (span full : ℕ) (part : List Step) (some : 1 ≤ span) (cut : full ≡ (length steps - 1) / span) (is : part ≡ drop (full * span) steps) where
+module _ (steps : List Step) (span full : ℕ) (part : List Step) (some : 1 ≤ span) (cut : full ≡ (length steps - 1) / span)
+    (is : part ≡ drop (full * span) steps) where
   has_rest : HasRest (length steps) span full
   has_rest = subst (HasRest (length steps) span) (sym cut) (rest_of (length steps) span some)
 
@@ -64,14 +66,17 @@ module _ (steps : List Step) (span full : ℕ) (part : List Step) (some : 1 ≤ 
   pub opened_count : full * span + length part ≡ length steps
   opened_count = let whole = has_rest.whole in omega (arith, left, whole)
 
-  pub opened_meter : (old middle new : ℕ) → middle ≡ meter_after (full * span) old → new ≡ meter_after (length part) middle → new ≡ meter_after (length steps) old
-  opened_meter old middle new begun counted =
-      counted ∙ ap (meter_after (length part)) begun ∙ counted_twice (full * span) (length part) old ∙ ap (λ n. meter_after n old) opened_count
+  pub opened_meter : (old middle new : ℕ) → middle ≡ meter_after (full * span) old → new ≡ meter_after (length part) middle → new ≡ meter_after (length steps)
+      old
+  opened_meter old middle new summed_front counted =
+      counted ∙ ap (meter_after (length part)) summed_front ∙ counted_twice (full * span) (length part) old ∙ ap (λ n. meter_after n old) opened_count
 
 -- ---- segments
 
-module _ (header : Header) (steps : List Step) (span full : ℕ) (kernel : View) (part : List Step) (made segments : List SegmentView) (some : 1 ≤ span) (cut : full ≡ (length steps - 1) / span) (is : part ≡ drop (full * span) steps)
-    (stands : StandsFor kernel (state_after (start header) (take (full * span) steps))) (added : segments ≡ made ++ record { kernel = kernel; steps = part } ∷ []) (spans : AreSpans (start header) span full steps made) where
+module _ (header : Header) (steps : List Step) (span full : ℕ) (kernel : View) (part : List Step) (made segments : List SegmentView) (some : 1 ≤ span)
+    (cut : full ≡ (length steps - 1) / span) (is : part ≡ drop (full * span) steps)
+    (stands : StandsFor kernel (state_after (start header) (take (full * span) steps)))
+    (added : segments ≡ made ++ record { kernel = kernel; steps = part } ∷ []) (spans : AreSpans (start header) span full steps made) where
   abbrev session : Session
   session = record { header = header; steps = steps }
 
@@ -89,15 +94,17 @@ module _ (header : Header) (steps : List Step) (span full : ℕ) (kernel : View)
   opened_starts : starts 0 (replicate full span ++ length part ∷ []) ≡ first_checkpoints span session
   opened_starts =
       let rest = has_rest steps span full part some cut is in
-      ap (λ x. starts 0 (replicate full span ++ x ∷ [])) (left steps span full part some cut is) ∙ opened_places span session full rest.rest some rest.short rest.least rest.whole
+      ap (λ x. starts 0 (replicate full span ++ x ∷ [])) (left steps span full part some cut is) ∙ opened_places span session full rest.rest some rest.short
+      rest.least rest.whole
 
   pub opened_segments : AreSegments (first_kept span session) segments
   opened_segments = record {
     steps = opened_steps;
     places = ap (starts 0) opened_lengths ∙ opened_starts;
     follow =
-        let begun : StandsFor kernel (state_after (start header) (all_steps made)) = subst (λ taken. StandsFor kernel (state_after (start header) taken)) (sym spans.steps_are) stands in
-        subst (Follow (start header)) (sym added) (follow_append made (last ∷ []) (start header) spans.follow (begun, tt));
+        let summed_front : StandsFor kernel (state_after (start header) (all_steps made)) = subst (λ taken. StandsFor kernel (state_after (start header) taken))
+        (sym spans.steps_are) stands in
+        subst (Follow (start header)) (sym added) (follow_append made (last ∷ []) (start header) spans.follow (summed_front, tt));
   }
 
 -- ---- results
@@ -106,6 +113,7 @@ pub on_ok : {T E : Type 0} {P : Type 0} (result : Result T E) → P → OnOk res
 on_ok (Ok value) holds = holds
 on_ok (Err why) holds = tt
 
-pub if_segments : {E : Type 0} (result : Result (List SegmentView) E) (kept : CheckpointedSession) (segments : List SegmentView) → AreSegments kept segments → IfOk result (λ made. made ≡ segments) → IfOk result (AreSegments kept)
+pub if_segments : {E : Type 0} (result : Result (List SegmentView) E) (kept : CheckpointedSession) (segments : List SegmentView) → AreSegments kept segments →
+    IfOk result (λ made. made ≡ segments) → IfOk result (AreSegments kept)
 if_segments (Ok made) kept segments are same = subst (AreSegments kept) (sym same) are
 if_segments (Err why) kept segments are same = tt

@@ -20,8 +20,8 @@ use Rattle.session_store.specs.declared.fault.Refused.{Refused}
 use Rattle.session_store.specs.Kept.{IsKept}
 use Rattle.session_store.specs.Opening.{at_no_step, steps_check, open_check}
 
-told : (Fault → Refused) → Result (Unit {0}) Fault → Result (Unit {0}) Refused
-told why fits = result_map_both (λ _. tt) why fits
+shown : (Fault → Refused) → Result (Unit {0}) Fault → Result (Unit {0}) Refused
+shown why fits = result_map_both (λ _. tt) why fits
 
 chosen : Bool → Refused → Result (Unit {0}) Refused
 chosen b why = if b then Ok tt else Err why
@@ -36,9 +36,9 @@ pub record IsOpened (steps : List Step) (span : ℕ) : Type 0 where
   pub span_fits : is_within 1 max_span span ≡ true
 
 pub opens : (header : Header) (steps : List Step) (span : ℕ) → open_check header steps span ≡ Ok tt → IsOpened steps span
-unfolding told chosen
+unfolding shown chosen
 opens header steps span passes =
-    let fits = told (λ fault. at_no_step (Bench fault)) (header_check header) in
+    let fits = shown (λ fault. at_no_step (Bench fault)) (header_check header) in
     let spans = chosen (is_within 1 max_span span) (at_no_step BadSpan) in
     let few = chosen (nat_le (length steps) max_steps) (at_no_step TooLong) in
     let last = both_pass (fits >> spans >> few) (steps_check (settings_of header) 0 steps) passes in
@@ -51,7 +51,8 @@ opens header steps span passes =
     }
 
 -- the segments of a session that is opened are kept
-pub opened_kept : (header : Header) (steps : List Step) (span : ℕ) (segments : List SegmentView) → IsSession (record { header = header; steps = steps }) → IsOpened steps span → AreSegments (first_kept span (record { header = header; steps = steps })) segments → IsKept header span segments
+pub opened_kept : (header : Header) (steps : List Step) (span : ℕ) (segments : List SegmentView) → IsSession (record { header = header; steps = steps }) →
+    IsOpened steps span → AreSegments (first_kept span (record { header = header; steps = steps })) segments → IsKept header span segments
 opened_kept header steps span segments session opened are =
     let fits = opened.span_fits in
     let some : 1 ≤ span = grind (arith, nat_tests, fits) in

@@ -1,5 +1,6 @@
 -- Spans of steps that are replayed one after another, a segment each.
-use Rattle.std.proofs.Common.{◌≡◌, ℕ, suc, ◌+◌, ◌-◌, ◌*◌, ◌<◌, ◌≤◌, List, [], ◌∷◌, ◌++◌, length, take, drop, replicate, sym, ap, ap₂, subst, ◌∙◌, arith, length-drop, suc-mul}
+use Rattle.std.proofs.Common.{◌≡◌, ℕ, suc, ◌+◌, ◌-◌, ◌*◌, ◌<◌, ◌≤◌, List, [], ◌∷◌, ◌++◌, length, take, drop, replicate, sym, ap, ap₂, subst, ◌∙◌, arith}
+use Rattle.std.proofs.Common.{length-drop, suc-mul}
 use Rattle.std.proofs.lemmas.List.{append-nil, map-append, length-take-le, replicate-append-replicate}
 use Rattle.std.proofs.Math.Nat.{mul-le-mul_right}
 use Rattle.std.proofs.Math.Seq.{take-add}
@@ -42,20 +43,27 @@ replicate_more : (count length : ℕ) → replicate count length ++ length ∷ [
 replicate_more count length = replicate-append-replicate count 1 length
 
 -- one span more
-pub spans_more : (table : Table) (span segment : ℕ) (steps : List Step) (kernel : View) (part : List Step) (old new : List SegmentView) → part ≡ take span (drop (segment * span) steps) → (segment + 1) * span ≤ length steps
-    → StandsFor kernel (state_after table (take (segment * span) steps)) → new ≡ old ++ record { kernel = kernel; steps = part } ∷ [] → AreSpans table span segment steps old → AreSpans table span (segment + 1) steps new
+pub spans_more : (table : Table) (span segment : ℕ) (steps : List Step) (kernel : View) (part : List Step) (old new : List SegmentView) → part ≡ take span
+    (drop (segment * span) steps) → (segment + 1) * span ≤ length steps
+    → StandsFor kernel (state_after table (take (segment * span) steps)) → new ≡ old ++ record { kernel = kernel; steps = part } ∷ [] → AreSpans table span
+    segment steps old → AreSpans table span (segment + 1) steps new
 spans_more table span segment steps kernel part old new is within stands added so_far =
     let one : SegmentView = record { kernel = kernel; steps = part } in
-    let begun : StandsFor kernel (state_after table (all_steps old)) = subst (λ taken. StandsFor kernel (state_after table taken)) (sym so_far.steps_are) stands in
+    let summed_front : StandsFor kernel (state_after table (all_steps old)) = subst (λ taken. StandsFor kernel (state_after table taken)) (sym so_far.steps_are)
+    stands in
     record {
-      steps_are = ap all_steps added ∙ all_more old (one ∷ []) ∙ ap₂ (λ xs ys. xs ++ ys) so_far.steps_are (append-nil part ∙ is) ∙ sym (take_span segment span steps);
-      lengths_are = ap lengths added ∙ map-append (λ (segment : SegmentView). length segment.steps) old (one ∷ []) ∙ ap₂ (λ xs x. xs ++ x ∷ []) so_far.lengths_are (ap length is ∙ part_length segment span steps within) ∙ replicate_more segment span;
-      follow = subst (Follow table) (sym added) (follow_append old (one ∷ []) table so_far.follow (begun, tt));
+      steps_are = ap all_steps added ∙ all_more old (one ∷ []) ∙ ap₂ (λ xs ys. xs ++ ys) so_far.steps_are (append-nil part ∙ is) ∙ sym
+          (take_span segment span steps);
+      lengths_are = ap lengths added ∙ map-append (λ (segment : SegmentView). length segment.steps) old (one ∷ []) ∙ ap₂ (λ xs x. xs ++ x ∷ [])
+          so_far.lengths_are (ap length is ∙ part_length segment span steps within) ∙ replicate_more segment span;
+      follow = subst (Follow table) (sym added) (follow_append old (one ∷ []) table so_far.follow (summed_front, tt));
     }
 
 -- the state after one span more
-pub state_more : (table : Table) (span segment : ℕ) (steps : List Step) (kernel : View) (part : List Step) → part ≡ take span (drop (segment * span) steps) → StandsFor kernel (state_after (state_after table (take (segment * span) steps)) part)
+pub state_more : (table : Table) (span segment : ℕ) (steps : List Step) (kernel : View) (part : List Step) → part ≡ take span (drop (segment * span) steps) →
+    StandsFor kernel (state_after (state_after table (take (segment * span) steps)) part)
     → StandsFor kernel (state_after table (take ((segment + 1) * span) steps))
 state_more table span segment steps kernel part is stands =
     let front = take (segment * span) steps in
-    subst (StandsFor kernel) (ap (state_after (state_after table front)) is ∙ sym (state_append table front (take span (drop (segment * span) steps))) ∙ ap (state_after table) (sym (take_span segment span steps))) stands
+    subst (StandsFor kernel) (ap (state_after (state_after table front)) is ∙ sym (state_append table front (take span (drop (segment * span) steps))) ∙ ap
+    (state_after table) (sym (take_span segment span steps))) stands

@@ -1,5 +1,6 @@
 -- The states of a session that a store gives, and how far each is from the checkpoint before it.
-use Rattle.std.proofs.Common.{◌≡◌, ℕ, suc, ◌+◌, ◌-◌, ◌<◌, ◌≤◌, Bool, true, false, leb, List, [], ◌∷◌, length, take, drop, Some, refl, sym, ap, subst, ◌∙◌, arith}
+use Rattle.std.proofs.Common.{◌≡◌, ℕ, suc, ◌+◌, ◌-◌, ◌<◌, ◌≤◌, Bool, true, false, leb, List, [], ◌∷◌, length, take, drop, Some, refl, sym, ap, subst, ◌∙◌}
+use Rattle.std.proofs.Common.{arith}
 use Rattle.std.specs.Prelude.{All, slice_get}
 use Rattle.std.proofs.lemmas.Bool.Decides.{nat_tests}
 use Rattle.std.proofs.lemmas.List.{length-drop, length-append, append-nil}
@@ -24,8 +25,10 @@ use Rattle.session_store.specs.Outcomes.{distance}
 use Rattle.session_store.proofs.StoreReads.{are_segments, read_at, part_at}
 
 module _ (header : Header) (span : ℕ) (segments : List SegmentView) (kept : IsKept header span segments) where
-  module _ (place index from : ℕ) (segment : SegmentView) (is : IsIndexOf (starts 0 (lengths segments)) place index from) (found : slice_get segments index ≡ Some segment) where
-    pub state_read : (kernel : View) → ((table : Table) → StandsFor segment.kernel table → StandsFor kernel (state_after table (take (place - from) segment.steps))) → StandsFor kernel (state_at header (all_steps segments) place)
+  module _ (place index from : ℕ) (segment : SegmentView) (is : IsIndexOf (starts 0 (lengths segments)) place index from)
+      (found : slice_get segments index ≡ Some segment) where
+    pub state_read : (kernel : View) → ((table : Table) → StandsFor segment.kernel table → StandsFor kernel
+        (state_after table (take (place - from) segment.steps))) → StandsFor kernel (state_at header (all_steps segments) place)
     state_read kernel so =
         let read = read_at header span segments kept place index from segment is found in
         subst (StandsFor kernel) (sym read.state) (so (state_at header (all_steps segments) from) read.stands)
@@ -62,9 +65,16 @@ module _ (header : Header) (span : ℕ) (segments : List SegmentView) (kept : Is
 
         later : index < one.0 → (after : List SegmentView) → drop (index + 1) segments ≡ after → n ≤ from
         later far [] drops =
-            absurd (omega (arith, far, slice_get_within segments one.0 one.1 one.2, length-drop (index + 1) segments, ap (λ (xs : List SegmentView). length xs) drops))
+            absurd (omega (
+              arith,
+              far,
+              slice_get_within segments one.0 one.1 one.2,
+              length-drop (index + 1) segments,
+              ap (λ (xs : List SegmentView). length xs)
+                  drops,
+            ))
         later far (next ∷ rest) drops =
-            let early = (part_at header span segments kept place index from segment is found).parted.within next rest drops in
+            let early = (part_at header span segments kept place index from segment is found).split.within next rest drops in
             let own = ap (λ (xs : List SegmentView). length (all_steps xs)) (take_with segments index segment found) in
             let steps = ap length (all_more (take index segments) (segment ∷ [])) in
             absurd (omega (
@@ -89,7 +99,8 @@ module _ (header : Header) (span : ℕ) (segments : List SegmentView) (kept : Is
 
     checkpoint_is : checkpoint_before (starts 0 (lengths segments)) place ≡ from
     checkpoint_is =
-        let last = before_is_last (starts 0 (lengths segments)) place (start_listed span (length (all_steps segments)) (starts 0 (lengths segments)) kept.checkpoints) in
+        let last = before_is_last (starts 0 (lengths segments)) place (start_listed span (length (all_steps segments)) (starts 0 (lengths segments))
+        kept.checkpoints) in
         let low = no_later (checkpoint_before (starts 0 (lengths segments)) place) last.listed last.before in
         omega (arith, low, last.last from listed is.before)
 

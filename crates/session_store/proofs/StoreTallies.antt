@@ -1,5 +1,6 @@
 -- The tallies of a session, one segment after another.
-use Rattle.std.proofs.Common.{◌≡◌, ◌⊎◌, inl, false, ℕ, suc, ◌+◌, ◌^◌, ◌<◌, ◌≤◌, List, [], ◌∷◌, ◌++◌, length, take, drop, Some, refl, sym, ap, subst, ◌∙◌, arith, add-one}
+use Rattle.std.proofs.Common.{◌≡◌, ◌⊎◌, inl, false, ℕ, suc, ◌+◌, ◌^◌, ◌<◌, ◌≤◌, List, [], ◌∷◌, ◌++◌, length, take, drop, Some, refl, sym, ap, subst, ◌∙◌, arith}
+use Rattle.std.proofs.Common.{add-one}
 use Rattle.std.specs.Prelude.{slice_get, true, ◌==◌}
 use Rattle.std.proofs.Math.Dec.{eqb-suc-zero}
 use Rattle.std.proofs.lemmas.List.{take_all, append_assoc, append-nil, length-append}
@@ -33,15 +34,17 @@ module _ (header : Header) (segments : List SegmentView) (replay : IsReplay head
   are = record { steps = refl; places = refl; follow = replay.follow }
 
   -- no segment is counted yet
-  pub none_tallied : (first : SegmentView) (kernel : View) (total : List TaskTally) → Some first ≡ slice_get segments 0 → kernel ≡ first.kernel → total ≡ first_tallies kernel.settings kernel.control → shape total ≡ shape_of kernel.settings
+  pub none_tallied : (first : SegmentView) (kernel : View) (total : List TaskTally) → Some first ≡ slice_get segments 0 → kernel ≡ first.kernel → total ≡
+      first_tallies kernel.settings kernel.control → shape total ≡ shape_of kernel.settings
       → AreTallied header [] total
-  none_tallied first kernel total found lent begun sized =
+  none_tallied first kernel total found lent summed_front sized =
       let there = split_at segments 0 first (sym found) in
       let stands = (subst (Follow (start header)) there replay.follow).0 in
-      let settings : kernel.settings ≡ settings_of header = ap (λ (v : View). v.settings) lent ∙ segment_kernel_settings (kept_of header 0 segments) segments 0 first are (sym found) replay.session in
+      let settings : kernel.settings ≡ settings_of header = ap (λ (v : View). v.settings) lent ∙ segment_kernel_settings (kept_of header 0 segments) segments 0
+      first are (sym found) replay.session in
       let control : kernel.control ≡ (start header).control = ap (λ (v : View). v.control) lent ∙ ap (λ (v : View). v.control) (sym stands.shows) in
       record {
-        counts = begun ∙ ap (λ s. first_tallies s kernel.control) settings ∙ ap (λ (c : Control). first_tallies (settings_of header) c) control;
+        counts = summed_front ∙ ap (λ s. first_tallies s kernel.control) settings ∙ ap (λ (c : Control). first_tallies (settings_of header) c) control;
         sizes = sized ∙ ap shape_of settings;
       }
 
@@ -50,57 +53,64 @@ module _ (header : Header) (segments : List SegmentView) (replay : IsReplay head
 
   -- a run of segments has the tallies of one segment with the first's kernel and all their steps
   module _ (front run rest : List SegmentView) (whole : segments ≡ front ++ run ++ rest) (part total : List TaskTally)
-      (told : part ≡ part_tallies (settings_of header) (state_after (start header) (all_steps front)) (all_steps run)) (so_far : AreTallied header front total) where
-    run_sum : added total part ≡ part_tallies (settings_of header) (start header) (all_steps (front ++ run))
-    run_sum =
-        ap (λ (a : List TaskTally). added a part) so_far.counts ∙ ap (added (part_tallies (settings_of header) (start header) (all_steps front))) told
-        ∙ sym (parts_added (settings_of header) (start header) (all_steps front) (all_steps run)) ∙ ap (part_tallies (settings_of header) (start header)) (sym (all_more front run))
+      (shown : part ≡ part_tallies (settings_of header) (state_after (start header) (all_steps front)) (all_steps run)) (so_far : AreTallied header front total)
+    where
+      run_sum : added total part ≡ part_tallies (settings_of header) (start header) (all_steps (front ++ run))
+      run_sum =
+          ap (λ (a : List TaskTally). added a part) so_far.counts ∙ ap (added (part_tallies (settings_of header) (start header) (all_steps front))) shown
+          ∙ sym (parts_added (settings_of header) (start header) (all_steps front) (all_steps run)) ∙ ap (part_tallies (settings_of header) (start header))
+          (sym (all_more front run))
 
-    pub run_shapes : shape part ≡ shape_of (settings_of header) → shape total ≡ shape part
-    run_shapes sized = so_far.sizes ∙ sym sized
+      pub run_shapes : shape part ≡ shape_of (settings_of header) → shape total ≡ shape part
+      run_shapes sized = so_far.sizes ∙ sym sized
 
-    few : suc (length (all_steps (front ++ run))) ≤ 2 ^ 32
-    few =
-        let all = ap (λ (xs : List SegmentView). all_steps xs) whole ∙ all_more (front ++ run) rest in
-        omega (arith, replay.few_steps, ap (λ (xs : List Step). length xs) all, length-append (all_steps (front ++ run)) (all_steps rest))
+      few : suc (length (all_steps (front ++ run))) ≤ 2 ^ 32
+      few =
+          let all = ap (λ (xs : List SegmentView). all_steps xs) whole ∙ all_more (front ++ run) rest in
+          omega (arith, replay.few_steps, ap (λ (xs : List Step). length xs) all, length-append (all_steps (front ++ run)) (all_steps rest))
 
-    -- no count of few steps is near the end of its numbers
-    pub run_fits : AllCountsBelow (2 ^ 32) (added total part)
-    run_fits =
-        let steps = all_steps (front ++ run) in
-        subst (AllCountsBelow (2 ^ 32)) (sym run_sum) (wider_room (part_tallies (settings_of header) (start header) steps) few (part_few (settings_of header) (start header) steps))
+      -- no count of few steps is near the end of its numbers
+      pub run_fits : AllCountsBelow (2 ^ 32) (added total part)
+      run_fits =
+          let steps = all_steps (front ++ run) in
+          subst (AllCountsBelow (2 ^ 32)) (sym run_sum) (wider_room (part_tallies (settings_of header) (start header) steps) few
+          (part_few (settings_of header) (start header) steps))
 
-    pub run_goes : (next : List TaskTally) → next ≡ added total part → shape next ≡ shape total → AreTallied header (front ++ run) next
-    run_goes next sum sized = record {
-      counts = sum ∙ run_sum;
-      sizes = sized ∙ so_far.sizes;
-    }
+      pub run_goes : (next : List TaskTally) → next ≡ added total part → shape next ≡ shape total → AreTallied header (front ++ run) next
+      run_goes next sum sized = record {
+        counts = sum ∙ run_sum;
+        sizes = sized ∙ so_far.sizes;
+      }
 
-  module _ (front : List SegmentView) (segment : SegmentView) (rest : List SegmentView) (whole : segments ≡ front ++ segment ∷ rest) (part total : List TaskTally)
-      (told : (table : Table) → StandsFor segment.kernel table → part ≡ part_tallies segment.kernel.settings table segment.steps) (so_far : AreTallied header front total) where
+  module _ (front : List SegmentView) (segment : SegmentView) (rest : List SegmentView) (whole : segments ≡ front ++ segment ∷ rest)
+      (part total : List TaskTally)
+      (shown : (table : Table) → StandsFor segment.kernel table → part ≡ part_tallies segment.kernel.settings table segment.steps)
+      (so_far : AreTallied header front total) where
     settings : segment.kernel.settings ≡ settings_of header
     settings = kernel_settings (kept_of header 0 segments) segments front segment rest are whole replay.session
 
     part_is : part ≡ part_tallies (settings_of header) (state_after (start header) (all_steps front)) (all_steps (segment ∷ []))
     part_is =
         let cut = state_after (start header) (all_steps front) in
-        told cut (follow_back front (segment ∷ rest) (start header) (subst (Follow (start header)) whole replay.follow)).0 ∙ ap (λ (s : Settings). part_tallies s cut segment.steps) settings
+        shown cut (follow_back front (segment ∷ rest) (start header) (subst (Follow (start header)) whole replay.follow)).0 ∙ ap
+        (λ (s : Settings). part_tallies s cut segment.steps) settings
         ∙ ap (part_tallies (settings_of header) cut) (sym (append-nil segment.steps))
 
-    parted : segments ≡ front ++ segment ∷ [] ++ rest
-    parted = whole ∙ sym (append_assoc front (segment ∷ []) rest)
+    split : segments ≡ front ++ segment ∷ [] ++ rest
+    split = whole ∙ sym (append_assoc front (segment ∷ []) rest)
 
     pub sum_shapes : shape part ≡ shape_of segment.kernel.settings → shape total ≡ shape part
-    sum_shapes sized = run_shapes front (segment ∷ []) rest parted part total part_is so_far (sized ∙ ap shape_of settings)
+    sum_shapes sized = run_shapes front (segment ∷ []) rest split part total part_is so_far (sized ∙ ap shape_of settings)
 
     pub sum_fits : AllCountsBelow (2 ^ 32) (added total part)
-    sum_fits = run_fits front (segment ∷ []) rest parted part total part_is so_far
+    sum_fits = run_fits front (segment ∷ []) rest split part total part_is so_far
 
     pub tallied_goes : (next : List TaskTally) → next ≡ added total part → shape next ≡ shape total → AreTallied header (front ++ segment ∷ []) next
-    tallied_goes = run_goes front (segment ∷ []) rest parted part total part_is so_far
+    tallied_goes = run_goes front (segment ∷ []) rest split part total part_is so_far
 
 -- one of the segments after those that were counted
-module _ (before : List TaskTally) (segments : List SegmentView) (known : AreTalliedBefore before segments) (index : ℕ) (segment : SegmentView) (found : slice_get segments index ≡ Some segment) where
+module _ (before : List TaskTally) (segments : List SegmentView) (known : AreTalliedBefore before segments) (index : ℕ) (segment : SegmentView)
+    (found : slice_get segments index ≡ Some segment) where
   abbrev pub front : List SegmentView
   front = known.earlier ++ take index segments
 
@@ -110,18 +120,23 @@ module _ (before : List TaskTally) (segments : List SegmentView) (known : AreTal
   pub whole : known.earlier ++ segments ++ known.later ≡ front ++ segment ∷ rest
   whole =
       let split = split_at segments index segment found in
-      ap (λ xs. known.earlier ++ xs ++ known.later) split ∙ ap (λ xs. xs ++ known.later) (sym (append_assoc known.earlier (take index segments) (segment ∷ drop (suc index) segments)))
+      ap (λ xs. known.earlier ++ xs ++ known.later) split ∙ ap (λ xs. xs ++ known.later)
+      (sym (append_assoc known.earlier (take index segments) (segment ∷ drop (suc index) segments)))
       ∙ append_assoc front (segment ∷ drop (suc index) segments) known.later
 
   pub front_goes : front ++ segment ∷ [] ≡ known.earlier ++ take (index + 1) segments
   front_goes =
-      append_assoc known.earlier (take index segments) (segment ∷ []) ∙ ap (λ xs. known.earlier ++ xs) (sym (take_with segments index segment found)) ∙ ap (λ n. known.earlier ++ take n segments) (sym (add-one index))
+      append_assoc known.earlier (take index segments) (segment ∷ []) ∙ ap (λ xs. known.earlier ++ xs) (sym (take_with segments index segment found)) ∙ ap
+      (λ n. known.earlier ++ take n segments) (sym (add-one index))
 
-pub begins_tallied : (header : Header) (earlier segments : List SegmentView) (total : List TaskTally) → AreTallied header earlier total → AreTallied header (earlier ++ take 0 segments) total
+pub begins_tallied : (header : Header) (earlier segments : List SegmentView) (total : List TaskTally) → AreTallied header earlier total → AreTallied header
+    (earlier ++ take 0 segments) total
 begins_tallied header earlier segments total so = subst (λ (xs : List SegmentView). AreTallied header xs total) (sym (append-nil earlier)) so
 
-pub ends_tallied : (header : Header) (earlier segments : List SegmentView) (count : ℕ) (total : List TaskTally) → length segments ≤ count → AreTallied header (earlier ++ take count segments) total → AreTallied header (earlier ++ segments) total
-ends_tallied header earlier segments count total all so = subst (λ (xs : List SegmentView). AreTallied header (earlier ++ xs) total) (take_all count segments all) so
+pub ends_tallied : (header : Header) (earlier segments : List SegmentView) (count : ℕ) (total : List TaskTally) → length segments ≤ count → AreTallied header
+    (earlier ++ take count segments) total → AreTallied header (earlier ++ segments) total
+ends_tallied header earlier segments count total all so = subst (λ (xs : List SegmentView). AreTallied header (earlier ++ xs) total)
+    (take_all count segments all) so
 
 -- what a call that counts the segments promises
 abbrev pub Counts : List TaskTally → List SegmentView → List TaskTally → Type 0
@@ -132,7 +147,8 @@ abbrev pub not_later : (total : List TaskTally) (segments : List SegmentView) �
 not_later total segments known = record { by = 0; unread = inl refl; before = known }
 
 -- tallies are told by the steps alone
-pub tallied_alike : (header : Header) (segments others : List SegmentView) (total : List TaskTally) → all_steps segments ≡ all_steps others → AreTallied header segments total → AreTallied header others total
+pub tallied_alike : (header : Header) (segments others : List SegmentView) (total : List TaskTally) → all_steps segments ≡ all_steps others → AreTallied header
+    segments total → AreTallied header others total
 tallied_alike header segments others total same so = record {
   counts = so.counts ∙ ap (part_tallies (settings_of header) (start header)) same;
   sizes = so.sizes;
@@ -173,13 +189,15 @@ module _ (front : List SegmentView) (replayed : List TaskTally) (known : AreTall
   pub only_replayed : front ≡ [] → AreTallied known.header (front ++ known.made) replayed
   only_replayed none = record {
     counts =
-        known.counts ∙ ap (λ (xs : List SegmentView). part_tallies (settings_of known.header) (state_after (start known.header) (all_steps xs)) (all_steps known.made)) none
+        known.counts ∙ ap (λ (xs : List SegmentView). part_tallies (settings_of known.header) (state_after (start known.header) (all_steps xs))
+        (all_steps known.made)) none
         ∙ ap (λ (xs : List SegmentView). part_tallies (settings_of known.header) (start known.header) (all_steps (xs ++ known.made))) (sym none);
     sizes = known.sizes;
   }
 
 -- the segments that come after them, as a slice tells them
-module _ (segments lent : List SegmentView) (before after : ℕ) (replayed : List TaskTally) (known : AreTalliedAfter (take before segments) replayed) (later : StayLater known.later (drop after segments)) (there : lent ≡ segments) where
+module _ (segments lent : List SegmentView) (before after : ℕ) (replayed : List TaskTally) (known : AreTalliedAfter (take before segments) replayed)
+    (later : StayLater known.later (drop after segments)) (there : lent ≡ segments) where
   abbrev pub back : List SegmentView
   back = drop after lent
 
@@ -199,7 +217,8 @@ module _ (segments lent : List SegmentView) (before after : ℕ) (replayed : Lis
         earlier = take before segments ++ known.made;
         later = [];
         replay =
-            subst (IsReplay known.header) (ap (λ (xs : List SegmentView). take before segments ++ known.made ++ xs) (sym back_is) ∙ sym (append-nil (take before segments ++ known.made ++ later_segments later.by back))) known.replay;
+            subst (IsReplay known.header) (ap (λ (xs : List SegmentView). take before segments ++ known.made ++ xs) (sym back_is) ∙ sym
+            (append-nil (take before segments ++ known.made ++ later_segments later.by back))) known.replay;
         tallied = so_far;
       };
     }
@@ -210,9 +229,11 @@ module _ (segments lent : List SegmentView) (before after : ℕ) (replayed : Lis
         ∙ ap (λ xs. all_steps (take before segments ++ known.made) ++ xs) (ap all_steps later.are ∙ later_steps later.by (drop after segments))
         ∙ sym (all_more (take before segments ++ known.made) (drop after segments))
 
-    pub all_counted : (next : List TaskTally) → Counts total back next → next ≡ tallies known.header (all_steps (take before segments ++ known.made ++ drop after segments))
+    pub all_counted : (next : List TaskTally) → Counts total back next → next ≡ tallies known.header
+        (all_steps (take before segments ++ known.made ++ drop after segments))
     all_counted next counted =
         all_tallied known.header (take before segments ++ known.made ++ known.later) known.replay next
-        (tallied_alike known.header (take before segments ++ known.made ++ drop after segments) (take before segments ++ known.made ++ known.later) next (sym steps_there)
+        (tallied_alike known.header (take before segments ++ known.made ++ drop after segments) (take before segments ++ known.made ++ known.later) next
+        (sym steps_there)
         (subst (λ (xs : List SegmentView). AreTallied known.header (take before segments ++ known.made ++ xs) next) back_there (counted before_back)))
         ∙ ap (tallies known.header) steps_there

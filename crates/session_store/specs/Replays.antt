@@ -11,7 +11,7 @@ use Rattle.bench_model.specs.Lists.{View}
 use Rattle.bench_model.specs.Meeting.{CheckpointedSession}
 use Rattle.bench_model.specs.Session.{state_at}
 use Rattle.bench_model.specs.Table.{Table}
-use Rattle.segment_laws.specs.EditedSegments.{AreParted}
+use Rattle.segment_laws.specs.EditedSegments.{AreSplit}
 use Rattle.segment_laws.specs.Segments.{SegmentView, steps_of, all_steps, later_segments, lengths, Follow}
 use Rattle.segment_laws.specs.SegmentLaws.{IsEdited}
 
@@ -50,11 +50,11 @@ IsTaskEdit (ChangeTask task priority mask) = ⊤
 -- The edited steps of the segment with the place of an edit, which has the index before; the
 -- segments from the index after on are those after it. The kernel stands for the state of the
 -- edited session where that segment begins.
-pub record IsParting (session : Session) (edit : Edit) (segments : List SegmentView)
+pub record IsEditedSegment (session : Session) (edit : Edit) (segments : List SegmentView)
     (kernel : View) (steps : List Step) (before after : ℕ) : Type 0 where
   pub order : before ≤ after
   pub within : after ≤ length segments
-  pub parted : AreParted edit segments (take before segments) steps (drop after segments)
+  pub split : AreSplit edit segments (take before segments) steps (drop after segments)
   pub stands :
       StandsFor kernel
       (state_at (edited edit session).header (edited edit session).steps

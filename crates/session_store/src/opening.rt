@@ -16,12 +16,12 @@ ghost use Rattle.session_store.specs.Replays.{AreSpans};
 
 use crate::replay::{push_segment, started};
 use bench_types::{Header, Step};
-use session_segments::{Segment, Segments, Tracing};
+use session_segments::{KeptResults, Segment, Segments};
 use smp_kernel::{Kernel, Meter};
 use std::alloc::{AllocError, Global};
 
 // Replays the first so many spans of the steps, each into a segment.
-fn push_spans<K: Tracing>(
+fn push_spans<K: KeptResults>(
     alloc: Global,
     kernel: &mut Kernel,
     segments: &mut Vec<Segment<K>>,
@@ -53,7 +53,7 @@ fn push_spans<K: Tracing>(
 }
 
 /// The session from its start on, in segments of a span each; the last one has what is left.
-pub(crate) fn opened<K: Tracing>(
+pub(crate) fn opened<K: KeptResults>(
     alloc: Global,
     header: &Header,
     steps: &[Step],
@@ -74,7 +74,7 @@ pub(crate) fn opened<K: Tracing>(
 
 // The same by a kernel at the start. A kernel is dear to drop, so it is made where one call
 // follows.
-fn opened_from<K: Tracing>(
+fn opened_from<K: KeptResults>(
     alloc: Global,
     kernel: &mut Kernel,
     header: &Header,

@@ -13,7 +13,7 @@ ghost use Rattle.session_segments.specs.Counting.{meter_after, CountsUpTo};
 ghost use Rattle.session_store.specs.Replays.{AreMade};
 
 use bench_types::{Header, Step};
-use session_segments::{Segment, Tracing};
+use session_segments::{KeptResults, Segment};
 use smp_kernel::{Kernel, Meter};
 use std::alloc::{AllocError, Global};
 
@@ -30,7 +30,7 @@ pub(crate) fn started(alloc: Global, header: &Header) -> Result<Kernel, AllocErr
 }
 
 /// Replays the steps on the kernel into one segment more.
-pub(crate) fn push_segment<K: Tracing>(
+pub(crate) fn push_segment<K: KeptResults>(
     alloc: Global,
     kernel: &mut Kernel,
     segments: &mut Vec<Segment<K>>,
@@ -56,7 +56,7 @@ pub(crate) fn push_segment<K: Tracing>(
 }
 
 // Replays two spans of steps or more into two segments, of which the first has a span.
-fn push_two<K: Tracing>(
+fn push_two<K: KeptResults>(
     alloc: Global,
     kernel: &mut Kernel,
     segments: &mut Vec<Segment<K>>,
@@ -84,7 +84,7 @@ fn push_two<K: Tracing>(
 
 /// Replays edited steps, two spans or more of them into two segments. Where there are none, they
 /// are a segment only as the last one.
-pub(crate) fn push_cut<K: Tracing>(
+pub(crate) fn push_cut<K: KeptResults>(
     alloc: Global,
     kernel: &mut Kernel,
     segments: &mut Vec<Segment<K>>,

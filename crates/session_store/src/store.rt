@@ -21,18 +21,18 @@ ghost use Rattle.session_store.specs.Sums.{AreSumsOf};
 ghost use Rattle.session_store.specs.Trials.{tallies_after, IsTried};
 
 use crate::checks::{check_edit, check_opening};
-use crate::edit::remake;
+use crate::edit::replay_edit;
 use crate::edited::edited_header;
+use crate::edited_segment::segment_of_edit;
 use crate::fault::Refused;
 use crate::opening::opened;
-use crate::parting::parted;
 use crate::sums::{Sums, sums_of};
 use crate::tallying::add_segments;
-use crate::trial::try_from;
+use crate::trial::run_trial;
 use crate::{OpenFault, OpenRefusal, Outcome, StoreFault};
 use bench_reports::Tallies;
 use bench_types::{Edit, Header, Items, MAX_STEPS, Reply, Row, Step};
-use session_segments::{Segment, Segments, Traced, Tracing, Untraced};
+use session_segments::{KeptResults, NoResults, Results, Segment, Segments};
 use smp_kernel::{Kernel, Meter};
 use std::alloc::{AllocError, Global};
 use std::marker::Model;
@@ -40,10 +40,10 @@ use std::marker::Model;
 /// A session that was replayed, in segments that begin at its checkpoints: with its replies, the
 /// tasks that run at each place, and how each task fared.
 ///
-/// A `Store<Untraced>` keeps none of these, so that an edit of it costs hardly more than the steps
-/// of the kernel. [`Store::traced`] makes them for all steps at once, after many edits.
+/// A `Store<NoResults>` keeps none of these, so that an edit of it costs hardly more than the steps
+/// of the kernel. [`Store::with_results`] makes them for all steps at once, after many edits.
 #[derive(Debug)]
-pub struct Store<K: Tracing = Traced> {
+pub struct Store<K: KeptResults = Results> {
     header: Header,
     /// About how many steps are to lie between two checkpoints.
     span: u32,
@@ -51,7 +51,7 @@ pub struct Store<K: Tracing = Traced> {
 }
 
 // Written out, so that whoever drops one has one call to prove, and not one for each list in it.
-impl<K: Tracing> Drop for Store<K> {
+impl<K: KeptResults> Drop for Store<K> {
     fn drop(self) {
         let Store {
             header: _,
@@ -61,7 +61,7 @@ impl<K: Tracing> Drop for Store<K> {
     }
 }
 
-impl<K: Tracing> Model for Store<K> {
+impl<K: KeptResults> Model for Store<K> {
     ghost use Rattle.bench_model.specs.Meeting.{CheckpointedSession};
 
     ghost Value = { CheckpointedSession };
@@ -79,51 +79,56 @@ fn step_at(steps: &[Step], index: u32) -> Option<Step>
     steps.get(index as usize).copied()
 }
 
-// The session, replayed from its start; a refusal gives it back.
-fn opened_store<K: Tracing>(
-    alloc: Global,
-    header: Header,
-    steps: Vec<Step>,
-    span: u32,
-    meter: &mut Meter,
-) -> Result<Store<K>, OpenFault>
-    ensures opened { IfOk result
-        (λ store. store
-        ≡ first_kept span (record { header = header; steps = steps.items })) }
-    ensures accepted { OnOk result (open_check header steps.items span ≡ Ok tt) }
-    ensures refused { (refusal : Refusal) → open_check header steps.items span ≡ Err refusal
-        → result ≡ Err (handed_back header steps.items refusal) }
-    ensures no_memory { open_check header steps.items span ≡ Ok tt
-        → IfErr result (λ fault. fault ≡ no_memory header steps.items) }
-    ensures meter { OnOk result (meter.new ≡ meter_after (length steps.items) meter.old) }
-    ensures uncounted { (refusal : Refusal) → open_check header steps.items span ≡ Err refusal
-        → meter.new ≡ meter.old }
-    ensures some { OnErr result (CountsUpTo (length steps.items) meter.old meter.new) }
-{
-    if let Err(Refused { why, at }) = check_opening(&header, steps.as_slice(), span) {
-        return Err(OpenFault {
-            header,
-            steps: Items::new(steps),
-            at,
-            why,
-        });
+impl<K: KeptResults> Store<K> {
+    /// Replays the session from its start, with a checkpoint every `span` steps. A `Store`, which
+    /// keeps what the steps led to, answers with replies and tasks at once; a `Store<NoResults>` is
+    /// for many edits first.
+    ///
+    /// A refusal gives the session back: F1, else J3, else J2, else the first fault of a step, with
+    /// the step's index.
+    pub fn open(
+        alloc: Global,
+        header: Header,
+        steps: Vec<Step>,
+        span: u32,
+        meter: &mut Meter,
+    ) -> Result<Store<K>, OpenFault>
+        ensures opened { IfOk result
+            (λ store. store
+            ≡ first_kept span (record { header = header; steps = steps.items })) }
+        ensures accepted { OnOk result (open_check header steps.items span ≡ Ok tt) }
+        ensures refused { (refusal : Refusal) → open_check header steps.items span ≡ Err refusal
+            → result ≡ Err (handed_back header steps.items refusal) }
+        ensures no_memory { open_check header steps.items span ≡ Ok tt
+            → IfErr result (λ fault. fault ≡ no_memory header steps.items) }
+        ensures meter { OnOk result (meter.new ≡ meter_after (length steps.items) meter.old) }
+        ensures uncounted { (refusal : Refusal) → open_check header steps.items span ≡ Err refusal
+            → meter.new ≡ meter.old }
+        ensures some { OnErr result (CountsUpTo (length steps.items) meter.old meter.new) }
+    {
+        if let Err(Refused { why, at }) = check_opening(&header, steps.as_slice(), span) {
+            return Err(OpenFault {
+                header,
+                steps: Items::new(steps),
+                at,
+                why,
+            });
+        }
+        match opened(alloc, &header, steps.as_slice(), span, meter) {
+            Ok(segments) => Ok(Store {
+                header,
+                span,
+                segments,
+            }),
+            Err(_) => Err(OpenFault {
+                header,
+                steps: Items::new(steps),
+                at: None,
+                why: OpenRefusal::NoMemory,
+            }),
+        }
     }
-    match opened(alloc, &header, steps.as_slice(), span, meter) {
-        Ok(segments) => Ok(Store {
-            header,
-            span,
-            segments,
-        }),
-        Err(_) => Err(OpenFault {
-            header,
-            steps: Items::new(steps),
-            at: None,
-            why: OpenRefusal::NoMemory,
-        }),
-    }
-}
 
-impl<K: Tracing> Store<K> {
     /// Makes an edit: the session is replayed from the last checkpoint before the edit, up to the
     /// first after it from which the edited session goes on as it did.
     ///
@@ -148,7 +153,7 @@ impl<K: Tracing> Store<K> {
     {
         check_edit(&self.header, self.len(), &edit)?;
         let next = edited_header(alloc, &self.header, &edit)?;
-        let outcome = remake(
+        let outcome = replay_edit(
             alloc,
             &self.header,
             self.span,
@@ -228,33 +233,6 @@ impl<K: Tracing> Store<K> {
 }
 
 impl Store {
-    /// Replays the session from its start and keeps it, with a checkpoint every `span` steps.
-    ///
-    /// A refusal gives the session back: F1, else J3, else J2, else the first fault of a step, with
-    /// the step's index.
-    pub fn open(
-        alloc: Global,
-        header: Header,
-        steps: Vec<Step>,
-        span: u32,
-        meter: &mut Meter,
-    ) -> Result<Store, OpenFault>
-        ensures opened { IfOk result
-            (λ store. store
-            ≡ first_kept span (record { header = header; steps = steps.items })) }
-        ensures accepted { OnOk result (open_check header steps.items span ≡ Ok tt) }
-        ensures refused { (refusal : Refusal) → open_check header steps.items span ≡ Err refusal
-            → result ≡ Err (handed_back header steps.items refusal) }
-        ensures no_memory { open_check header steps.items span ≡ Ok tt
-            → IfErr result (λ fault. fault ≡ no_memory header steps.items) }
-        ensures meter { OnOk result (meter.new ≡ meter_after (length steps.items) meter.old) }
-        ensures uncounted { (refusal : Refusal) → open_check header steps.items span ≡ Err refusal
-            → meter.new ≡ meter.old }
-        ensures some { OnErr result (CountsUpTo (length steps.items) meter.old meter.new) }
-    {
-        opened_store(alloc, header, steps, span, meter)
-    }
-
     /// What [`Store::apply`] would answer, and how each task would fare then. The store stays as it
     /// is, and the meter counts what is replayed.
     ///
@@ -272,9 +250,7 @@ impl Store {
         ensures some { OnErr result
             (CountsUpTo (replayed self.now edit) meter.old meter.new) }
     {
-        check_edit(&self.header, self.len(), &edit)?;
-        let tried = self.try_accepted(alloc, None, &edit, meter)?;
-        Ok(tried)
+        self.trial_with(alloc, None, edit, meter)
     }
 
     /// Sums for many trials of edits of this store, as it is now.
@@ -286,15 +262,15 @@ impl Store {
     }
 
     /// What [`Store::trial`] gives. How the tasks fared long before the edit, and long after what
-    /// is replayed, is taken from the sums.
+    /// is replayed, is taken from the sums, where there are some.
     pub fn trial_with(
         &self,
         alloc: Global,
-        sums: &Sums,
+        sums: Option<&Sums>,
         edit: Edit,
         meter: &mut Meter,
     ) -> Result<(Outcome, Tallies), StoreFault>
-        requires sums { AreSumsOf self.now sums.now }
+        requires sums { IfSome sums (λ sums. AreSumsOf self.now sums.now) }
         ensures tried { IsTried self.now edit result }
         ensures meter { OnOk result (meter.new ≡ meter_after (replayed self.now edit) meter.old) }
         ensures uncounted { (why : Why) → result ≡ Err (StoreFault.Edit why)
@@ -303,8 +279,8 @@ impl Store {
             (CountsUpTo (replayed self.now edit) meter.old meter.new) }
     {
         check_edit(&self.header, self.len(), &edit)?;
-        let answer = self.try_accepted(alloc, Some(sums), &edit, meter)?;
-        Ok(answer)
+        let tried = self.try_accepted(alloc, sums, &edit, meter)?;
+        Ok(tried)
     }
 
     // What an accepted edit would lead to, and how each task would fare then.
@@ -328,12 +304,12 @@ impl Store {
     {
         let next = edited_header(alloc, &self.header, edit)?;
         let segments = &self.segments;
-        let mut parting = parted(alloc, &self.header, segments, &next, edit)?;
+        let mut edited_segment = segment_of_edit(alloc, &self.header, segments, &next, edit)?;
         let (header, span) = (&self.header, self.span);
-        try_from(
+        run_trial(
             alloc,
             sums,
-            &mut parting,
+            &mut edited_segment,
             header,
             span,
             segments,
@@ -405,37 +381,10 @@ impl Store {
     }
 }
 
-impl Store<Untraced> {
-    /// Replays the session from its start, with a checkpoint every `span` steps, and keeps nothing
-    /// else of it.
-    ///
-    /// The refusals are those of [`Store::open`].
-    pub fn open_untraced(
-        alloc: Global,
-        header: Header,
-        steps: Vec<Step>,
-        span: u32,
-        meter: &mut Meter,
-    ) -> Result<Store<Untraced>, OpenFault>
-        ensures opened { IfOk result
-            (λ store. store
-            ≡ first_kept span (record { header = header; steps = steps.items })) }
-        ensures accepted { OnOk result (open_check header steps.items span ≡ Ok tt) }
-        ensures refused { (refusal : Refusal) → open_check header steps.items span ≡ Err refusal
-            → result ≡ Err (handed_back header steps.items refusal) }
-        ensures no_memory { open_check header steps.items span ≡ Ok tt
-            → IfErr result (λ fault. fault ≡ no_memory header steps.items) }
-        ensures meter { OnOk result (meter.new ≡ meter_after (length steps.items) meter.old) }
-        ensures uncounted { (refusal : Refusal) → open_check header steps.items span ≡ Err refusal
-            → meter.new ≡ meter.old }
-        ensures some { OnErr result (CountsUpTo (length steps.items) meter.old meter.new) }
-    {
-        opened_store(alloc, header, steps, span, meter)
-    }
-
+impl Store<NoResults> {
     /// The same store with its replies, the tasks that run at each place, and how each task fared.
     /// All steps are made once more, which the meter counts.
-    pub fn traced(self, alloc: Global, meter: &mut Meter) -> Result<Store, AllocError>
+    pub fn with_results(self, alloc: Global, meter: &mut Meter) -> Result<Store, AllocError>
         ensures store { IfOk result (λ store. store ≡ self) }
         ensures meter { OnOk result
             (meter.new ≡ meter_after (length self.session.steps) meter.old) }
@@ -447,7 +396,7 @@ impl Store<Untraced> {
             span,
             segments,
         } = self;
-        let segments = segments.traced(alloc, meter)?;
+        let segments = segments.with_results(alloc, meter)?;
         Ok(Store {
             header,
             span,

@@ -89,10 +89,10 @@ fn summed(alloc: Global, sums: &Sums, front: &[Segment]) -> Result<(Tallies, usi
     requires some { 0 < length front.now }
     requires sums { HasSumsInFront front.now sums.now }
     ensures tallied { IfOk result
-        (λ begun. (header : ItsHeader) (rest : List SegmentView)
+        (λ summed_front. (header : ItsHeader) (rest : List SegmentView)
         → IsReplay header (front.now ++ rest)
-        → AreTallied header (take begun.1 front.now) begun.0) }
-    ensures within { IfOk result (λ begun. begun.1 ≤ length front.now) }
+        → AreTallied header (take summed_front.1 front.now) summed_front.0) }
+    ensures within { IfOk result (λ summed_front. summed_front.1 ≤ length front.now) }
 {
     let block = (front.len() - 1) / BLOCK;
     let sum = sums.before[block].copy(alloc)?;
@@ -101,7 +101,7 @@ fn summed(alloc: Global, sums: &Sums, front: &[Segment]) -> Result<(Tallies, usi
 
 /// How the tasks fared in some of the first segments, and in how many of them: in none, where there
 /// are no sums.
-pub(crate) fn begun(
+pub(crate) fn summed_front(
     alloc: Global,
     sums: Option<&Sums>,
     front: &[Segment],
@@ -109,10 +109,10 @@ pub(crate) fn begun(
     requires some { 0 < length front.now }
     requires sums { IfSome sums (λ sums. HasSumsInFront front.now sums.now) }
     ensures tallied { IfOk result
-        (λ begun. (header : ItsHeader) (rest : List SegmentView)
+        (λ summed_front. (header : ItsHeader) (rest : List SegmentView)
         → IsReplay header (front.now ++ rest)
-        → AreTallied header (take begun.1 front.now) begun.0) }
-    ensures within { IfOk result (λ begun. begun.1 ≤ length front.now) }
+        → AreTallied header (take summed_front.1 front.now) summed_front.0) }
+    ensures within { IfOk result (λ summed_front. summed_front.1 ≤ length front.now) }
 {
     match sums {
         Some(sums) => summed(alloc, sums, front),

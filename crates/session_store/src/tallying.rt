@@ -5,7 +5,7 @@ ghost use Rattle.segment_laws.specs.Segments.{all_steps};
 ghost use Rattle.session_store.specs.Sums.{HasSums, HasSumsInFront};
 ghost use Rattle.session_store.specs.Trials.{AreTallied, AreTalliedAfter, AreTalliedLater, StayLater};
 
-use crate::sums::{Sums, begun, sum_from};
+use crate::sums::{Sums, sum_from, summed_front};
 use bench_reports::Tallies;
 use session_segments::{Segment, Segments};
 use std::alloc::{AllocError, Global};
@@ -37,7 +37,7 @@ fn tallies_up_to(
     if front.is_empty() {
         return Ok(replayed);
     }
-    let (mut total, count) = begun(alloc, sums, front)?;
+    let (mut total, count) = summed_front(alloc, sums, front)?;
     add_segments(&mut total, &front[count..]);
     total.add(&replayed);
     Ok(total)

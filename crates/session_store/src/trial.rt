@@ -10,17 +10,17 @@ ghost use Rattle.bench_model.specs.Table.{Table};
 ghost use Rattle.bench_model.specs.Tallied.{part_tallies, shape, shape_of, tallied_after, AllCountsBelow};
 ghost use Rattle.bench_reports.specs.Tops.{HasTops};
 ghost use Rattle.segment_laws.specs.Segments.{all_steps};
-ghost use Rattle.session_segments.specs.Again.{HasSettings};
+ghost use Rattle.session_segments.specs.Replaying.{HasSettings};
 ghost use Rattle.session_segments.specs.Counting.{meter_after, CountsUpTo};
 ghost use Rattle.session_store.specs.Kept.{kept_of, session_of, IsKept};
 ghost use Rattle.session_store.specs.Outcomes.{outcome_of};
-ghost use Rattle.session_store.specs.Replays.{IsParting};
+ghost use Rattle.session_store.specs.Replays.{IsEditedSegment};
 ghost use Rattle.session_store.specs.Sums.{HasSums};
 ghost use Rattle.session_store.specs.Trials.{tallies_after, IsMeeting};
 
 use crate::Outcome;
 use crate::edit::{count_steps, later};
-use crate::parting::Parting;
+use crate::edited_segment::EditedSegment;
 use crate::sums::Sums;
 use crate::tallying::tallies_after;
 use bench_reports::Tallies;
@@ -73,18 +73,19 @@ fn retrace(
     requires settings { All (HasSettings kernel.old.settings) after.now }
     requires few_steps { length steps.now + length (all_steps after.now) ≤ max_steps }
     ensures meeting { IfOk result
-        (λ traced. (table : Table) → StandsFor kernel.old table
-        → IsMeeting table steps.now after.now traced.1) }
+        (λ with_results. (table : Table) → StandsFor kernel.old table
+        → IsMeeting table steps.now after.now with_results.1) }
     ensures tallies { IfOk result
-        (λ traced. (table : Table) → StandsFor kernel.old table
-        → traced.0
+        (λ with_results. (table : Table) → StandsFor kernel.old table
+        → with_results.0
         ≡ part_tallies kernel.old.settings table
-        (steps.now ++ all_steps (take traced.1 after.now))) }
-    ensures sizes { IfOk result (λ traced. shape traced.0 ≡ shape_of kernel.old.settings) }
+        (steps.now ++ all_steps (take with_results.1 after.now))) }
+    ensures sizes { IfOk result
+        (λ with_results. shape with_results.0 ≡ shape_of kernel.old.settings) }
     ensures meter { IfOk result
-        (λ traced. meter.new
+        (λ with_results. meter.new
         ≡ meter_after
-        (length steps.now + length (all_steps (take traced.1 after.now))) meter.old) }
+        (length steps.now + length (all_steps (take with_results.1 after.now))) meter.old) }
     ensures unmade { OnErr result (meter.new ≡ meter.old) }
 {
     let mut tallies = Tallies::begin(alloc, kernel)?;
@@ -95,10 +96,10 @@ fn retrace(
 
 /// What the replay of the steps where an accepted edit begins leads to, and how each task would
 /// fare then.
-pub(crate) fn try_from(
+pub(crate) fn run_trial(
     alloc: Global,
     sums: Option<&Sums>,
-    parting: &mut Parting,
+    edited_segment: &mut EditedSegment,
     header: &Header,
     span: u32,
     segments: &Segments,
@@ -109,9 +110,11 @@ pub(crate) fn try_from(
     requires sums { IfSome sums (λ sums. HasSums segments.now sums.now) }
     requires words { IsEditOfWords edit.now }
     requires accepted { accepted (session_of header.now segments.now) edit.now ≡ Ok tt }
-    requires parting { IsParting (session_of header.now segments.now) edit.now segments.now
-        parting.old.kernel parting.old.steps.items parting.old.before parting.old.after }
-    requires from { parting.old.from ≡ length (all_steps (take parting.old.before segments.now)) }
+    requires edited_segment { IsEditedSegment (session_of header.now segments.now) edit.now
+        segments.now edited_segment.old.kernel edited_segment.old.steps.items
+        edited_segment.old.before edited_segment.old.after }
+    requires from { edited_segment.old.from
+        ≡ length (all_steps (take edited_segment.old.before segments.now)) }
     ensures outcome { IfOk result
         (λ tried. tried.0 ≡ outcome_of (kept_of header.now span segments.now) edit.now) }
     ensures tallies { IfOk result
@@ -123,10 +126,14 @@ pub(crate) fn try_from(
         (CountsUpTo (replayed (kept_of header.now span segments.now) edit.now) meter.old
         meter.new) }
 {
-    let (from, before, after) = (parting.from, parting.before, parting.after);
-    let steps = parting.steps.as_slice();
+    let (from, before, after) = (
+        edited_segment.from,
+        edited_segment.before,
+        edited_segment.after,
+    );
+    let steps = edited_segment.steps.as_slice();
     let rest = later(segments, after);
-    let (tallies, count) = retrace(alloc, &mut parting.kernel, steps, rest, meter)?;
+    let (tallies, count) = retrace(alloc, &mut edited_segment.kernel, steps, rest, meter)?;
     let replayed = steps.len() as u32 + count_steps(&rest[..count]);
     let total = tallies_after(alloc, sums, segments, before, after + count, tallies)?;
     let outcome = Outcome {

@@ -11,7 +11,7 @@ use Rattle.bench_types.specs.declared.step.Step.{Step}
 use Rattle.session_text.specs.declared.fault.ReadFault.{ReadFault}
 use Rattle.session_text.specs.declared.fault.TextFault.{TextFault}
 use Rattle.session_text.specs.declared.fault.ReadFault.TheVariants as stop
-use Rattle.session_text.specs.Outcome.{Ends, StopsAt}
+use Rattle.session_text.specs.ReadingRules.{Ends, StopsAt}
 use Rattle.session_text.specs.Session.{session_accepted, steps_accepted}
 use Rattle.bench_types.specs.Name.{is_name}
 
@@ -22,7 +22,8 @@ abbrev pub task_made : List ℕ → ℕ → ℕ → Option TaskArgs
 task_made name priority mask = Some (record { name = name; priority = priority; mask = mask })
 
 -- a name that was made is the text
-pub args_of : (test : Bool) (text name : List ℕ) (priority mask : ℕ) → cond test (name_made text) (Err BadHeader) ≡ Ok name → task_made name priority mask ≡ cond test (task_made text priority mask) None
+pub args_of : (test : Bool) (text name : List ℕ) (priority mask : ℕ) → cond test (name_made text) (Err BadHeader) ≡ Ok name → task_made name priority mask ≡
+    cond test (task_made text priority mask) None
 args_of true text name priority mask e = let same : text ≡ name = cc in rw same refl
 args_of false text name priority mask e = absurd cc
 
@@ -46,7 +47,7 @@ named_none shape e = left (is_name shape.name) shape e
 
 -- what is said of an error
 pub of_refused : {A E : Type 0} (P : A → Type 0) (Q : E → Type 0) (r : Result A E) (e : E) → r ≡ Err e → MatchResult r P Q → Q e
-of_refused P Q r e is told = subst (λ r. MatchResult r P Q) is told
+of_refused P Q r e is known = subst (λ r. MatchResult r P Q) is known
 
 -- a session is refused for its first step at fault
 pub steps_end : (at : List ℕ) (d : Data) (read : Result Header HeaderFlaw) (header : Header) (steps : List Step) (end : ReadFault) → read ≡ Ok header

@@ -12,7 +12,8 @@ use Rattle.session_text.specs.Session.{document, json_or_fault}
 pub document_read : (text : List ℕ) (d : Data) → IsUtf8 text → read text ≡ Some d → document text ≡ Ok d
 document_read text d utf8 is = rw (is_utf8-from_IsUtf8 text utf8, is) refl
 
-refused : (text : List ℕ) (test : Bool) → (test ≡ true → read text ≡ None) → json_or_fault (if test then read text else None) ≡ Err (record { why = NotJson; path = []; detail = detail.None })
+refused : (text : List ℕ) (test : Bool) → (test ≡ true → read text ≡ None) → json_or_fault (if test then read text else None) ≡ Err
+    (record { why = NotJson; path = []; detail = detail.None })
 refused text true none = rw (none refl) refl
 refused text false none = refl
 

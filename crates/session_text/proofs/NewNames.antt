@@ -1,5 +1,6 @@
 -- Names that do not repeat go into a set one after another.
-use Rattle.std.proofs.Common.{◌≡◌, ℕ, suc, ◌+◌, ◌<◌, ◌≤◌, ap, Bool, true, false, not, ◌&&◌, List, [], ◌∷◌, ◌++◌, length, get_or, take, drop, map, bytes_eq, Bor, refl, sym, ◌∙◌, arith, add-one, drop-cons}
+use Rattle.std.proofs.Common.{◌≡◌, ℕ, suc, ◌+◌, ◌<◌, ◌≤◌, ap, Bool, true, false, not, ◌&&◌, List, [], ◌∷◌, ◌++◌, length, get_or, take, drop, map, bytes_eq, Bor}
+use Rattle.std.proofs.Common.{refl, sym, ◌∙◌, arith, add-one, drop-cons}
 use Rattle.std.proofs.lemmas.List.{length-map, length-take, map_more, map_push}
 use Rattle.indexmap.specs.IndexSet.{insert_key}
 use Rattle.session_text.proofs.Lists.{list_any_map}
@@ -18,7 +19,8 @@ are_new names (task ∷ tasks) = not (list_any (bytes_eq task.name) names) && ar
 abbrev are_apart : List (List ℕ) → List TaskArgs → Bool
 are_apart names tasks = list_all (λ name. not (is_taken name tasks)) names
 
-first_apart : (task : TaskArgs) (tasks : List TaskArgs) (names : List (List ℕ)) → are_apart names (task ∷ tasks) ≡ true → list_any (bytes_eq task.name) names ≡ false
+first_apart : (task : TaskArgs) (tasks : List TaskArgs) (names : List (List ℕ)) → are_apart names (task ∷ tasks) ≡ true → list_any (bytes_eq task.name) names ≡
+    false
 first_apart task tasks [] apart = refl
 first_apart task tasks (name ∷ names) apart =
     let same : bytes_eq task.name name ≡ bytes_eq name task.name = nat_list_eq_equiv.symm task.name name in
@@ -51,17 +53,25 @@ pub record GoesOn (tasks : List TaskArgs) (index : ℕ) (names : List (List ℕ)
 -- there are no more names than tasks
 pub few_keys : (tasks : List TaskArgs) (index : ℕ) (keys : List (Bor (List ℕ))) → GoesOn tasks index (map (λ name. name.now) keys) → length keys ≤ length tasks
 few_keys tasks index keys state =
-    omega (arith, length-map keys (λ (name : Bor (List ℕ)). name.now), ap length state.so_far, length-map (take index tasks) (λ (task : TaskArgs). task.name), length-take index tasks)
+    omega (
+      arith,
+      length-map keys (λ (name : Bor (List ℕ)). name.now),
+      ap length state.so_far,
+      length-map (take index tasks) (λ (task : TaskArgs). task.name),
+      length-take index tasks,
+    )
 
 -- the name of the next task is new
-pub is_new : (tasks : List TaskArgs) (index : ℕ) (names : List (List ℕ)) (task : TaskArgs) → index < length tasks → task ≡ get_or tasks index task → GoesOn tasks index names → list_any (bytes_eq task.name) names ≡ false
+pub is_new : (tasks : List TaskArgs) (index : ℕ) (names : List (List ℕ)) (task : TaskArgs) → index < length tasks → task ≡ get_or tasks index task → GoesOn
+    tasks index names → list_any (bytes_eq task.name) names ≡ false
 is_new tasks index names task within at state =
     let front = drop-cons tasks index task within in
     let others : are_new names (get_or tasks index task ∷ drop (suc index) tasks) ≡ true = rw front at state.others in
     let here : list_any (bytes_eq (get_or tasks index task).name) names ≡ false = grind arith in
     rw at here
 
-pub goes_on : (tasks : List TaskArgs) (index : ℕ) (names : List (List ℕ)) (task : TaskArgs) → index < length tasks → task ≡ get_or tasks index task → GoesOn tasks index names → GoesOn tasks (index + 1) (names ++ task.name ∷ [])
+pub goes_on : (tasks : List TaskArgs) (index : ℕ) (names : List (List ℕ)) (task : TaskArgs) → index < length tasks → task ≡ get_or tasks index task → GoesOn
+    tasks index names → GoesOn tasks (index + 1) (names ++ task.name ∷ [])
 goes_on tasks index names task within at state =
     let front = drop-cons tasks index task within in
     let others : are_new names (get_or tasks index task ∷ drop (suc index) tasks) ≡ true = rw front at state.others in
@@ -73,7 +83,9 @@ goes_on tasks index names task within at state =
     }
 
 -- a new name goes last
-pub insert_key_new : (keys : List (Bor (List ℕ))) (key : Bor (List ℕ)) → list_any (bytes_eq key.now) (map (λ name. name.now) keys) ≡ false → map (λ name. name.now) (insert_key (λ a b. bytes_eq a.now b.now) keys key) ≡ map (λ name. name.now) keys ++ key.now ∷ []
+pub insert_key_new : (keys : List (Bor (List ℕ))) (key : Bor (List ℕ)) → list_any (bytes_eq key.now) (map (λ name. name.now) keys) ≡ false → map
+    (λ name. name.now) (insert_key (λ a b. bytes_eq a.now b.now) keys key) ≡ map (λ name. name.now) keys ++ key.now ∷ []
 insert_key_new keys key new =
-    let absent : list_any (λ name. bytes_eq key.now name.now) keys ≡ false = sym (list_any_map (bytes_eq key.now) (λ (name : Bor (List ℕ)). name.now) keys) ∙ new in
+    let absent : list_any (λ name. bytes_eq key.now name.now) keys ≡ false = sym (list_any_map (bytes_eq key.now) (λ (name : Bor (List ℕ)). name.now) keys) ∙
+    new in
     rw (absent, map_push (λ (name : Bor (List ℕ)). name.now) keys key) refl

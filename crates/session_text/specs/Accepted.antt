@@ -9,7 +9,7 @@ use Rattle.bench_types.specs.StepFlaw.{flaw_fault}
 use Rattle.session_text.specs.declared.detail.Detail.TheVariants as detail
 use Rattle.session_text.specs.declared.fault.Why.TheVariants.{Bench}
 use Rattle.session_text.specs.declared.fault.TextFault.{TextFault}
-use Rattle.session_text.specs.Outcome.{◌>>=◌}
+use Rattle.session_text.specs.ReadingRules.{◌>>=◌}
 use Rattle.session_text.specs.Path.{item_path, path_text}
 use Rattle.session_text.specs.UnknownName.{detail_of}
 

@@ -2,7 +2,7 @@
 use Rattle.std.specs.Prelude.{ℕ, suc, List, [], ◌∷◌, Result, Ok}
 use Rattle.serde_json.specs.Data.{Data, Items, no_items, item}
 use Rattle.session_text.specs.declared.fault.TextFault.{TextFault}
-use Rattle.session_text.specs.Outcome.{◌>>=◌}
+use Rattle.session_text.specs.ReadingRules.{◌>>=◌}
 use Rattle.session_text.specs.Member.{array_at}
 use Rattle.session_text.specs.Path.{item_path, member_path}
 

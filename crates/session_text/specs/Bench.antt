@@ -16,7 +16,7 @@ use Rattle.session_text.specs.Array.{list_at}
 use Rattle.session_text.specs.Edit.{edit_at}
 use Rattle.session_text.specs.Member.{object_at, only_at}
 use Rattle.session_text.specs.Names.{known_names, user_names}
-use Rattle.session_text.specs.Outcome.{◌>>=◌}
+use Rattle.session_text.specs.ReadingRules.{◌>>=◌}
 use Rattle.session_text.specs.Path.{member_path}
 use Rattle.session_text.specs.Session.{document, session_at, session_accepted}
 

@@ -17,7 +17,7 @@ use Rattle.session_text.specs.Detail.{words_of}
 use Rattle.session_text.specs.Member.{object_at, member_at, number_at, text_at, only_at}
 use Rattle.session_text.specs.Names.{TaskNames, names_of, user_names}
 use Rattle.session_text.specs.Nearest.{stray}
-use Rattle.session_text.specs.Outcome.{◌>>=◌, found}
+use Rattle.session_text.specs.ReadingRules.{◌>>=◌, found}
 use Rattle.session_text.specs.Path.{member_path}
 use Rattle.session_text.specs.Session.{document}
 use Rattle.session_text.specs.Step.{step_at, task_named_at}
@@ -51,16 +51,16 @@ new_step_at format names at d = do
 unfoldable pub edit_of_kind_at :
     Format → TaskNames → EditKind → List ℕ → Data → Result Edit TextFault
 edit_of_kind_at format names Insert at d = do
-  place ← number_at at (codes "at") d
+  location ← number_at at (codes "at") d
   step ← new_step_at format names at d
-  Ok (edit.Insert place step)
+  Ok (edit.Insert location step)
 edit_of_kind_at format names Remove at d = do
-  place ← number_at at (codes "at") d
-  Ok (edit.Remove place)
+  location ← number_at at (codes "at") d
+  Ok (edit.Remove location)
 edit_of_kind_at format names Replace at d = do
-  place ← number_at at (codes "at") d
+  location ← number_at at (codes "at") d
   step ← new_step_at format names at d
-  Ok (edit.Replace place step)
+  Ok (edit.Replace location step)
 edit_of_kind_at format names Change at d = do
   task ← task_named_at names at (codes "task") d
   priority ← number_at at (codes "priority") d

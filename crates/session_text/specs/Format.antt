@@ -7,7 +7,7 @@ use Rattle.session_text.specs.declared.fault.TextFault.{TextFault}
 use Rattle.session_text.specs.declared.format.Format.{Format}
 use Rattle.session_text.specs.declared.format.Format.TheVariants.{One, Two}
 use Rattle.session_text.specs.Member.{number_at, number_or_at}
-use Rattle.session_text.specs.Outcome.{◌>>=◌, found}
+use Rattle.session_text.specs.ReadingRules.{◌>>=◌, found}
 use Rattle.session_text.specs.Path.{member_path}
 
 abbrev pub format_of : ℕ → Option Format

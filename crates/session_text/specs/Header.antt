@@ -11,7 +11,7 @@ use Rattle.session_text.specs.declared.format.Format.{Format}
 use Rattle.session_text.specs.Array.{list_at}
 use Rattle.session_text.specs.Format.{notes_at}
 use Rattle.session_text.specs.Member.{object_at, number_at, text_at, flag_at, only_at}
-use Rattle.session_text.specs.Outcome.{◌>>=◌}
+use Rattle.session_text.specs.ReadingRules.{◌>>=◌}
 
 unfoldable pub config_at : Format → List ℕ → Data → Result Config TextFault
 config_at format at d = do

@@ -1,6 +1,6 @@
 pub mod Accepted
-pub mod Act
-pub mod Action
+pub mod CoreAction
+pub mod NotifyAction
 pub mod Array
 pub mod Bench
 pub mod Detail
@@ -12,7 +12,7 @@ pub mod Names
 pub mod Nearest
 pub mod Node
 pub mod Noted
-pub mod Outcome
+pub mod ReadingRules
 pub mod Path
 pub mod Rig
 pub mod Session

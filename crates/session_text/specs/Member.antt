@@ -10,7 +10,7 @@ use Rattle.session_text.specs.declared.detail.Detail.TheVariants.{Missing, Unkno
 use Rattle.session_text.specs.declared.fault.TextFault.{TextFault}
 use Rattle.session_text.specs.Detail.{found_of}
 use Rattle.session_text.specs.Nearest.{stray}
-use Rattle.session_text.specs.Outcome.{◌>>=◌, found, bad_shape}
+use Rattle.session_text.specs.ReadingRules.{◌>>=◌, found, bad_shape}
 use Rattle.session_text.specs.Path.{member_path}
 
 -- what was looked for in a value at a place, or H2 there: the value has to be something else

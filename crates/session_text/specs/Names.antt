@@ -27,9 +27,9 @@ known_names (Ok header) = names_of header
 known_names (Err flaw) = no_names
 
 -- 0 is an idle task, for which no step may be made
-abbrev pub number_at_place : ℕ → Option ℕ → ℕ
-number_at_place cores None = 0
-number_at_place cores (Some place) = cores + place
+abbrev pub number_at_location : ℕ → Option ℕ → ℕ
+number_at_location cores None = 0
+number_at_location cores (Some location) = cores + location
 
 abbrev pub number_of : TaskNames → List ℕ → ℕ
-number_of names name = number_at_place names.cores (position (bytes_eq name) names.names)
+number_of names name = number_at_location names.cores (position (bytes_eq name) names.names)

@@ -5,8 +5,8 @@ use Rattle.json_data.specs.View.{view}
 use Rattle.session_text.specs.declared.node.Node.{Node}
 use Rattle.session_text.specs.Path.{path_of}
 
-abbrev pub place_of : Node → List ℕ
-place_of node = path_of node.place.now
+abbrev pub location_of : Node → List ℕ
+location_of node = path_of node.location.now
 
 abbrev pub data_of : Node → Data
 data_of node = view node.value.now

@@ -2,8 +2,8 @@
 -- until it is carried.
 use Rattle.std.specs.Prelude.{ℕ, List, [], ◌∷◌, ◌++◌, Option, Some, None, String, string_bytes, decimal, codes}
 use Rattle.std.specs.declared.alloc.Global.{Global}
-use Rattle.session_text.specs.declared.path.Place.{Place, fold-Place}
-use Rattle.session_text.specs.declared.path.Place.TheOpen.{Place-F}
+use Rattle.session_text.specs.declared.path.Location.{Location, fold-Location}
+use Rattle.session_text.specs.declared.path.Location.TheOpen.{Location-F}
 
 -- what a `Path` is seen as
 abbrev pub bytes_of : Option (String Global) → List ℕ
@@ -25,10 +25,10 @@ path_text [] = codes "top"
 path_text (byte ∷ bytes) = byte ∷ bytes
 
 -- one step of the chain, where the text of the place above it is known
-abbrev pub path_step : Place-F (List ℕ) → List ℕ
-path_step Place-F.Top = []
-path_step (Place-F.Member parent name) = member_path parent.now name.now
-path_step (Place-F.Item parent index) = item_path parent.now index
+abbrev pub path_step : Location-F (List ℕ) → List ℕ
+path_step Location-F.Top = []
+path_step (Location-F.Member parent name) = member_path parent.now name.now
+path_step (Location-F.Item parent index) = item_path parent.now index
 
-abbrev pub path_of : Place → List ℕ
-path_of = fold-Place (List ℕ) path_step
+abbrev pub path_of : Location → List ℕ
+path_of = fold-Location (List ℕ) path_step

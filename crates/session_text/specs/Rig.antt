@@ -1,15 +1,16 @@
 -- A rig document: a session with no steps, how many entries its recording has at most, and what
 -- each core does.
-use Rattle.std.specs.Prelude.{◌≡◌, ◌≤◌, ℕ, suc, Bool, true, ◌&&◌, ◌==◌, nat_lt, List, [], ◌∷◌, length, get_or, codes, is_some, EachIndex, Option, Result, Ok, Err, if◌then◌else◌, ⊤, All}
+use Rattle.std.specs.Prelude.{◌≡◌, ◌≤◌, ℕ, suc, Bool, true, ◌&&◌, ◌==◌, nat_lt, List, [], ◌∷◌, length, get_or, codes, is_some, EachIndex, Option, Result, Ok}
+use Rattle.std.specs.Prelude.{Err, if◌then◌else◌, ⊤, All}
 use Rattle.serde_json.specs.Data.{Data, Items, no_items, item}
 use Rattle.serde_json.specs.Events.{items_len}
 use Rattle.serde_json.specs.Find.{as_array, get}
-use Rattle.bench_types.specs.Act.{IsCheckedAct}
+use Rattle.bench_types.specs.CoreAction.{IsCheckedCoreAction}
 use Rattle.bench_types.specs.Header.{IsCheckedHeader}
 use Rattle.bench_types.specs.Limits.{max_steps}
 use Rattle.bench_types.specs.Step.{settings_of}
-use Rattle.bench_types.specs.StepFlaw.{act_flaw}
-use Rattle.bench_types.specs.declared.act.Act.{Act}
+use Rattle.bench_types.specs.StepFlaw.{core_action_flaw}
+use Rattle.bench_types.specs.declared.core_action.CoreAction.{CoreAction}
 use Rattle.bench_types.specs.declared.fault.Fault.TheVariants.{BadArgument}
 use Rattle.bench_types.specs.declared.flaw.HeaderFlaw.{HeaderFlaw}
 use Rattle.bench_types.specs.declared.header.Header.{Header}
@@ -19,13 +20,13 @@ use Rattle.session_text.specs.declared.fault.Why.TheVariants.{Bench}
 use Rattle.session_text.specs.declared.format.Format.{Format}
 use Rattle.session_text.specs.declared.rig.RigScript.{RigScript}
 use Rattle.session_text.specs.Accepted.{header_fault, item_of, items_accepted}
-use Rattle.session_text.specs.Act.{script_at}
+use Rattle.session_text.specs.CoreAction.{script_at}
 use Rattle.session_text.specs.Array.{list_at}
 use Rattle.session_text.specs.Format.{format_at}
 use Rattle.session_text.specs.Header.{config_at, header_of}
 use Rattle.session_text.specs.Member.{object_at, member_at, array_at, number_at, only_at}
 use Rattle.session_text.specs.Names.{TaskNames, known_names, user_names}
-use Rattle.session_text.specs.Outcome.{◌>>=◌, bad_shape}
+use Rattle.session_text.specs.ReadingRules.{◌>>=◌, bad_shape}
 use Rattle.session_text.specs.Path.{item_path, member_path, path_text}
 use Rattle.session_text.specs.Session.{document, session_members}
 
@@ -68,7 +69,7 @@ one_per_core cores at items =
 
 -- one script per core
 unfoldable pub scripts_at :
-    Format → ℕ → TaskNames → List ℕ → Data → Result (List (List Act)) TextFault
+    Format → ℕ → TaskNames → List ℕ → Data → Result (List (List CoreAction)) TextFault
 scripts_at format cores names at d = do
   items ← array_at at (codes "scripts") d
   done ← one_per_core cores (member_path at (codes "scripts")) items
@@ -80,7 +81,7 @@ rig_members = codes "session" ∷ codes "limit" ∷ codes "scripts" ∷ []
 -- the header, accepted or not, of the session, the limit and the scripts, which are in its format;
 -- shapes alone are judged
 unfoldable pub rig_shapes_at :
-    List ℕ → Data → Result (Result Header HeaderFlaw × ℕ × List (List Act)) TextFault
+    List ℕ → Data → Result (Result Header HeaderFlaw × ℕ × List (List CoreAction)) TextFault
 rig_shapes_at at d = do
   members ← object_at at d
   inner ← member_at at (codes "session") d
@@ -103,14 +104,14 @@ limit_accepted at limit =
 
 -- the first fault of the script of a core, which stands in the array at a place
 abbrev pub script_accepted :
-    Header → List ℕ → Option Data → ℕ → List Act → Result ⊤ TextFault
+    Header → List ℕ → Option Data → ℕ → List CoreAction → Result ⊤ TextFault
 script_accepted header at array core script =
-    items_accepted (act_flaw (settings_of header) core) (user_names header) (item_path at core)
+    items_accepted (core_action_flaw (settings_of header) core) (user_names header) (item_path at core)
     (item_of core array) 0 script
 
 -- the same of the scripts from a core's on
 abbrev pub scripts_accepted :
-    Header → List ℕ → Option Data → ℕ → List (List Act) → Result ⊤ TextFault
+    Header → List ℕ → Option Data → ℕ → List (List CoreAction) → Result ⊤ TextFault
 scripts_accepted header at array core [] = Ok tt
 scripts_accepted header at array core (script ∷ rest) = do
   done ← script_accepted header at array core script
@@ -118,7 +119,7 @@ scripts_accepted header at array core (script ∷ rest) = do
 
 -- F1 of the header comes first; the fault of the limit comes before those of the scripts
 unfoldable pub rig_accepted :
-    List ℕ → Data → Result Header HeaderFlaw → ℕ → List (List Act) → Result RigScript TextFault
+    List ℕ → Data → Result Header HeaderFlaw → ℕ → List (List CoreAction) → Result RigScript TextFault
 rig_accepted at d (Err flaw) limit scripts =
     Err (header_fault (member_path at (codes "session")) flaw)
 rig_accepted at d (Ok header) limit scripts = do
@@ -139,14 +140,14 @@ rig_text text = do
   rig_at [] d
 
 -- each action of each script was checked as one of its core
-abbrev pub AreCheckedScripts : Header → List (List Act) → Type 0
+abbrev pub AreCheckedScripts : Header → List (List CoreAction) → Type 0
 AreCheckedScripts header scripts =
     EachIndex scripts
-    (λ core. All (IsCheckedAct (settings_of header) core) (get_or scripts core []))
+    (λ core. All (IsCheckedCoreAction (settings_of header) core) (get_or scripts core []))
 
 -- there is one script per core, and all was checked under the header
 pub record IsCheckedRig (rig : RigScript) : Type 0 where
   pub header : IsCheckedHeader rig.header
   pub few : rig.limit ≤ max_steps
   pub one_per_core : length rig.scripts ≡ rig.header.config.cores
-  pub acts : AreCheckedScripts rig.header rig.scripts
+  pub core_actions : AreCheckedScripts rig.header rig.scripts

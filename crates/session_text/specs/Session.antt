@@ -19,7 +19,7 @@ use Rattle.session_text.specs.Member.{object_at, only_at}
 use Rattle.session_text.specs.Names.{known_names, user_names}
 use Rattle.session_text.specs.Accepted.{header_fault, items_accepted}
 use Rattle.session_text.specs.Array.{list_at}
-use Rattle.session_text.specs.Outcome.{◌>>=◌}
+use Rattle.session_text.specs.ReadingRules.{◌>>=◌}
 use Rattle.session_text.specs.Path.{member_path}
 use Rattle.session_text.specs.Step.{step_at}
 
@@ -75,7 +75,7 @@ session text = do
   session_accepted [] d read.1 read.2
 
 -- What a call answers: what the reading gives, or that memory ran out.
-abbrev pub Answers : {A B : Type 0} → (A → B) → Result A TextFault → Result B TextFault → Type 0
-Answers view (Ok x) reading = reading ≡ Ok (view x)
-Answers view (Err fault) reading =
+abbrev pub ReadsAs : {A B : Type 0} → (A → B) → Result A TextFault → Result B TextFault → Type 0
+ReadsAs view (Ok x) reading = reading ≡ Ok (view x)
+ReadsAs view (Err fault) reading =
     (reading ≡ Err fault) ⊎ (fault ≡ record { why = NoMemory; path = []; detail = detail.None })

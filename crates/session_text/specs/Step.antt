@@ -1,8 +1,8 @@
 -- A step: `do` says which, and after it stand the members of its kind.
 use Rattle.std.specs.Prelude.{ℕ, List, [], ◌∷◌, codes, bytes_eq, find, Option, Some, None, option_map, Result, Ok}
 use Rattle.serde_json.specs.Data.{Data}
-use Rattle.bench_types.specs.declared.act.Act.{Act}
-use Rattle.bench_types.specs.declared.act.Act.TheVariants as act
+use Rattle.bench_types.specs.declared.core_action.CoreAction.{CoreAction}
+use Rattle.bench_types.specs.declared.core_action.CoreAction.TheVariants as core_action
 use Rattle.bench_types.specs.declared.note.Note.{Note}
 use Rattle.bench_types.specs.declared.step.Step.{Step}
 use Rattle.bench_types.specs.declared.step.Step.TheVariants as step
@@ -16,12 +16,12 @@ use Rattle.session_text.specs.declared.call.CallKind.{CallKind}
 use Rattle.session_text.specs.declared.call.CallKind.TheVariants as callkind
 use Rattle.session_text.specs.declared.format.Format.{Format}
 use Rattle.session_text.specs.Detail.{words_of}
-use Rattle.session_text.specs.Action.{action_at, action_number}
+use Rattle.session_text.specs.NotifyAction.{action_at, action_number}
 use Rattle.session_text.specs.Format.{index_at, index_member}
 use Rattle.session_text.specs.Member.{object_at, number_at, text_at, flag_at, only_at}
 use Rattle.session_text.specs.Names.{TaskNames, number_of}
 use Rattle.session_text.specs.Nearest.{stray}
-use Rattle.session_text.specs.Outcome.{◌>>=◌, found}
+use Rattle.session_text.specs.ReadingRules.{◌>>=◌, found}
 use Rattle.session_text.specs.Path.{member_path}
 
 -- the words of `do`
@@ -86,24 +86,24 @@ arguments_of format call.HoldOpen = []
 arguments_of format call.HoldClose = []
 
 -- the members of an action
-abbrev pub members_of_act : Format → Act → List (List ℕ)
-members_of_act format act.Tick = codes "do" ∷ []
-members_of_act format act.Switch = codes "do" ∷ []
-members_of_act format (act.Call made) = codes "do" ∷ arguments_of format made
-members_of_act format (act.Interrupt note) =
+abbrev pub members_of_core_action : Format → CoreAction → List (List ℕ)
+members_of_core_action format core_action.Tick = codes "do" ∷ []
+members_of_core_action format core_action.Switch = codes "do" ∷ []
+members_of_core_action format (core_action.Call made) = codes "do" ∷ arguments_of format made
+members_of_core_action format (core_action.Interrupt note) =
     codes "do" ∷ note_members format (action_number note.action)
 
 -- a step has `core` beside the members of its action, and a call has `by` too
 abbrev pub members_of_call : Format → Call → List (List ℕ)
 members_of_call format made =
-    codes "core" ∷ codes "by" ∷ members_of_act format (act.Call made)
+    codes "core" ∷ codes "by" ∷ members_of_core_action format (core_action.Call made)
 
 abbrev pub members_of_interrupt : Format → Note → List (List ℕ)
-members_of_interrupt format note = codes "core" ∷ members_of_act format (act.Interrupt note)
+members_of_interrupt format note = codes "core" ∷ members_of_core_action format (core_action.Interrupt note)
 
 abbrev pub members_of : Format → Step → List (List ℕ)
-members_of format step.Tick = members_of_act format act.Tick
-members_of format (step.Switch core) = codes "core" ∷ members_of_act format act.Switch
+members_of format step.Tick = members_of_core_action format core_action.Tick
+members_of format (step.Switch core) = codes "core" ∷ members_of_core_action format core_action.Switch
 members_of format (step.Call core task made) = members_of_call format made
 members_of format (step.Interrupt core note) = members_of_interrupt format note
 

@@ -4,18 +4,18 @@ ghost use Rattle.serde_json.specs.Find.{at};
 ghost use Rattle.json_data.specs.View.{view};
 ghost use Rattle.session_text.specs.Accepted.{item_accepted, item_fault, item_of, items_accepted};
 ghost use Rattle.session_text.specs.Names.{user_names};
-ghost use Rattle.session_text.specs.Outcome.{Gives, StopsAt};
+ghost use Rattle.session_text.specs.ReadingRules.{Gives, StopsAt};
 ghost use Rattle.session_text.specs.Path.{item_path, path_of};
 
 use crate::detail::Detail;
 use crate::fault::{ReadFault, Why};
-use crate::path::Place;
+use crate::path::Location;
 use bench_types::{Edit, Header, Step, StepFlaw};
 use json_data::Item;
 use std::alloc::Global;
 
 /// What can be found at fault under a header, or under what else it has to fit.
-pub(crate) trait Judged<H> {
+pub(crate) trait HasCheck<H> {
     ghost use Rattle.std.specs.Prelude.{◌≡◌, IfNone, Option};
     ghost use Rattle.bench_types.specs.declared.step_flaw.StepFlaw.{StepFlaw};
 
@@ -29,7 +29,7 @@ pub(crate) trait Judged<H> {
         ensures checked { IfNone result (IsChecked header.now self.now) };
 }
 
-impl Judged<Header> for Step {
+impl HasCheck<Header> for Step {
     ghost use Rattle.bench_types.specs.Step.{settings_of, IsCheckedStep};
     ghost use Rattle.bench_types.specs.StepFlaw.{step_flaw};
 
@@ -42,7 +42,7 @@ impl Judged<Header> for Step {
     }
 }
 
-impl Judged<Header> for Edit {
+impl HasCheck<Header> for Edit {
     ghost use Rattle.bench_types.specs.Edit.{IsCheckedEdit};
     ghost use Rattle.bench_types.specs.StepFlaw.{edit_flaw};
 
@@ -78,16 +78,16 @@ impl HasHeader for Header {
 pub(crate) fn item_fault(
     alloc: Global,
     header: &Header,
-    place: &Place<'_>,
+    location: &Location<'_>,
     value: Option<&Item<'_, '_>>,
     flaw: StepFlaw,
 ) -> ReadFault
     ensures { StopsAt
-        (item_fault (user_names header.now) (path_of place.now)
+        (item_fault (user_names header.now) (path_of location.now)
         (option_map (λ it. view it.now) value.entry) flaw) result }
 {
     match Detail::of_flaw(alloc, header, value, flaw) {
-        Ok(detail) => ReadFault::at(alloc, place, Why::Bench(flaw.fault()), detail),
+        Ok(detail) => ReadFault::at(alloc, location, Why::Bench(flaw.fault()), detail),
         Err(_) => ReadFault::Memory,
     }
 }
@@ -96,7 +96,7 @@ pub(crate) fn item_fault(
 #[derive(Drop)]
 pub(crate) struct Source<'p, 'v> {
     pub(crate) alloc: Global,
-    pub(crate) place: &'p Place<'p>,
+    pub(crate) location: &'p Location<'p>,
     pub(crate) value: Option<Item<'p, 'v>>,
 }
 
@@ -113,12 +113,12 @@ impl<'p, 'v> Source<'p, 'v> {
 
     fn fault(&self, header: &Header, index: usize, flaw: StepFlaw) -> ReadFault
         ensures { StopsAt
-            (item_fault (user_names header.now) (item_path (path_of self.now.place.now) index)
+            (item_fault (user_names header.now) (item_path (path_of self.now.location.now) index)
             (item_of index (option_map view self.now.value)) flaw) result }
     {
-        let place = Place::Item(self.place, index);
+        let location = Location::Item(self.location, index);
         let item = self.item(index);
-        item_fault(self.alloc, header, &place, item.as_ref(), flaw)
+        item_fault(self.alloc, header, &location, item.as_ref(), flaw)
     }
 }
 
@@ -137,7 +137,7 @@ fn item_at<'p, 'v>(array: &Item<'p, 'v>, index: usize) -> Option<Item<'p, 'v>>
 }
 
 /// The fault of the item of that index, if there is one.
-fn item_accepted<H: HasHeader, T: Judged<H>>(
+fn item_accepted<H: HasHeader, T: HasCheck<H>>(
     source: &Source<'_, '_>,
     header: &H,
     index: usize,
@@ -145,7 +145,7 @@ fn item_accepted<H: HasHeader, T: Judged<H>>(
 ) -> Result<(), ReadFault>
     ensures reading { Gives (λ done. done) result
         (item_accepted (user_names (H.header_of header.now))
-        (item_path (path_of source.now.place.now) index)
+        (item_path (path_of source.now.location.now) index)
         (item_of index (option_map view source.now.value)) (T.flaw_of header.now item.now)) }
     ensures checked { OnOk result (T.IsChecked header.now item.now) }
 {
@@ -156,14 +156,14 @@ fn item_accepted<H: HasHeader, T: Judged<H>>(
 }
 
 /// The first fault of the items that were read there, if there is one.
-pub(crate) fn items_accepted<H: HasHeader, T: Judged<H>>(
+pub(crate) fn items_accepted<H: HasHeader, T: HasCheck<H>>(
     source: &Source<'_, '_>,
     header: &H,
     items: &[T],
 ) -> Result<(), ReadFault>
     ensures reading { Gives (λ done. done) result
         (items_accepted (T.flaw_of header.now) (user_names (H.header_of header.now))
-        (path_of source.now.place.now) (option_map view source.now.value) 0 items.now) }
+        (path_of source.now.location.now) (option_map view source.now.value) 0 items.now) }
     ensures checked { OnOk result (All (T.IsChecked header.now) items.now) }
 {
     for (index, item) in items.iter().enumerate() {

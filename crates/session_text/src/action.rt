@@ -1,18 +1,18 @@
 //! What a notification does to a value, as texts write it.
 ghost use Rattle.std.specs.Prelude.{◌≡◌, map};
-ghost use Rattle.bench_types.specs.Step.{IsActionOfWord};
-ghost use Rattle.session_text.specs.Action.{action_at, action_kind_at, action_kind_of, action_kinds, action_number, action_of_kind_at};
+ghost use Rattle.bench_types.specs.Step.{IsNotifyActionOfWord};
+ghost use Rattle.session_text.specs.NotifyAction.{action_at, action_kind_at, action_kind_of, action_kinds, action_number, action_of_kind_at};
 ghost use Rattle.session_text.specs.Detail.{words_of};
-ghost use Rattle.session_text.specs.Node.{data_of, place_of};
-ghost use Rattle.session_text.specs.Outcome.{Gives};
+ghost use Rattle.session_text.specs.Node.{data_of, location_of};
+ghost use Rattle.session_text.specs.ReadingRules.{Gives};
 
 use crate::fault::ReadFault;
 use crate::node::Node;
-use bench_types::Action;
+use bench_types::NotifyAction;
 
 /// What `action` says of a notification.
 #[derive(Clone, Copy)]
-pub(crate) enum ActionKind {
+pub(crate) enum NotifyActionKind {
     Nothing,
     SetBits,
     Increment,
@@ -20,67 +20,76 @@ pub(crate) enum ActionKind {
     SetNew,
 }
 
-#[tactic(auto, unfolding(crate::specs::Action::action_kind_at))]
-fn action_kind_at(node: &Node<'_, '_, '_>) -> Result<ActionKind, ReadFault>
+#[tactic(auto, unfolding(crate::specs::NotifyAction::action_kind_at))]
+fn action_kind_at(node: &Node<'_, '_, '_>) -> Result<NotifyActionKind, ReadFault>
     ensures { Gives (λ kind. kind) result
-        (action_kind_at (place_of node.now) (data_of node.now)) }
+        (action_kind_at (location_of node.now) (data_of node.now)) }
 {
     let word = node.text("action")?;
-    node.meant("action", word, ActionKind::words(), ActionKind::of(word))
+    node.meant(
+        "action",
+        word,
+        NotifyActionKind::words(),
+        NotifyActionKind::of(word),
+    )
 }
 
-impl ActionKind {
+impl NotifyActionKind {
     fn words() -> &'static [&'static str]
         ensures { map (λ word. word.now) result.now ≡ words_of action_kinds }
     {
         &["none", "set_bits", "increment", "set", "set_new"]
     }
 
-    fn of(word: &str) -> Option<ActionKind>
+    fn of(word: &str) -> Option<NotifyActionKind>
         ensures { result ≡ action_kind_of word.now }
     {
         match word {
-            "none" => Some(ActionKind::Nothing),
-            "set_bits" => Some(ActionKind::SetBits),
-            "increment" => Some(ActionKind::Increment),
-            "set" => Some(ActionKind::Set),
-            "set_new" => Some(ActionKind::SetNew),
+            "none" => Some(NotifyActionKind::Nothing),
+            "set_bits" => Some(NotifyActionKind::SetBits),
+            "increment" => Some(NotifyActionKind::Increment),
+            "set" => Some(NotifyActionKind::Set),
+            "set_new" => Some(NotifyActionKind::SetNew),
             _ => None,
         }
     }
 }
 
-#[tactic(auto, unfolding(crate::specs::Action::action_of_kind_at))]
-fn action_of_kind_at(kind: ActionKind, node: &Node<'_, '_, '_>) -> Result<Action, ReadFault>
+#[tactic(auto, unfolding(crate::specs::NotifyAction::action_of_kind_at))]
+fn action_of_kind_at(
+    kind: NotifyActionKind,
+    node: &Node<'_, '_, '_>,
+) -> Result<NotifyAction, ReadFault>
     ensures { Gives (λ action. action) result
-        (action_of_kind_at kind (place_of node.now) (data_of node.now)) }
+        (action_of_kind_at kind (location_of node.now) (data_of node.now)) }
 {
     match kind {
-        ActionKind::Nothing => Ok(Action::Nothing),
-        ActionKind::SetBits => Ok(Action::SetBits(node.number("value")?)),
-        ActionKind::Increment => Ok(Action::Increment),
-        ActionKind::Set => Ok(Action::Set(node.number("value")?)),
-        ActionKind::SetNew => Ok(Action::SetNew(node.number("value")?)),
+        NotifyActionKind::Nothing => Ok(NotifyAction::Nothing),
+        NotifyActionKind::SetBits => Ok(NotifyAction::SetBits(node.number("value")?)),
+        NotifyActionKind::Increment => Ok(NotifyAction::Increment),
+        NotifyActionKind::Set => Ok(NotifyAction::Set(node.number("value")?)),
+        NotifyActionKind::SetNew => Ok(NotifyAction::SetNew(node.number("value")?)),
     }
 }
 
 /// What a notification does to its task's value.
-#[tactic(auto, unfolding(crate::specs::Action::action_at))]
-pub(crate) fn action_at(node: &Node<'_, '_, '_>) -> Result<Action, ReadFault>
+#[tactic(auto, unfolding(crate::specs::NotifyAction::action_at))]
+pub(crate) fn action_at(node: &Node<'_, '_, '_>) -> Result<NotifyAction, ReadFault>
     ensures { Gives (λ action. action) result
-        (action_at (place_of node.now) (data_of node.now)) }
+        (action_at (location_of node.now) (data_of node.now)) }
 {
     let kind = action_kind_at(node)?;
     action_of_kind_at(kind, node)
 }
 
 /// The number that the action has as the member `value`, if it has one.
-pub(crate) fn action_number(action: Action) -> Option<u32>
+pub(crate) fn action_number(action: NotifyAction) -> Option<u32>
     ensures number { result ≡ action_number action }
-    ensures typed { IsActionOfWord action }
+    ensures typed { IsNotifyActionOfWord action }
 {
     match action {
-        Action::Nothing | Action::Increment => None,
-        Action::SetBits(value) | Action::Set(value) | Action::SetNew(value) => Some(value),
+        NotifyAction::Nothing | NotifyAction::Increment => None,
+        NotifyAction::SetBits(value) | NotifyAction::Set(value) | NotifyAction::SetNew(value) =>
+            Some(value),
     }
 }

@@ -2,13 +2,13 @@
 ghost use Rattle.std.specs.Prelude.{◌≡◌};
 ghost use Rattle.json_data.specs.View.{items_view};
 ghost use Rattle.session_text.specs.Array.{each_at, list_at};
-ghost use Rattle.session_text.specs.Node.{data_of, place_of};
-ghost use Rattle.session_text.specs.Outcome.{Gives};
+ghost use Rattle.session_text.specs.Node.{data_of, location_of};
+ghost use Rattle.session_text.specs.ReadingRules.{Gives};
 ghost use Rattle.session_text.specs.Path.{path_of};
 
 use crate::fault::ReadFault;
 use crate::node::Node;
-use crate::path::Place;
+use crate::path::Location;
 use json_data::{Gathered, Items};
 use std::alloc::Global;
 
@@ -17,8 +17,8 @@ pub(crate) trait ReadItem<'v> {
     ghost use Rattle.std.specs.Prelude.{ℕ, List, Result};
     ghost use Rattle.serde_json.specs.Data.{Data};
     ghost use Rattle.session_text.specs.declared.fault.TextFault.{TextFault};
-    ghost use Rattle.session_text.specs.Node.{data_of, place_of};
-    ghost use Rattle.session_text.specs.Outcome.{Gives};
+    ghost use Rattle.session_text.specs.Node.{data_of, location_of};
+    ghost use Rattle.session_text.specs.ReadingRules.{Gives};
 
     type Item: Drop;
 
@@ -26,26 +26,26 @@ pub(crate) trait ReadItem<'v> {
 
     fn read(&self, node: &Node<'_, '_, 'v>) -> Result<Self::Item, ReadFault>
         ensures { Gives (λ item. item) result
-            (reading self.now (place_of node.now) (data_of node.now)) };
+            (reading self.now (location_of node.now) (data_of node.now)) };
 }
 
 /// Reads the items of the array at the place, one after another.
 pub(crate) fn each<'v, R: ReadItem<'v>>(
     alloc: Global,
     reader: &R,
-    place: &Place<'_>,
+    location: &Location<'_>,
     items: &mut Items<'_, 'v>,
 ) -> Result<Vec<R::Item>, ReadFault>
     ensures { Gives (λ read. read.items) result
-        (each_at (R.reading reader.now) (path_of place.now) 0 (items_view items.old)) }
+        (each_at (R.reading reader.now) (path_of location.now) 0 (items_view items.old)) }
 {
     let mut read = Vec::new(alloc);
     while let Some(value) = items.next() {
-        let place = &Place::Item(place, read.len());
+        let location = &Location::Item(location, read.len());
         let value = &Gathered::of(value);
         read.push(reader.read(&Node {
             alloc,
-            place,
+            location,
             value,
         })?)?;
     }
@@ -60,13 +60,13 @@ pub(crate) fn list_at<'v, R: ReadItem<'v>>(
     name: &str,
 ) -> Result<Vec<R::Item>, ReadFault>
     ensures { Gives (λ items. items.items) result
-        (list_at (R.reading reader.now) (place_of node.now) name.now (data_of node.now)) }
+        (list_at (R.reading reader.now) (location_of node.now) name.now (data_of node.now)) }
 {
     let mut items = node.array(name)?;
     each(
         node.alloc,
         reader,
-        &Place::Member(node.place, name),
+        &Location::Member(node.location, name),
         &mut items,
     )
 }

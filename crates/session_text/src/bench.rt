@@ -6,10 +6,10 @@ ghost use Rattle.json_data.specs.View.{document_view, view};
 ghost use Rattle.bench_types.specs.Edit.{IsCheckedEdit};
 ghost use Rattle.bench_types.specs.Header.{IsCheckedHeader};
 ghost use Rattle.session_text.specs.Bench.{bench_accepted, bench_at, bench_text, edited_at, edits_accepted, shapes_at, unedited_at, IsCheckedBench};
-ghost use Rattle.session_text.specs.Node.{data_of, place_of};
+ghost use Rattle.session_text.specs.Node.{data_of, location_of};
 ghost use Rattle.session_text.specs.Noted.{doubled_view};
-ghost use Rattle.session_text.specs.Outcome.{Gives};
-ghost use Rattle.session_text.specs.Session.{Answers};
+ghost use Rattle.session_text.specs.ReadingRules.{Gives};
+ghost use Rattle.session_text.specs.Session.{ReadsAs};
 
 use crate::accepted::{Source, items_accepted};
 use crate::array::list_at;
@@ -17,7 +17,7 @@ use crate::edit::EditReader;
 use crate::fault::{ReadFault, TextFault};
 use crate::node::Node;
 use crate::noted::{Noted, doubled_member};
-use crate::path::Place;
+use crate::path::Location;
 use crate::session::{document, known_names, session_accepted, session_at};
 use bench_types::{Edit, Header, HeaderFlaw, Items, Step};
 use json_data::{Document, Gathered, Scratch};
@@ -37,7 +37,7 @@ pub struct Bench {
 /// Whether a session has the places of its edits is not looked at.
 pub fn read_bench(alloc: Global, text: &[u8]) -> Result<Bench, TextFault>
     // The session and its edits, or the first fault with its path, or that memory ran out.
-    ensures reading { Answers (λ bench. bench) result (bench_text text.now) }
+    ensures reading { ReadsAs (λ bench. bench) result (bench_text text.now) }
     // So no check of the header, of a step or of an edit fails later.
     ensures checked { IfOk result IsCheckedBench }
 {
@@ -61,14 +61,14 @@ fn bench_in(alloc: Global, document: &Document<'_>) -> Result<Bench, ReadFault>
 {
     bench_at(&Node {
         alloc,
-        place: &Place::Top,
+        location: &Location::Top,
         value: &Gathered::of(document.root()),
     })
 }
 
 /// The same, with its first member that stands twice.
 pub fn read_bench_noted(alloc: Global, text: &[u8]) -> Result<Noted<Bench>, TextFault>
-    ensures reading { Answers (λ noted. noted.document) result (bench_text text.now) }
+    ensures reading { ReadsAs (λ noted. noted.document) result (bench_text text.now) }
     ensures checked { IfOk result (λ noted. IsCheckedBench noted.document) }
     ensures doubled { IfOk result
         (λ noted. doubled_view noted.doubled ≡ doubled_in_text text.now) }
@@ -95,7 +95,7 @@ fn noted_bench(alloc: Global, text: &[u8]) -> Result<Noted<Bench>, ReadFault>
 
 fn bench_at(node: &Node<'_, '_, '_>) -> Result<Bench, ReadFault>
     ensures reading { Gives (λ bench. bench) result
-        (bench_at (place_of node.now) (data_of node.now)) }
+        (bench_at (location_of node.now) (data_of node.now)) }
     ensures checked { IfOk result IsCheckedBench }
 {
     match node.value.item().get("session") {
@@ -108,7 +108,7 @@ fn bench_at(node: &Node<'_, '_, '_>) -> Result<Bench, ReadFault>
 #[tactic(auto, unfolding(crate::specs::Bench::unedited_at))]
 fn unedited_at(node: &Node<'_, '_, '_>) -> Result<Bench, ReadFault>
     ensures reading { Gives (λ bench. bench) result
-        (unedited_at (place_of node.now) (data_of node.now)) }
+        (unedited_at (location_of node.now) (data_of node.now)) }
     ensures checked { IfOk result IsCheckedBench }
 {
     let (_format, header, steps) = session_at(node)?;
@@ -124,7 +124,7 @@ fn unedited_at(node: &Node<'_, '_, '_>) -> Result<Bench, ReadFault>
 #[tactic(auto, unfolding(crate::specs::Bench::edited_at))]
 fn edited_at(node: &Node<'_, '_, '_>, session: &Gathered<'_, '_>) -> Result<Bench, ReadFault>
     ensures reading { Gives (λ bench. bench) result
-        (edited_at (place_of node.now) (data_of node.now) (view session.now)) }
+        (edited_at (location_of node.now) (data_of node.now) (view session.now)) }
     ensures checked { IfOk result IsCheckedBench }
 {
     let (header, steps, edits) = shapes_at(node, session)?;
@@ -138,13 +138,13 @@ fn shapes_at(
     session: &Gathered<'_, '_>,
 ) -> Result<(Result<Header, HeaderFlaw>, Vec<Step>, Vec<Edit>), ReadFault>
     ensures reading { Gives (λ read. (read.0, read.1.items, read.2.items)) result
-        (shapes_at (place_of node.now) (data_of node.now) (view session.now)) }
+        (shapes_at (location_of node.now) (data_of node.now) (view session.now)) }
     ensures valid { IfOk result (λ read. IfOk read.0 IsCheckedHeader) }
 {
     let members = node.object()?;
     let (format, header, steps) = session_at(&Node {
         alloc: node.alloc,
-        place: &Place::Member(node.place, "session"),
+        location: &Location::Member(node.location, "session"),
         value: session,
     })?;
     let names = known_names(node.alloc, &header)?;
@@ -169,13 +169,13 @@ fn bench_accepted(
 ) -> Result<Bench, ReadFault>
     requires { ForOk header IsCheckedHeader }
     ensures reading { Gives (λ bench. bench) result
-        (bench_accepted (place_of node.now) (data_of node.now) (view session.now)
+        (bench_accepted (location_of node.now) (data_of node.now) (view session.now)
         header steps.items edits.items) }
     ensures checked { IfOk result IsCheckedBench }
 {
     let inner = Node {
         alloc: node.alloc,
-        place: &Place::Member(node.place, "session"),
+        location: &Location::Member(node.location, "session"),
         value: session,
     };
     let (header, steps) = session_accepted(&inner, header, steps)?;
@@ -190,12 +190,12 @@ fn bench_accepted(
 #[tactic(auto, unfolding(crate::specs::Bench::edits_accepted))]
 fn edits_accepted(node: &Node<'_, '_, '_>, header: &Header, edits: &[Edit]) -> Result<(), ReadFault>
     ensures reading { Gives (λ done. done) result
-        (edits_accepted header.now (place_of node.now) (data_of node.now) edits.now) }
+        (edits_accepted header.now (location_of node.now) (data_of node.now) edits.now) }
     ensures checked { OnOk result (All (IsCheckedEdit header.now) edits.now) }
 {
     let source = Source {
         alloc: node.alloc,
-        place: &Place::Member(node.place, "edits"),
+        location: &Location::Member(node.location, "edits"),
         value: node.value.item().get("edits"),
     };
     items_accepted(&source, header, edits)

@@ -1,8 +1,8 @@
 //! Calls, as texts write them.
 ghost use Rattle.std.specs.Prelude.{◌≡◌, map};
 ghost use Rattle.bench_types.specs.declared.step.Call.TheVariants as call;
-ghost use Rattle.session_text.specs.Node.{data_of, place_of};
-ghost use Rattle.session_text.specs.Outcome.{Gives};
+ghost use Rattle.session_text.specs.Node.{data_of, location_of};
+ghost use Rattle.session_text.specs.ReadingRules.{Gives};
 ghost use Rattle.session_text.specs.Step.{call_at, members_of_call, members_of_interrupt, note_at, wait_at};
 
 use crate::action::{action_at, action_number};
@@ -42,7 +42,7 @@ pub(crate) fn note_at(
     node: &Node<'_, '_, '_>,
 ) -> Result<Note, ReadFault>
     ensures { Gives (λ note. note) result
-        (note_at format names.now (place_of node.now) (data_of node.now)) }
+        (note_at format names.now (location_of node.now) (data_of node.now)) }
 {
     Ok(Note {
         task: names.task_named_at(node, "to")?,
@@ -54,7 +54,7 @@ pub(crate) fn note_at(
 #[tactic(auto, unfolding(crate::specs::Step::wait_at))]
 fn wait_at(format: Format, node: &Node<'_, '_, '_>) -> Result<Call, ReadFault>
     ensures { Gives (λ call. call) result
-        (wait_at format (place_of node.now) (data_of node.now)) }
+        (wait_at format (location_of node.now) (data_of node.now)) }
 {
     Ok(Call::NotifyWait {
         entry: node.number("entry")?,
@@ -72,7 +72,7 @@ pub(crate) fn call_at(
     node: &Node<'_, '_, '_>,
 ) -> Result<Call, ReadFault>
     ensures { Gives (λ call. call) result
-        (call_at format names.now kind (place_of node.now) (data_of node.now)) }
+        (call_at format names.now kind (location_of node.now) (data_of node.now)) }
 {
     match kind {
         CallKind::Yield => Ok(Call::Yield),

@@ -5,9 +5,9 @@ ghost use Rattle.bench_types.specs.Header.{header_check};
 ghost use Rattle.json_data.specs.View.{document_view};
 ghost use Rattle.session_text.specs.Detail.{words_of};
 ghost use Rattle.session_text.specs.Edit.{edit_kind_at, edit_kind_of, edit_kinds, edit_members_of, edit_of_kind_at, edit_text, lone_edit_at, new_step_at};
-ghost use Rattle.session_text.specs.Node.{data_of, place_of};
-ghost use Rattle.session_text.specs.Outcome.{Gives};
-ghost use Rattle.session_text.specs.Session.{Answers};
+ghost use Rattle.session_text.specs.Node.{data_of, location_of};
+ghost use Rattle.session_text.specs.ReadingRules.{Gives};
+ghost use Rattle.session_text.specs.Session.{ReadsAs};
 
 use crate::accepted::item_fault;
 use crate::array::ReadItem;
@@ -15,7 +15,7 @@ use crate::fault::{ReadFault, TextFault};
 use crate::format::Format;
 use crate::names::Names;
 use crate::node::Node;
-use crate::path::Place;
+use crate::path::Location;
 use crate::session::document;
 use crate::step::StepReader;
 use bench_types::{Edit, Header, Step};
@@ -29,7 +29,7 @@ use std::alloc::Global;
 pub fn read_edit(alloc: Global, text: &[u8], header: &Header) -> Result<Edit, TextFault>
     requires { header_check header.now ≡ Ok tt }
     // The edit, or the first fault with its path, or that memory ran out.
-    ensures reading { Answers (λ edit. edit) result (edit_text header.now text.now) }
+    ensures reading { ReadsAs (λ edit. edit) result (edit_text header.now text.now) }
     // So its check doesn't fail later.
     ensures checked { IfOk result (IsCheckedEdit header.now) }
 {
@@ -56,7 +56,7 @@ fn edit_in(alloc: Global, document: &Document<'_>, header: &Header) -> Result<Ed
 {
     let node = Node {
         alloc,
-        place: &Place::Top,
+        location: &Location::Top,
         value: &Gathered::of(document.root()),
     };
     lone_edit_at(&node, header)
@@ -67,7 +67,7 @@ fn edit_in(alloc: Global, document: &Document<'_>, header: &Header) -> Result<Ed
 fn lone_edit_at(node: &Node<'_, '_, '_>, header: &Header) -> Result<Edit, ReadFault>
     requires { header_check header.now ≡ Ok tt }
     ensures reading { Gives (λ edit. edit) result
-        (lone_edit_at header.now (place_of node.now) (data_of node.now)) }
+        (lone_edit_at header.now (location_of node.now) (data_of node.now)) }
     ensures checked { IfOk result (IsCheckedEdit header.now) }
 {
     let names = Names::of(node.alloc, header)?;
@@ -80,7 +80,7 @@ fn lone_edit_at(node: &Node<'_, '_, '_>, header: &Header) -> Result<Edit, ReadFa
         None => Ok(edit),
         Some(flaw) => {
             let value = Some(node.value.item());
-            Err(item_fault(node.alloc, header, node.place, value, flaw))
+            Err(item_fault(node.alloc, header, node.location, value, flaw))
         }
     }
 }
@@ -127,7 +127,7 @@ impl EditKind {
 
 #[tactic(auto, unfolding(crate::specs::Edit::edit_kind_at))]
 fn edit_kind_at(node: &Node<'_, '_, '_>) -> Result<EditKind, ReadFault>
-    ensures { Gives (λ kind. kind) result (edit_kind_at (place_of node.now) (data_of node.now)) }
+    ensures { Gives (λ kind. kind) result (edit_kind_at (location_of node.now) (data_of node.now)) }
 {
     let word = node.text("edit")?;
     node.meant("edit", word, EditKind::words(), EditKind::of(word))
@@ -141,12 +141,12 @@ fn new_step_at(
     node: &Node<'_, '_, '_>,
 ) -> Result<Step, ReadFault>
     ensures { Gives (λ step. step) result
-        (new_step_at format names.now (place_of node.now) (data_of node.now)) }
+        (new_step_at format names.now (location_of node.now) (data_of node.now)) }
 {
     let step = node.member("step")?;
     StepReader { format, names }.read(&Node {
         alloc: node.alloc,
-        place: &Place::Member(node.place, "step"),
+        location: &Location::Member(node.location, "step"),
         value: &Gathered::of(step),
     })
 }
@@ -159,7 +159,7 @@ fn edit_of_kind_at(
     node: &Node<'_, '_, '_>,
 ) -> Result<Edit, ReadFault>
     ensures { Gives (λ edit. edit) result
-        (edit_of_kind_at format names.now kind (place_of node.now) (data_of node.now)) }
+        (edit_of_kind_at format names.now kind (location_of node.now) (data_of node.now)) }
 {
     match kind {
         EditKind::Insert => Ok(Edit::Insert {

@@ -2,11 +2,11 @@
 ghost use Rattle.std.specs.Prelude.{◌≡◌};
 ghost use Rattle.session_text.specs.declared.fault.ReadFault.TheVariants.{Memory};
 ghost use Rattle.session_text.specs.Accepted.{header_fault};
-ghost use Rattle.session_text.specs.Outcome.{told, StopsAt};
+ghost use Rattle.session_text.specs.ReadingRules.{known, StopsAt};
 ghost use Rattle.session_text.specs.Path.{path_of, path_text};
 
 use crate::detail::Detail;
-use crate::path::{Path, Place};
+use crate::path::{Location, Path};
 use bench_types::{Fault, HeaderFlaw};
 use std::alloc::{AllocError, AllocFailed, Global};
 use std::error::Error as StdError;
@@ -73,11 +73,11 @@ impl ReadFault {
 
     /// The fault at the place, or that no memory is left for its path.
     #[cold]
-    pub(crate) fn at(alloc: Global, place: &Place<'_>, why: Why, detail: Detail) -> ReadFault
+    pub(crate) fn at(alloc: Global, location: &Location<'_>, why: Why, detail: Detail) -> ReadFault
         ensures { StopsAt
-            (record { why = why; path = path_text (path_of place.now); detail = detail }) result }
+            (record { why = why; path = path_text (path_of location.now); detail = detail }) result }
     {
-        match place.to_path(alloc) {
+        match location.to_path(alloc) {
             Ok(path) => ReadFault::of(alloc, TextFault { why, path, detail }),
             Err(_) => ReadFault::Memory,
         }
@@ -85,7 +85,7 @@ impl ReadFault {
 
     /// F1 of the header of the session at the place, or that no memory is left for that path.
     #[cold]
-    pub(crate) fn of_header(alloc: Global, session: &Place<'_>, flaw: HeaderFlaw) -> ReadFault
+    pub(crate) fn of_header(alloc: Global, session: &Location<'_>, flaw: HeaderFlaw) -> ReadFault
         ensures { StopsAt (header_fault (path_of session.now) flaw) result }
     {
         match session.to_path(alloc) {
@@ -103,7 +103,7 @@ impl ReadFault {
 }
 
 impl From<ReadFault> for TextFault {
-    ghost from_gives = { λ stop fault. fault ≡ told stop };
+    ghost from_gives = { λ stop fault. fault ≡ known stop };
 
     fn from(stop: ReadFault) -> TextFault {
         match stop {

@@ -1,8 +1,8 @@
 //! The formats of sessions.
 ghost use Rattle.std.specs.Prelude.{◌≡◌};
 ghost use Rattle.session_text.specs.Format.{format_at, format_of, index_at, notes_at};
-ghost use Rattle.session_text.specs.Node.{data_of, place_of};
-ghost use Rattle.session_text.specs.Outcome.{Gives};
+ghost use Rattle.session_text.specs.Node.{data_of, location_of};
+ghost use Rattle.session_text.specs.ReadingRules.{Gives};
 
 use crate::detail::Detail;
 use crate::fault::ReadFault;
@@ -33,7 +33,7 @@ impl Format {
 #[tactic(auto, unfolding(crate::specs::Format::format_at))]
 pub(crate) fn format_at(node: &Node<'_, '_, '_>) -> Result<Format, ReadFault>
     ensures { Gives (λ format. format) result
-        (format_at (place_of node.now) (data_of node.now)) }
+        (format_at (location_of node.now) (data_of node.now)) }
 {
     match Format::of(node.number("format")?) {
         Some(format) => Ok(format),
@@ -45,7 +45,7 @@ pub(crate) fn format_at(node: &Node<'_, '_, '_>) -> Result<Format, ReadFault>
 #[tactic(auto, unfolding(crate::specs::Format::notes_at))]
 pub(crate) fn notes_at(format: Format, node: &Node<'_, '_, '_>) -> Result<u32, ReadFault>
     ensures { Gives (λ notes. notes) result
-        (notes_at format (place_of node.now) (data_of node.now)) }
+        (notes_at format (location_of node.now) (data_of node.now)) }
 {
     match format {
         Format::One => Ok(1),
@@ -57,7 +57,7 @@ pub(crate) fn notes_at(format: Format, node: &Node<'_, '_, '_>) -> Result<u32, R
 #[tactic(auto, unfolding(crate::specs::Format::index_at))]
 pub(crate) fn index_at(format: Format, node: &Node<'_, '_, '_>) -> Result<u32, ReadFault>
     ensures { Gives (λ index. index) result
-        (index_at format (place_of node.now) (data_of node.now)) }
+        (index_at format (location_of node.now) (data_of node.now)) }
 {
     match format {
         Format::One => Ok(0),

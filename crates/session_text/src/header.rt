@@ -1,11 +1,11 @@
 //! The header of a session: its shape, and what it is accepted as.
 ghost use Rattle.std.specs.Prelude.{◌≡◌, Some, None, IfOk, MatchResult, if◌then◌else◌};
-ghost use Rattle.bench_types.specs.Flaw.{place_of_no_name};
+ghost use Rattle.bench_types.specs.Flaw.{location_of_no_name};
 ghost use Rattle.bench_types.specs.Header.{IsCheckedHeader};
 ghost use Rattle.bench_types.specs.Name.{is_name};
 ghost use Rattle.session_text.specs.Header.{accepted, config_at, header_at, header_of, task_at};
-ghost use Rattle.session_text.specs.Node.{data_of, place_of};
-ghost use Rattle.session_text.specs.Outcome.{Gives};
+ghost use Rattle.session_text.specs.Node.{data_of, location_of};
+ghost use Rattle.session_text.specs.ReadingRules.{Gives};
 
 use crate::array::{ReadItem, list_at};
 use crate::fault::ReadFault;
@@ -51,7 +51,7 @@ impl TaskShape<'_> {
 #[tactic(auto, unfolding(crate::specs::Header::config_at))]
 pub(crate) fn config_at(format: Format, node: &Node<'_, '_, '_>) -> Result<Config, ReadFault>
     ensures { Gives (λ config. config) result
-        (config_at format (place_of node.now) (data_of node.now)) }
+        (config_at format (location_of node.now) (data_of node.now)) }
 {
     Ok(Config {
         cores: node.number("cores")?,
@@ -92,13 +92,13 @@ fn named_tasks(
     shapes: &[TaskShape<'_>],
 ) -> Result<Result<Vec<TaskArgs>, usize>, AllocError>
     ensures { IfOk result (λ made. MatchResult made (λ tasks. tasks.items ≡ shapes.now)
-        (λ place. place_of_no_name shapes.now ≡ Some place)) }
+        (λ location. location_of_no_name shapes.now ≡ Some location)) }
 {
     let mut tasks = Vec::with_capacity(alloc, shapes.len())?;
-    for (place, shape) in shapes.iter().enumerate() {
+    for (location, shape) in shapes.iter().enumerate() {
         match shape.to_args() {
             Some(task) => tasks.push(task)?,
-            None => return Ok(Err(place)),
+            None => return Ok(Err(location)),
         }
     }
     Ok(Ok(tasks))
@@ -133,7 +133,7 @@ fn accepted(
                 config,
                 tasks: Items::new(tasks),
             })),
-            Err(place) => Ok(Err(HeaderFlaw::NoName(place))),
+            Err(location) => Ok(Err(HeaderFlaw::NoName(location))),
         },
     }
 }
@@ -144,7 +144,7 @@ pub(crate) fn header_of(
     node: &Node<'_, '_, '_>,
 ) -> Result<Result<Header, HeaderFlaw>, ReadFault>
     ensures reading { Gives (λ header. header) result
-        (header_of config (place_of node.now) (data_of node.now)) }
+        (header_of config (location_of node.now) (data_of node.now)) }
     ensures valid { IfOk result (λ header. IfOk header IsCheckedHeader) }
     ensures config { IfOk result (λ header. IfOk header (λ it. it.config ≡ config)) }
 {
@@ -159,7 +159,7 @@ pub(crate) fn header_at(
     node: &Node<'_, '_, '_>,
 ) -> Result<Result<Header, HeaderFlaw>, ReadFault>
     ensures reading { Gives (λ header. header) result
-        (header_at format (place_of node.now) (data_of node.now)) }
+        (header_at format (location_of node.now) (data_of node.now)) }
     ensures valid { IfOk result (λ header. IfOk header IsCheckedHeader) }
 {
     header_of(config_at(format, node)?, node)

@@ -3,11 +3,11 @@
 #![tactic(auto)]
 
 mod accepted;
-mod act;
 mod action;
 mod array;
 mod bench;
 mod call;
+mod core_action;
 mod detail;
 mod edit;
 mod fault;

@@ -7,8 +7,8 @@ ghost use Rattle.session_text.specs.declared.detail.Detail.TheVariants.{Missing,
 ghost use Rattle.session_text.specs.Detail.{found_of};
 ghost use Rattle.session_text.specs.Member.{array_at, as_u32, flag_at, items_at, member_at, number_at, number_or_at, object_at, only_at, text_at};
 ghost use Rattle.session_text.specs.Nearest.{stray};
-ghost use Rattle.session_text.specs.Node.{data_of, place_of};
-ghost use Rattle.session_text.specs.Outcome.{bad_shape, Gives, StopsAt};
+ghost use Rattle.session_text.specs.Node.{data_of, location_of};
+ghost use Rattle.session_text.specs.ReadingRules.{bad_shape, Gives, StopsAt};
 ghost use Rattle.session_text.specs.Path.{member_path};
 
 use crate::detail::{Detail, Expected, found_of};
@@ -21,7 +21,7 @@ impl<'p, 't, 'v> Node<'p, 't, 'v> {
     /// H2 here, where another value is expected.
     fn bad_value(&self, expected: Expected) -> ReadFault
         ensures { StopsAt
-            (bad_shape (place_of self.now) (Wrong expected (found_of (data_of self.now)))) result }
+            (bad_shape (location_of self.now) (Wrong expected (found_of (data_of self.now)))) result }
     {
         let found = found_of(self.value.item());
         self.bad_shape(Detail::Wrong { expected, found })
@@ -30,7 +30,7 @@ impl<'p, 't, 'v> Node<'p, 't, 'v> {
     /// H2 here, where the object has a member whose name is none of the names.
     fn unknown(&self, member: &str, names: &[&str]) -> ReadFault
         ensures { StopsAt
-            (bad_shape (place_of self.now)
+            (bad_shape (location_of self.now)
             (Unknown (stray member.now (map (λ name. name.now) names.now)))) result }
     {
         match Stray::of(self.alloc, member, names) {
@@ -41,7 +41,7 @@ impl<'p, 't, 'v> Node<'p, 't, 'v> {
 
     pub(crate) fn object(&self) -> Result<Object<'p, 't, 'v>, ReadFault>
         ensures { Gives members_view result
-            (object_at (place_of self.now) (data_of self.now)) }
+            (object_at (location_of self.now) (data_of self.now)) }
     {
         match self.value.as_object() {
             Some(members) => Ok(members),
@@ -51,7 +51,7 @@ impl<'p, 't, 'v> Node<'p, 't, 'v> {
 
     pub(crate) fn items(&self) -> Result<Items<'t, 'v>, ReadFault>
         ensures { Gives items_view result
-            (items_at (place_of self.now) (data_of self.now)) }
+            (items_at (location_of self.now) (data_of self.now)) }
     {
         match self.value.item().as_array() {
             Some(items) => Ok(items),
@@ -62,7 +62,7 @@ impl<'p, 't, 'v> Node<'p, 't, 'v> {
     /// H2 at the member, which is missing.
     fn missing(&self, name: &str) -> ReadFault
         ensures { StopsAt
-            (bad_shape (member_path (place_of self.now) name.now) Missing) result }
+            (bad_shape (member_path (location_of self.now) name.now) Missing) result }
     {
         self.bad_member(name, Detail::Missing)
     }
@@ -70,7 +70,7 @@ impl<'p, 't, 'v> Node<'p, 't, 'v> {
     /// The member, of which members of its own may be asked.
     pub(crate) fn member(&self, name: &str) -> Result<Item<'t, 'v>, ReadFault>
         ensures { Gives view result
-            (member_at (place_of self.now) name.now (data_of self.now)) }
+            (member_at (location_of self.now) name.now (data_of self.now)) }
     {
         match self.value.item().get(name) {
             Some(value) => Ok(value),
@@ -82,7 +82,7 @@ impl<'p, 't, 'v> Node<'p, 't, 'v> {
     #[inline(always)]
     fn held(&self, name: &str) -> Result<Member<'p, 't, 'v>, ReadFault>
         ensures { Gives member_view result
-            (member_at (place_of self.now) name.now (data_of self.now)) }
+            (member_at (location_of self.now) name.now (data_of self.now)) }
     {
         match self.value.get(name) {
             Some(value) => Ok(value),
@@ -94,7 +94,7 @@ impl<'p, 't, 'v> Node<'p, 't, 'v> {
     #[tactic(auto, unfolding(crate::specs::Member::number_at))]
     pub(crate) fn number(&self, name: &str) -> Result<u32, ReadFault>
         ensures { Gives (λ number. number) result
-            (number_at (place_of self.now) name.now (data_of self.now)) }
+            (number_at (location_of self.now) name.now (data_of self.now)) }
     {
         let value = self.held(name)?;
         self.typed(name, Expected::Number, value.item(), as_u32(value.item()))
@@ -104,7 +104,7 @@ impl<'p, 't, 'v> Node<'p, 't, 'v> {
     #[tactic(auto, unfolding(crate::specs::Member::number_or_at))]
     pub(crate) fn number_or(&self, name: &str, other: u32) -> Result<u32, ReadFault>
         ensures { Gives (λ number. number) result
-            (number_or_at other (place_of self.now) name.now (data_of self.now)) }
+            (number_or_at other (location_of self.now) name.now (data_of self.now)) }
     {
         match self.value.get(name) {
             Some(value) => self.typed(name, Expected::Number, value.item(), as_u32(value.item())),
@@ -116,7 +116,7 @@ impl<'p, 't, 'v> Node<'p, 't, 'v> {
     #[tactic(auto, unfolding(crate::specs::Member::text_at))]
     pub(crate) fn text(&self, name: &str) -> Result<&'v str, ReadFault>
         ensures { Gives (λ text. text.now) result
-            (text_at (place_of self.now) name.now (data_of self.now)) }
+            (text_at (location_of self.now) name.now (data_of self.now)) }
     {
         let value = self.held(name)?;
         self.typed(name, Expected::Text, value.item(), value.item().as_str())
@@ -126,7 +126,7 @@ impl<'p, 't, 'v> Node<'p, 't, 'v> {
     #[tactic(auto, unfolding(crate::specs::Member::flag_at))]
     pub(crate) fn flag(&self, name: &str) -> Result<bool, ReadFault>
         ensures { Gives (λ flag. flag) result
-            (flag_at (place_of self.now) name.now (data_of self.now)) }
+            (flag_at (location_of self.now) name.now (data_of self.now)) }
     {
         let value = self.held(name)?;
         self.typed(name, Expected::Flag, value.item(), value.item().as_bool())
@@ -135,7 +135,7 @@ impl<'p, 't, 'v> Node<'p, 't, 'v> {
     #[tactic(auto, unfolding(crate::specs::Member::array_at))]
     pub(crate) fn array(&self, name: &str) -> Result<Items<'t, 'v>, ReadFault>
         ensures { Gives items_view result
-            (array_at (place_of self.now) name.now (data_of self.now)) }
+            (array_at (location_of self.now) name.now (data_of self.now)) }
     {
         let value = self.member(name)?;
         self.typed(name, Expected::Array, &value, value.as_array())
@@ -144,7 +144,7 @@ impl<'p, 't, 'v> Node<'p, 't, 'v> {
     /// H2 here, where the object has a member that is none of the names.
     pub(crate) fn only(&self, names: &[&str], members: &Object<'_, '_, '_>) -> Result<(), ReadFault>
         ensures { Gives (λ done. done) result
-            (only_at (place_of self.now) (map (λ name. name.now) names.now)
+            (only_at (location_of self.now) (map (λ name. name.now) names.now)
             (members_view members.now)) }
     {
         match members.least_unknown(names) {

@@ -2,8 +2,8 @@
 ghost use Rattle.std.specs.Prelude.{◌≡◌, IfOk, Ok, map};
 ghost use Rattle.bench_types.specs.Header.{header_check};
 ghost use Rattle.session_text.specs.Names.{names_of, no_names, number_of, user_names};
-ghost use Rattle.session_text.specs.Node.{data_of, place_of};
-ghost use Rattle.session_text.specs.Outcome.{Gives};
+ghost use Rattle.session_text.specs.Node.{data_of, location_of};
+ghost use Rattle.session_text.specs.ReadingRules.{Gives};
 ghost use Rattle.session_text.specs.Step.{task_named_at};
 
 use crate::fault::ReadFault;
@@ -62,7 +62,7 @@ impl<'a> Names<'a> {
         ensures { result ≡ number_of self.now name.now }
     {
         match self.names.get_index_of(name) {
-            Some(place) => self.cores + place as u32,
+            Some(location) => self.cores + location as u32,
             None => 0,
         }
     }
@@ -75,7 +75,7 @@ impl<'a> Names<'a> {
         name: &str,
     ) -> Result<u32, ReadFault>
         ensures { Gives (λ task. task) result
-            (task_named_at self.now (place_of node.now) name.now (data_of node.now)) }
+            (task_named_at self.now (location_of node.now) name.now (data_of node.now)) }
     {
         Ok(self.number_of(node.text(name)?))
     }

@@ -22,14 +22,14 @@ pub enum Shown {
 impl Shown {
     #[tactic(auto, unfolding(crate::specs::Nearest::shown))]
     pub(crate) fn of(alloc: Global, text: &str) -> Result<Shown, AllocError>
-        ensures { IfOk result (λ told. told ≡ shown text.now) }
+        ensures { IfOk result (λ known. known ≡ shown text.now) }
     {
         if MAX_SHOWN < text.len() {
             return Ok(Shown::Long);
         }
-        let mut told = String::new(alloc);
-        push_printable(&mut told, text)?;
-        Ok(Shown::Text(Words::of(told)))
+        let mut known = String::new(alloc);
+        push_printable(&mut known, text)?;
+        Ok(Shown::Text(Words::of(known)))
     }
 }
 
@@ -50,14 +50,14 @@ impl Stray {
     {
         Ok(Stray {
             text: Shown::of(alloc, text)?,
-            nearest: told_nearest(alloc, text, words)?,
+            nearest: known_nearest(alloc, text, words)?,
             words: Words::listed(alloc, words)?,
         })
     }
 }
 
 /// The nearest word to the text, as people are told it.
-pub(crate) fn told_nearest(
+pub(crate) fn known_nearest(
     alloc: Global,
     text: &str,
     words: &[&str],
@@ -86,12 +86,12 @@ fn printable(byte: u8) -> char
     }
 }
 
-fn push_printable(told: &mut String, text: &str) -> Result<(), AllocError>
+fn push_printable(known: &mut String, text: &str) -> Result<(), AllocError>
     ensures { OnOk result
-        (string_bytes told.new ≡ string_bytes told.old ++ map printable text.now) }
+        (string_bytes known.new ≡ string_bytes known.old ++ map printable text.now) }
 {
     for byte in text.as_bytes() {
-        told.push(printable(*byte))?;
+        known.push(printable(*byte))?;
     }
     Ok(())
 }

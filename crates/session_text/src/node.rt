@@ -5,14 +5,14 @@ ghost use Rattle.session_text.specs.declared.detail.Detail.TheVariants.{NoWord};
 ghost use Rattle.session_text.specs.Detail.{found_of};
 ghost use Rattle.session_text.specs.Member.{typed};
 ghost use Rattle.session_text.specs.Nearest.{stray};
-ghost use Rattle.session_text.specs.Node.{place_of};
-ghost use Rattle.session_text.specs.Outcome.{bad_shape, found, Gives, StopsAt};
+ghost use Rattle.session_text.specs.Node.{location_of};
+ghost use Rattle.session_text.specs.ReadingRules.{bad_shape, found, Gives, StopsAt};
 ghost use Rattle.session_text.specs.Path.{member_path};
 
 use crate::detail::{Detail, Expected, found_of};
 use crate::fault::{ReadFault, Why};
 use crate::nearest::Stray;
-use crate::path::Place;
+use crate::path::Location;
 use json_data::{Gathered, Item};
 use std::alloc::Global;
 
@@ -21,24 +21,24 @@ use std::alloc::Global;
 #[derive(Clone, Copy)]
 pub(crate) struct Node<'p, 't, 'v> {
     pub(crate) alloc: Global,
-    pub(crate) place: &'p Place<'p>,
+    pub(crate) location: &'p Location<'p>,
     pub(crate) value: &'p Gathered<'t, 'v>,
 }
 
 impl<'v> Node<'_, '_, 'v> {
     /// H2 here.
     pub(crate) fn bad_shape(&self, detail: Detail) -> ReadFault
-        ensures { StopsAt (bad_shape (place_of self.now) detail) result }
+        ensures { StopsAt (bad_shape (location_of self.now) detail) result }
     {
-        ReadFault::at(self.alloc, self.place, Why::BadShape, detail)
+        ReadFault::at(self.alloc, self.location, Why::BadShape, detail)
     }
 
     /// H2 at the member.
     pub(crate) fn bad_member(&self, name: &str, detail: Detail) -> ReadFault
-        ensures { StopsAt (bad_shape (member_path (place_of self.now) name.now) detail) result }
+        ensures { StopsAt (bad_shape (member_path (location_of self.now) name.now) detail) result }
     {
-        let place = Place::Member(self.place, name);
-        ReadFault::at(self.alloc, &place, Why::BadShape, detail)
+        let location = Location::Member(self.location, name);
+        ReadFault::at(self.alloc, &location, Why::BadShape, detail)
     }
 
     /// What was looked for in the value, which is the member, or H2 there.
@@ -50,7 +50,7 @@ impl<'v> Node<'_, '_, 'v> {
         sought: Option<T>,
     ) -> Result<T, ReadFault>
         ensures { Gives (λ it. it) result
-            (typed expected (view value.now) sought (member_path (place_of self.now) name.now)) }
+            (typed expected (view value.now) sought (member_path (location_of self.now) name.now)) }
     {
         match sought {
             Some(it) => Ok(it),
@@ -64,7 +64,7 @@ impl<'v> Node<'_, '_, 'v> {
     /// H2 at the member, which has to be one of the words.
     fn no_word(&self, name: &str, text: &str, words: &[&str]) -> ReadFault
         ensures { StopsAt
-            (bad_shape (member_path (place_of self.now) name.now)
+            (bad_shape (member_path (location_of self.now) name.now)
             (NoWord (stray text.now (map (λ word. word.now) words.now)))) result }
     {
         match Stray::of(self.alloc, text, words) {
@@ -82,7 +82,7 @@ impl<'v> Node<'_, '_, 'v> {
         meaning: Option<T>,
     ) -> Result<T, ReadFault>
         ensures { Gives (λ it. it) result
-            (found meaning (member_path (place_of self.now) name.now)
+            (found meaning (member_path (location_of self.now) name.now)
             (NoWord (stray text.now (map (λ word. word.now) words.now)))) }
     {
         match meaning {

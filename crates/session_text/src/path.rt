@@ -44,13 +44,13 @@ impl Path {
 ///
 /// It is made into a text at a fault alone.
 #[derive(Clone, Copy)]
-pub(crate) enum Place<'a> {
+pub(crate) enum Location<'a> {
     Top,
-    Member(&'a Place<'a>, &'a str),
-    Item(&'a Place<'a>, usize),
+    Member(&'a Location<'a>, &'a str),
+    Item(&'a Location<'a>, usize),
 }
 
-impl Place<'_> {
+impl Location<'_> {
     /// The text that a fault at this place carries.
     pub(crate) fn to_path(&self, alloc: Global) -> Result<Path, AllocError>
         ensures { IfOk result (λ path. path ≡ path_text (path_of self.now)) }
@@ -66,8 +66,8 @@ impl Place<'_> {
         ensures { IfOk result (λ text. string_bytes text ≡ path_of self.now) }
     {
         match self {
-            Place::Top => Ok(String::new(alloc)),
-            Place::Member(parent, name) => {
+            Location::Top => Ok(String::new(alloc)),
+            Location::Member(parent, name) => {
                 let mut text = parent.spell(alloc)?;
                 if !text.is_empty() {
                     text.push_str(".")?;
@@ -75,7 +75,7 @@ impl Place<'_> {
                 text.push_str(name)?;
                 Ok(text)
             }
-            Place::Item(parent, index) => {
+            Location::Item(parent, index) => {
                 let mut text = parent.spell(alloc)?;
                 write!(text, "[{index}]")?;
                 Ok(text)

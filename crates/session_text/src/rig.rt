@@ -3,20 +3,20 @@ ghost use Rattle.std.specs.Prelude.{◌≡◌, ◌<◌, ◌≤◌, ◌^◌, [], 
 ghost use Rattle.std.specs.Result.{ForOk};
 ghost use Rattle.json_data.specs.Doubled.{doubled_in_text};
 ghost use Rattle.json_data.specs.View.{document_view, items_view, view};
-ghost use Rattle.bench_types.specs.Act.{IsCheckedAct};
+ghost use Rattle.bench_types.specs.CoreAction.{IsCheckedCoreAction};
 ghost use Rattle.bench_types.specs.Header.{IsCheckedHeader};
 ghost use Rattle.bench_types.specs.Limits.{max_steps};
 ghost use Rattle.bench_types.specs.Step.{settings_of};
-ghost use Rattle.session_text.specs.Node.{data_of, place_of};
+ghost use Rattle.session_text.specs.Node.{data_of, location_of};
 ghost use Rattle.session_text.specs.Noted.{doubled_view};
-ghost use Rattle.session_text.specs.Outcome.{Gives};
+ghost use Rattle.session_text.specs.ReadingRules.{Gives};
 ghost use Rattle.session_text.specs.Path.{path_of};
 ghost use Rattle.session_text.specs.Rig.{has_arrays, limit_accepted, no_steps_at, rig_accepted, rig_at, rig_shapes_at, rig_text, script_accepted, scripts_accepted, scripts_at, stepless_at, AreCheckedScripts, IsCheckedRig};
-ghost use Rattle.session_text.specs.Session.{Answers};
+ghost use Rattle.session_text.specs.Session.{ReadsAs};
 
 use crate::accepted::{Source, items_accepted};
-use crate::act::{OnCore, ScriptReader};
 use crate::array::list_at;
+use crate::core_action::{OnCore, ScriptReader};
 use crate::detail::Detail;
 use crate::fault::{ReadFault, TextFault, Why};
 use crate::format::{Format, format_at};
@@ -24,9 +24,9 @@ use crate::header::{config_at, header_of};
 use crate::names::Names;
 use crate::node::Node;
 use crate::noted::{Noted, doubled_member};
-use crate::path::Place;
+use crate::path::Location;
 use crate::session::{document, known_names, only_members};
-use bench_types::{Act, Fault, Header, HeaderFlaw, Items, MAX_STEPS};
+use bench_types::{CoreAction, Fault, Header, HeaderFlaw, Items, MAX_STEPS};
 use json_data::{Document, Gathered, Scratch};
 use std::alloc::Global;
 
@@ -37,7 +37,7 @@ pub struct RigScript {
     /// How many entries the recording has at most.
     pub limit: u32,
     /// What each core does, one script per core.
-    pub scripts: Items<Items<Act>>,
+    pub scripts: Items<Items<CoreAction>>,
 }
 
 /// Reads a rig document from a JSON text: an object with `session`, whose `steps` are none,
@@ -47,7 +47,7 @@ pub struct RigScript {
 pub fn read_rig(alloc: Global, text: &[u8]) -> Result<RigScript, TextFault>
     // The header, the limit and the scripts, or the first fault with its path, or that memory ran
     // out.
-    ensures reading { Answers (λ rig. rig) result (rig_text text.now) }
+    ensures reading { ReadsAs (λ rig. rig) result (rig_text text.now) }
     // So no check of the header or of an action fails later, and each core has a script.
     ensures checked { IfOk result IsCheckedRig }
 {
@@ -71,14 +71,14 @@ fn rig_in(alloc: Global, document: &Document<'_>) -> Result<RigScript, ReadFault
 {
     rig_at(&Node {
         alloc,
-        place: &Place::Top,
+        location: &Location::Top,
         value: &Gathered::of(document.root()),
     })
 }
 
 /// The same, with its first member that stands twice.
 pub fn read_rig_noted(alloc: Global, text: &[u8]) -> Result<Noted<RigScript>, TextFault>
-    ensures reading { Answers (λ noted. noted.document) result (rig_text text.now) }
+    ensures reading { ReadsAs (λ noted. noted.document) result (rig_text text.now) }
     ensures checked { IfOk result (λ noted. IsCheckedRig noted.document) }
     ensures doubled { IfOk result
         (λ noted. doubled_view noted.doubled ≡ doubled_in_text text.now) }
@@ -105,7 +105,7 @@ fn noted_rig(alloc: Global, text: &[u8]) -> Result<Noted<RigScript>, ReadFault>
 
 #[tactic(auto, unfolding(crate::specs::Rig::rig_at))]
 fn rig_at(node: &Node<'_, '_, '_>) -> Result<RigScript, ReadFault>
-    ensures reading { Gives (λ rig. rig) result (rig_at (place_of node.now) (data_of node.now)) }
+    ensures reading { Gives (λ rig. rig) result (rig_at (location_of node.now) (data_of node.now)) }
     ensures checked { IfOk result IsCheckedRig }
 {
     let (header, limit, scripts) = rig_shapes_at(node)?;
@@ -116,9 +116,9 @@ fn rig_at(node: &Node<'_, '_, '_>) -> Result<RigScript, ReadFault>
 #[tactic(auto, unfolding(crate::specs::Rig::rig_shapes_at))]
 fn rig_shapes_at(
     node: &Node<'_, '_, '_>,
-) -> Result<(Result<Header, HeaderFlaw>, u32, Vec<Items<Act>>), ReadFault>
+) -> Result<(Result<Header, HeaderFlaw>, u32, Vec<Items<CoreAction>>), ReadFault>
     ensures reading { Gives (λ read. (read.0, read.1, read.2.items)) result
-        (rig_shapes_at (place_of node.now) (data_of node.now)) }
+        (rig_shapes_at (location_of node.now) (data_of node.now)) }
     ensures valid { IfOk result (λ read. IfOk read.0 IsCheckedHeader) }
     ensures one_per_core { IfOk result
         (λ read. IfOk read.0 (λ header. length read.2.items ≡ header.config.cores)) }
@@ -126,7 +126,7 @@ fn rig_shapes_at(
     let members = node.object()?;
     let (format, cores, header) = stepless_at(&Node {
         alloc: node.alloc,
-        place: &Place::Member(node.place, "session"),
+        location: &Location::Member(node.location, "session"),
         value: &Gathered::of(node.member("session")?),
     })?;
     let limit = node.number("limit")?;
@@ -144,7 +144,7 @@ fn stepless_at(
     node: &Node<'_, '_, '_>,
 ) -> Result<(Format, u32, Result<Header, HeaderFlaw>), ReadFault>
     ensures reading { Gives (λ read. read) result
-        (stepless_at (place_of node.now) (data_of node.now)) }
+        (stepless_at (location_of node.now) (data_of node.now)) }
     ensures valid { IfOk result (λ read. IfOk read.2 IsCheckedHeader) }
     ensures cores { IfOk result
         (λ read. IfOk read.2 (λ header. read.1 ≡ header.config.cores)) }
@@ -160,7 +160,7 @@ fn stepless_at(
 
 #[tactic(auto, unfolding(crate::specs::Rig::no_steps_at))]
 fn no_steps_at(node: &Node<'_, '_, '_>) -> Result<(), ReadFault>
-    ensures { Gives (λ done. done) result (no_steps_at (place_of node.now) (data_of node.now)) }
+    ensures { Gives (λ done. done) result (no_steps_at (location_of node.now) (data_of node.now)) }
 {
     match node.array("steps")?.next() {
         None => Ok(()),
@@ -189,9 +189,9 @@ fn scripts_at(
     cores: u32,
     names: &Names<'_>,
     node: &Node<'_, '_, '_>,
-) -> Result<Vec<Items<Act>>, ReadFault>
+) -> Result<Vec<Items<CoreAction>>, ReadFault>
     ensures reading { Gives (λ scripts. scripts.items) result
-        (scripts_at format cores names.now (place_of node.now) (data_of node.now)) }
+        (scripts_at format cores names.now (location_of node.now) (data_of node.now)) }
     ensures one_per_core { IfOk result (λ scripts. length scripts.items ≡ cores) }
 {
     if !has_arrays(cores, &mut node.array("scripts")?) {
@@ -207,24 +207,24 @@ fn rig_accepted(
     node: &Node<'_, '_, '_>,
     header: Result<Header, HeaderFlaw>,
     limit: u32,
-    scripts: Vec<Items<Act>>,
+    scripts: Vec<Items<CoreAction>>,
 ) -> Result<RigScript, ReadFault>
     requires valid { ForOk header IsCheckedHeader }
     requires one_per_core { ForOk header (λ it. length scripts.items ≡ it.config.cores) }
     ensures reading { Gives (λ rig. rig) result
-        (rig_accepted (place_of node.now) (data_of node.now) header limit scripts.items) }
+        (rig_accepted (location_of node.now) (data_of node.now) header limit scripts.items) }
     ensures checked { IfOk result IsCheckedRig }
 {
     match header {
         Err(flaw) => {
-            let session = Place::Member(node.place, "session");
+            let session = Location::Member(node.location, "session");
             Err(ReadFault::of_header(node.alloc, &session, flaw))
         }
         Ok(header) => {
             limit_accepted(node, limit)?;
             let source = Source {
                 alloc: node.alloc,
-                place: &Place::Member(node.place, "scripts"),
+                location: &Location::Member(node.location, "scripts"),
                 value: node.value.item().get("scripts"),
             };
             scripts_accepted(&source, &header, scripts.as_slice())?;
@@ -238,13 +238,13 @@ fn rig_accepted(
 }
 
 fn limit_accepted(node: &Node<'_, '_, '_>, limit: u32) -> Result<(), ReadFault>
-    ensures reading { Gives (λ done. done) result (limit_accepted (place_of node.now) limit) }
+    ensures reading { Gives (λ done. done) result (limit_accepted (location_of node.now) limit) }
     ensures few { OnOk result (limit ≤ max_steps) }
 {
     if limit > MAX_STEPS {
-        let place = Place::Member(node.place, "limit");
+        let location = Location::Member(node.location, "limit");
         let why = Why::Bench(Fault::BadArgument);
-        Err(ReadFault::at(node.alloc, &place, why, Detail::Limit(limit)))
+        Err(ReadFault::at(node.alloc, &location, why, Detail::Limit(limit)))
     } else {
         Ok(())
     }
@@ -254,11 +254,11 @@ fn limit_accepted(node: &Node<'_, '_, '_>, limit: u32) -> Result<(), ReadFault>
 fn scripts_accepted(
     source: &Source<'_, '_>,
     header: &Header,
-    scripts: &[Items<Act>],
+    scripts: &[Items<CoreAction>],
 ) -> Result<(), ReadFault>
     requires { length scripts.now < 2 ^ 32 }
     ensures reading { Gives (λ done. done) result
-        (scripts_accepted header.now (path_of source.now.place.now)
+        (scripts_accepted header.now (path_of source.now.location.now)
         (option_map view source.now.value) 0 scripts.now) }
     ensures checked { OnOk result (AreCheckedScripts header.now scripts.now) }
 {
@@ -273,16 +273,16 @@ fn script_accepted(
     source: &Source<'_, '_>,
     header: &Header,
     core: u32,
-    script: &[Act],
+    script: &[CoreAction],
 ) -> Result<(), ReadFault>
     ensures reading { Gives (λ done. done) result
-        (script_accepted header.now (path_of source.now.place.now)
+        (script_accepted header.now (path_of source.now.location.now)
         (option_map view source.now.value) core script.now) }
-    ensures checked { OnOk result (All (IsCheckedAct (settings_of header.now) core) script.now) }
+    ensures checked { OnOk result (All (IsCheckedCoreAction (settings_of header.now) core) script.now) }
 {
     let own = Source {
         alloc: source.alloc,
-        place: &Place::Item(source.place, core as usize),
+        location: &Location::Item(source.location, core as usize),
         value: source.item(core as usize),
     };
     items_accepted(&own, &OnCore { header, core }, script)

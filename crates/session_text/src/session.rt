@@ -10,10 +10,10 @@ ghost use Rattle.bench_types.specs.Step.{settings_of, IsCheckedStep};
 ghost use Rattle.session_text.specs.Array.{list_at};
 ghost use Rattle.session_text.specs.Member.{only_at};
 ghost use Rattle.session_text.specs.Names.{known_names};
-ghost use Rattle.session_text.specs.Node.{data_of, place_of};
-ghost use Rattle.session_text.specs.Outcome.{Gives};
+ghost use Rattle.session_text.specs.Node.{data_of, location_of};
+ghost use Rattle.session_text.specs.ReadingRules.{Gives};
 ghost use Rattle.session_text.specs.Step.{step_at};
-ghost use Rattle.session_text.specs.Session.{document, session, session_accepted, session_at, session_members, steps_accepted, whole_session, Answers};
+ghost use Rattle.session_text.specs.Session.{document, session, session_accepted, session_at, session_members, steps_accepted, whole_session, ReadsAs};
 
 use crate::accepted::{Source, items_accepted};
 use crate::array::list_at;
@@ -23,7 +23,7 @@ use crate::format::{Format, format_at};
 use crate::header::header_at;
 use crate::names::Names;
 use crate::node::Node;
-use crate::path::{Path, Place};
+use crate::path::{Location, Path};
 use crate::step::StepReader;
 use bench_types::{Header, HeaderFlaw, Step};
 use json_data::{Document, Gathered, Object, Refused, Scratch};
@@ -32,7 +32,7 @@ use std::alloc::{AllocError, Global};
 /// Reads a session from a JSON text.
 pub fn read_session(alloc: Global, text: &[u8]) -> Result<(Header, Vec<Step>), TextFault>
     // The header and the steps, or the first fault with its path, or that memory ran out.
-    ensures reading { Answers (λ read. (read.0, read.1.items)) result (session text.now) }
+    ensures reading { ReadsAs (λ read. (read.0, read.1.items)) result (session text.now) }
     // So no check of the header or of a step fails later.
     ensures checked { IfOk result
         (λ read. IsSession (record { header = read.0; steps = read.1.items })) }
@@ -60,7 +60,7 @@ fn session_in(alloc: Global, document: &Document<'_>) -> Result<(Header, Vec<Ste
 {
     whole_session(&Node {
         alloc,
-        place: &Place::Top,
+        location: &Location::Top,
         value: &Gathered::of(document.root()),
     })
 }
@@ -68,7 +68,7 @@ fn session_in(alloc: Global, document: &Document<'_>) -> Result<(Header, Vec<Ste
 /// The session that is the value.
 fn whole_session(node: &Node<'_, '_, '_>) -> Result<(Header, Vec<Step>), ReadFault>
     ensures reading { Gives (λ read. (read.0, read.1.items)) result
-        (whole_session (place_of node.now) (data_of node.now)) }
+        (whole_session (location_of node.now) (data_of node.now)) }
     ensures checked { IfOk result
         (λ read. IsSession (record { header = read.0; steps = read.1.items })) }
 {
@@ -122,7 +122,7 @@ fn steps_at(
 ) -> Result<Vec<Step>, ReadFault>
     requires { ForOk header.now IsCheckedHeader }
     ensures { Gives (λ steps. steps.items) result
-        (list_at (step_at format (known_names header.now)) (place_of node.now) (codes "steps") (data_of node.now)) }
+        (list_at (step_at format (known_names header.now)) (location_of node.now) (codes "steps") (data_of node.now)) }
 {
     let names = &known_names(node.alloc, header)?;
     list_at(&StepReader { format, names }, node, "steps")
@@ -164,7 +164,7 @@ pub(crate) fn only_members(
     members: &Object<'_, '_, '_>,
 ) -> Result<(), ReadFault>
     ensures { Gives (λ done. done) result
-        (only_at (place_of node.now) (session_members format) (members_view members.now)) }
+        (only_at (location_of node.now) (session_members format) (members_view members.now)) }
 {
     node.only(members_of(format), members)
 }
@@ -175,7 +175,7 @@ pub(crate) fn session_at(
     node: &Node<'_, '_, '_>,
 ) -> Result<(Format, Result<Header, HeaderFlaw>, Vec<Step>), ReadFault>
     ensures reading { Gives (λ read. (read.0, read.1, read.2.items)) result
-        (session_at (place_of node.now) (data_of node.now)) }
+        (session_at (location_of node.now) (data_of node.now)) }
     ensures valid { IfOk result (λ read. IfOk read.1 IsCheckedHeader) }
 {
     let members = node.object()?;
@@ -190,12 +190,12 @@ pub(crate) fn session_at(
 #[tactic(auto, unfolding(crate::specs::Session::steps_accepted))]
 fn steps_accepted(node: &Node<'_, '_, '_>, header: &Header, steps: &[Step]) -> Result<(), ReadFault>
     ensures reading { Gives (λ done. done) result
-        (steps_accepted header.now (place_of node.now) (data_of node.now) steps.now) }
+        (steps_accepted header.now (location_of node.now) (data_of node.now) steps.now) }
     ensures checked { OnOk result (All (IsCheckedStep (settings_of header.now)) steps.now) }
 {
     let source = Source {
         alloc: node.alloc,
-        place: &Place::Member(node.place, "steps"),
+        location: &Location::Member(node.location, "steps"),
         value: node.value.item().get("steps"),
     };
     items_accepted(&source, header, steps)
@@ -210,12 +210,12 @@ pub(crate) fn session_accepted(
 ) -> Result<(Header, Vec<Step>), ReadFault>
     requires { ForOk header IsCheckedHeader }
     ensures reading { Gives (λ read. (read.0, read.1.items)) result
-        (session_accepted (place_of node.now) (data_of node.now) header steps.items) }
+        (session_accepted (location_of node.now) (data_of node.now) header steps.items) }
     ensures checked { IfOk result
         (λ read. IsSession (record { header = read.0; steps = read.1.items })) }
 {
     match header {
-        Err(flaw) => Err(ReadFault::of_header(node.alloc, node.place, flaw)),
+        Err(flaw) => Err(ReadFault::of_header(node.alloc, node.location, flaw)),
         Ok(header) => {
             steps_accepted(node, &header, steps.as_slice())?;
             Ok((header, steps))

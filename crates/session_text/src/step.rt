@@ -1,8 +1,8 @@
 //! Steps, as texts write them.
 ghost use Rattle.std.specs.Prelude.{◌≡◌, map};
 ghost use Rattle.session_text.specs.Detail.{words_of};
-ghost use Rattle.session_text.specs.Node.{data_of, place_of};
-ghost use Rattle.session_text.specs.Outcome.{Gives};
+ghost use Rattle.session_text.specs.Node.{data_of, location_of};
+ghost use Rattle.session_text.specs.ReadingRules.{Gives};
 ghost use Rattle.session_text.specs.Step.{kind_at, kind_of, kinds, members_of, step_at, step_of_kind_at};
 
 use crate::array::ReadItem;
@@ -93,7 +93,7 @@ fn known_members(format: Format, step: &Step) -> &'static [&'static str]
 
 #[tactic(auto, unfolding(crate::specs::Step::kind_at))]
 pub(crate) fn kind_at(node: &Node<'_, '_, '_>) -> Result<Kind, ReadFault>
-    ensures { Gives (λ kind. kind) result (kind_at (place_of node.now) (data_of node.now)) }
+    ensures { Gives (λ kind. kind) result (kind_at (location_of node.now) (data_of node.now)) }
 {
     let word = node.text("do")?;
     node.meant("do", word, Kind::words(), Kind::of(word))
@@ -107,7 +107,7 @@ fn step_of_kind_at(
     node: &Node<'_, '_, '_>,
 ) -> Result<Step, ReadFault>
     ensures { Gives (λ step. step) result
-        (step_of_kind_at format names.now kind (place_of node.now) (data_of node.now)) }
+        (step_of_kind_at format names.now kind (location_of node.now) (data_of node.now)) }
 {
     match kind {
         Kind::Tick => Ok(Step::Tick),

@@ -8,7 +8,7 @@ ghost use Rattle.session_text.specs.UnknownName.{detail_of, is_unknown, naming_m
 
 use crate::detail::Detail;
 use crate::names::user_names;
-use crate::nearest::{Shown, told_nearest};
+use crate::nearest::{Shown, known_nearest};
 use bench_types::{Header, StepFlaw};
 use json_data::Item;
 use std::alloc::{AllocError, Global};
@@ -48,7 +48,7 @@ fn no_task(
     match unknown_name(names.as_slice(), value) {
         Some(name) => Ok(Detail::NoTask {
             name: Shown::of(alloc, name)?,
-            nearest: told_nearest(alloc, name, names.as_slice())?,
+            nearest: known_nearest(alloc, name, names.as_slice())?,
         }),
         None => Ok(Detail::Step(StepFlaw::Task(task))),
     }

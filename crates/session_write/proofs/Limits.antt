@@ -56,7 +56,8 @@ StepFits header (step.Switch core) = core < header.config.cores
 StepFits header (step.Call core task made) = IsCallInPlace header core task made
 StepFits header (step.Interrupt core note) = IsInterruptInPlace header core note.task note.index
 
-note_there : (header : Header) (task index : ℕ) → (task_check (settings_of header) task >> index_check (settings_of header) index) ≡ Ok tt → IsNoteThere header task index
+note_there : (header : Header) (task index : ℕ) → (task_check (settings_of header) task >> index_check (settings_of header) index) ≡ Ok tt → IsNoteThere header
+    task index
 note_there header task index passes =
     let settings = settings_of header in
     let both = both_pass (task_check settings task) (index_check settings index) passes in

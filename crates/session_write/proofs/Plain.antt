@@ -11,18 +11,19 @@ use Rattle.serde_json.specs.View.{items_of}
 use Rattle.bench_types.specs.declared.header.Config.{Config}
 use Rattle.bench_types.specs.declared.header.TaskArgs.{TaskArgs}
 use Rattle.bench_types.specs.declared.header.Header.{Header}
-use Rattle.bench_types.specs.declared.note.Action.{Action}
-use Rattle.bench_types.specs.declared.note.Action.TheVariants as action
+use Rattle.bench_types.specs.declared.note.NotifyAction.{NotifyAction}
+use Rattle.bench_types.specs.declared.note.NotifyAction.TheVariants as action
 use Rattle.bench_types.specs.declared.step.Step.{Step}
 use Rattle.bench_types.specs.declared.step.Step.TheVariants as step
 use Rattle.bench_types.specs.declared.step.Call.{Call}
 use Rattle.bench_types.specs.declared.step.Call.TheVariants as call
 use Rattle.bench_types.specs.Name.{is_name, is_name_byte, is_within}
-use Rattle.bench_types.specs.Step.{IsActionOfWord, IsOfWords, IsStepOfWords}
+use Rattle.bench_types.specs.Step.{IsNotifyActionOfWord, IsOfWords, IsStepOfWords}
 use Rattle.bench_types.specs.Limits.{max_priorities}
 use Rattle.session_text.specs.declared.format.Format.{Format}
 use Rattle.session_text.specs.declared.format.Format.TheVariants.{One, Two}
-use Rattle.session_write.specs.Written.{task_data, task_name, bare_call, call_for, notify_data, interrupt_data, wait_data, take_data, state_clear_data, value_clear_data, call_data, step_data, format_for, data_in, session_data}
+use Rattle.session_write.specs.Written.{task_data, task_name, bare_call, call_for, notify_data, interrupt_data, wait_data, take_data, state_clear_data}
+use Rattle.session_write.specs.Written.{value_clear_data, call_data, step_data, format_for, data_in, session_data}
 use Rattle.bench_types.proofs.Passes.{has_valid_args, IsWithinLimits}
 use Rattle.session_write.proofs.Limits.{StepFits, HasTarget}
 use Rattle.session_write.proofs.ReadBack.{IsPlain, ArePlain}
@@ -52,78 +53,301 @@ bare_plain by core word utf8 small word_utf8 = (refl, refl, utf8, (refl, refl, s
 for_plain : (by : List ℕ) (core : ℕ) (word to : List ℕ) → IsUtf8 by → core < 2 ^ 64 → IsUtf8 word → IsUtf8 to → IsPlain (call_for by core word to)
 for_plain by core word to utf8 small word_utf8 to_utf8 = (refl, refl, utf8, (refl, refl, small, (refl, refl, word_utf8, (refl, refl, to_utf8, tt))))
 
-notify_plain : (format : Format) (by : List ℕ) (core : ℕ) (to : List ℕ) (what : Action) (index : ℕ) → IsUtf8 by → core < 2 ^ 64 → IsUtf8 to → index < 2 ^ 64 → IsActionOfWord what → IsPlain (notify_data format by core to what index)
-notify_plain One by core to action.Nothing index utf8 small to_utf8 few word = (refl, refl, IsUtf8-are_ascii _ refl, (refl, refl, utf8, (refl, refl, small, (refl, refl, IsUtf8-are_ascii _ refl, (refl, refl, to_utf8, tt)))))
-notify_plain One by core to (action.SetBits bits) index utf8 small to_utf8 few word = (refl, refl, IsUtf8-are_ascii _ refl, (refl, refl, utf8, (refl, refl, small, (refl, refl, IsUtf8-are_ascii _ refl, (refl, refl, to_utf8, (refl, refl, omega arith, tt))))))
-notify_plain One by core to action.Increment index utf8 small to_utf8 few word = (refl, refl, IsUtf8-are_ascii _ refl, (refl, refl, utf8, (refl, refl, small, (refl, refl, IsUtf8-are_ascii _ refl, (refl, refl, to_utf8, tt)))))
-notify_plain One by core to (action.Set value) index utf8 small to_utf8 few word = (refl, refl, IsUtf8-are_ascii _ refl, (refl, refl, utf8, (refl, refl, small, (refl, refl, IsUtf8-are_ascii _ refl, (refl, refl, to_utf8, (refl, refl, omega arith, tt))))))
-notify_plain One by core to (action.SetNew value) index utf8 small to_utf8 few word = (refl, refl, IsUtf8-are_ascii _ refl, (refl, refl, utf8, (refl, refl, small, (refl, refl, IsUtf8-are_ascii _ refl, (refl, refl, to_utf8, (refl, refl, omega arith, tt))))))
-notify_plain Two by core to action.Nothing index utf8 small to_utf8 few word = (refl, refl, IsUtf8-are_ascii _ refl, (refl, refl, utf8, (refl, refl, small, (refl, refl, IsUtf8-are_ascii _ refl, (refl, refl, few, (refl, refl, to_utf8, tt))))))
-notify_plain Two by core to (action.SetBits bits) index utf8 small to_utf8 few word = (refl, refl, IsUtf8-are_ascii _ refl, (refl, refl, utf8, (refl, refl, small, (refl, refl, IsUtf8-are_ascii _ refl, (refl, refl, few, (refl, refl, to_utf8, (refl, refl, omega arith, tt)))))))
-notify_plain Two by core to action.Increment index utf8 small to_utf8 few word = (refl, refl, IsUtf8-are_ascii _ refl, (refl, refl, utf8, (refl, refl, small, (refl, refl, IsUtf8-are_ascii _ refl, (refl, refl, few, (refl, refl, to_utf8, tt))))))
-notify_plain Two by core to (action.Set value) index utf8 small to_utf8 few word = (refl, refl, IsUtf8-are_ascii _ refl, (refl, refl, utf8, (refl, refl, small, (refl, refl, IsUtf8-are_ascii _ refl, (refl, refl, few, (refl, refl, to_utf8, (refl, refl, omega arith, tt)))))))
-notify_plain Two by core to (action.SetNew value) index utf8 small to_utf8 few word = (refl, refl, IsUtf8-are_ascii _ refl, (refl, refl, utf8, (refl, refl, small, (refl, refl, IsUtf8-are_ascii _ refl, (refl, refl, few, (refl, refl, to_utf8, (refl, refl, omega arith, tt)))))))
+notify_plain : (format : Format) (by : List ℕ) (core : ℕ) (to : List ℕ) (what : NotifyAction) (index : ℕ) → IsUtf8 by → core < 2 ^ 64 → IsUtf8 to → index < 2 ^
+    64 → IsNotifyActionOfWord what → IsPlain (notify_data format by core to what index)
+notify_plain One by core to action.Nothing index utf8 small to_utf8 few word =
+    (refl, refl, IsUtf8-are_ascii _ refl, (refl, refl, utf8, (refl, refl, small, (refl, refl, IsUtf8-are_ascii _ refl, (refl, refl, to_utf8, tt)))))
+notify_plain One by core to (action.SetBits bits) index utf8 small to_utf8 few word = (
+  refl,
+  refl,
+  IsUtf8-are_ascii _ refl,
+  (
+    refl,
+    refl,
+    utf8,
+    (refl, refl, small, (refl, refl, IsUtf8-are_ascii _ refl, (refl, refl, to_utf8, (refl, refl, omega arith, tt)))),
+  ),
+)
+notify_plain One by core to action.Increment index utf8 small to_utf8 few word =
+    (refl, refl, IsUtf8-are_ascii _ refl, (refl, refl, utf8, (refl, refl, small, (refl, refl, IsUtf8-are_ascii _ refl, (refl, refl, to_utf8, tt)))))
+notify_plain One by core to (action.Set value) index utf8 small to_utf8 few word = (
+  refl,
+  refl,
+  IsUtf8-are_ascii _ refl,
+  (
+    refl,
+    refl,
+    utf8,
+    (refl, refl, small, (refl, refl, IsUtf8-are_ascii _ refl, (refl, refl, to_utf8, (refl, refl, omega arith, tt)))),
+  ),
+)
+notify_plain One by core to (action.SetNew value) index utf8 small to_utf8 few word = (
+  refl,
+  refl,
+  IsUtf8-are_ascii _ refl,
+  (
+    refl,
+    refl,
+    utf8,
+    (refl, refl, small, (refl, refl, IsUtf8-are_ascii _ refl, (refl, refl, to_utf8, (refl, refl, omega arith, tt)))),
+  ),
+)
+notify_plain Two by core to action.Nothing index utf8 small to_utf8 few word = (
+  refl,
+  refl,
+  IsUtf8-are_ascii _ refl,
+  (
+    refl,
+    refl,
+    utf8,
+    (refl, refl, small, (refl, refl, IsUtf8-are_ascii _ refl, (refl, refl, few, (refl, refl, to_utf8, tt)))),
+  ),
+)
+notify_plain Two by core to (action.SetBits bits) index utf8 small to_utf8 few word = (
+  refl,
+  refl,
+  IsUtf8-are_ascii _ refl,
+  (
+    refl,
+    refl,
+    utf8,
+    (refl, refl, small, (refl, refl, IsUtf8-are_ascii _ refl, (refl, refl, few, (refl, refl, to_utf8, (refl, refl, omega arith, tt))))),
+  ),
+)
+notify_plain Two by core to action.Increment index utf8 small to_utf8 few word = (
+  refl,
+  refl,
+  IsUtf8-are_ascii _ refl,
+  (
+    refl,
+    refl,
+    utf8,
+    (refl, refl, small, (refl, refl, IsUtf8-are_ascii _ refl, (refl, refl, few, (refl, refl, to_utf8, tt)))),
+  ),
+)
+notify_plain Two by core to (action.Set value) index utf8 small to_utf8 few word = (
+  refl,
+  refl,
+  IsUtf8-are_ascii _ refl,
+  (
+    refl,
+    refl,
+    utf8,
+    (refl, refl, small, (refl, refl, IsUtf8-are_ascii _ refl, (refl, refl, few, (refl, refl, to_utf8, (refl, refl, omega arith, tt))))),
+  ),
+)
+notify_plain Two by core to (action.SetNew value) index utf8 small to_utf8 few word = (
+  refl,
+  refl,
+  IsUtf8-are_ascii _ refl,
+  (
+    refl,
+    refl,
+    utf8,
+    (refl, refl, small, (refl, refl, IsUtf8-are_ascii _ refl, (refl, refl, few, (refl, refl, to_utf8, (refl, refl, omega arith, tt))))),
+  ),
+)
 
-interrupt_plain : (format : Format) (core : ℕ) (to : List ℕ) (what : Action) (index : ℕ) → core < 2 ^ 64 → IsUtf8 to → index < 2 ^ 64 → IsActionOfWord what → IsPlain (interrupt_data format core to what index)
-interrupt_plain One core to action.Nothing index small to_utf8 few word = (refl, refl, IsUtf8-are_ascii _ refl, (refl, refl, small, (refl, refl, IsUtf8-are_ascii _ refl, (refl, refl, to_utf8, tt))))
-interrupt_plain One core to (action.SetBits bits) index small to_utf8 few word = (refl, refl, IsUtf8-are_ascii _ refl, (refl, refl, small, (refl, refl, IsUtf8-are_ascii _ refl, (refl, refl, to_utf8, (refl, refl, omega arith, tt)))))
-interrupt_plain One core to action.Increment index small to_utf8 few word = (refl, refl, IsUtf8-are_ascii _ refl, (refl, refl, small, (refl, refl, IsUtf8-are_ascii _ refl, (refl, refl, to_utf8, tt))))
-interrupt_plain One core to (action.Set value) index small to_utf8 few word = (refl, refl, IsUtf8-are_ascii _ refl, (refl, refl, small, (refl, refl, IsUtf8-are_ascii _ refl, (refl, refl, to_utf8, (refl, refl, omega arith, tt)))))
-interrupt_plain One core to (action.SetNew value) index small to_utf8 few word = (refl, refl, IsUtf8-are_ascii _ refl, (refl, refl, small, (refl, refl, IsUtf8-are_ascii _ refl, (refl, refl, to_utf8, (refl, refl, omega arith, tt)))))
-interrupt_plain Two core to action.Nothing index small to_utf8 few word = (refl, refl, IsUtf8-are_ascii _ refl, (refl, refl, small, (refl, refl, IsUtf8-are_ascii _ refl, (refl, refl, few, (refl, refl, to_utf8, tt)))))
-interrupt_plain Two core to (action.SetBits bits) index small to_utf8 few word = (refl, refl, IsUtf8-are_ascii _ refl, (refl, refl, small, (refl, refl, IsUtf8-are_ascii _ refl, (refl, refl, few, (refl, refl, to_utf8, (refl, refl, omega arith, tt))))))
-interrupt_plain Two core to action.Increment index small to_utf8 few word = (refl, refl, IsUtf8-are_ascii _ refl, (refl, refl, small, (refl, refl, IsUtf8-are_ascii _ refl, (refl, refl, few, (refl, refl, to_utf8, tt)))))
-interrupt_plain Two core to (action.Set value) index small to_utf8 few word = (refl, refl, IsUtf8-are_ascii _ refl, (refl, refl, small, (refl, refl, IsUtf8-are_ascii _ refl, (refl, refl, few, (refl, refl, to_utf8, (refl, refl, omega arith, tt))))))
-interrupt_plain Two core to (action.SetNew value) index small to_utf8 few word = (refl, refl, IsUtf8-are_ascii _ refl, (refl, refl, small, (refl, refl, IsUtf8-are_ascii _ refl, (refl, refl, few, (refl, refl, to_utf8, (refl, refl, omega arith, tt))))))
+interrupt_plain : (format : Format) (core : ℕ) (to : List ℕ) (what : NotifyAction) (index : ℕ) → core < 2 ^ 64 → IsUtf8 to → index < 2 ^ 64 →
+    IsNotifyActionOfWord what → IsPlain (interrupt_data format core to what index)
+interrupt_plain One core to action.Nothing index small to_utf8 few word =
+    (refl, refl, IsUtf8-are_ascii _ refl, (refl, refl, small, (refl, refl, IsUtf8-are_ascii _ refl, (refl, refl, to_utf8, tt))))
+interrupt_plain One core to (action.SetBits bits) index small to_utf8 few word =
+    (refl, refl, IsUtf8-are_ascii _ refl, (refl, refl, small, (refl, refl, IsUtf8-are_ascii _ refl, (refl, refl, to_utf8, (refl, refl, omega arith, tt)))))
+interrupt_plain One core to action.Increment index small to_utf8 few word =
+    (refl, refl, IsUtf8-are_ascii _ refl, (refl, refl, small, (refl, refl, IsUtf8-are_ascii _ refl, (refl, refl, to_utf8, tt))))
+interrupt_plain One core to (action.Set value) index small to_utf8 few word =
+    (refl, refl, IsUtf8-are_ascii _ refl, (refl, refl, small, (refl, refl, IsUtf8-are_ascii _ refl, (refl, refl, to_utf8, (refl, refl, omega arith, tt)))))
+interrupt_plain One core to (action.SetNew value) index small to_utf8 few word =
+    (refl, refl, IsUtf8-are_ascii _ refl, (refl, refl, small, (refl, refl, IsUtf8-are_ascii _ refl, (refl, refl, to_utf8, (refl, refl, omega arith, tt)))))
+interrupt_plain Two core to action.Nothing index small to_utf8 few word =
+    (refl, refl, IsUtf8-are_ascii _ refl, (refl, refl, small, (refl, refl, IsUtf8-are_ascii _ refl, (refl, refl, few, (refl, refl, to_utf8, tt)))))
+interrupt_plain Two core to (action.SetBits bits) index small to_utf8 few word = (
+  refl,
+  refl,
+  IsUtf8-are_ascii _ refl,
+  (
+    refl,
+    refl,
+    small,
+    (refl, refl, IsUtf8-are_ascii _ refl, (refl, refl, few, (refl, refl, to_utf8, (refl, refl, omega arith, tt)))),
+  ),
+)
+interrupt_plain Two core to action.Increment index small to_utf8 few word =
+    (refl, refl, IsUtf8-are_ascii _ refl, (refl, refl, small, (refl, refl, IsUtf8-are_ascii _ refl, (refl, refl, few, (refl, refl, to_utf8, tt)))))
+interrupt_plain Two core to (action.Set value) index small to_utf8 few word = (
+  refl,
+  refl,
+  IsUtf8-are_ascii _ refl,
+  (
+    refl,
+    refl,
+    small,
+    (refl, refl, IsUtf8-are_ascii _ refl, (refl, refl, few, (refl, refl, to_utf8, (refl, refl, omega arith, tt)))),
+  ),
+)
+interrupt_plain Two core to (action.SetNew value) index small to_utf8 few word = (
+  refl,
+  refl,
+  IsUtf8-are_ascii _ refl,
+  (
+    refl,
+    refl,
+    small,
+    (refl, refl, IsUtf8-are_ascii _ refl, (refl, refl, few, (refl, refl, to_utf8, (refl, refl, omega arith, tt)))),
+  ),
+)
 
-wait_plain : (format : Format) (by : List ℕ) (core entry exit ticks index : ℕ) → IsUtf8 by → core < 2 ^ 64 → index < 2 ^ 64 → entry < 2 ^ 32 → exit < 2 ^ 32 → ticks < 2 ^ 32 → IsPlain (wait_data format by core entry exit ticks index)
-wait_plain One by core entry exit ticks index utf8 small few entry_word exit_word ticks_word = (refl, refl, utf8, (refl, refl, small, (refl, refl, IsUtf8-are_ascii _ refl, (refl, refl, omega (arith, entry_word), (refl, refl, omega (arith, exit_word), (refl, refl, omega (arith, ticks_word), tt))))))
-wait_plain Two by core entry exit ticks index utf8 small few entry_word exit_word ticks_word = (refl, refl, utf8, (refl, refl, small, (refl, refl, IsUtf8-are_ascii _ refl, (refl, refl, omega (arith, entry_word), (refl, refl, omega (arith, exit_word), (refl, refl, few, (refl, refl, omega (arith, ticks_word), tt)))))))
+wait_plain : (format : Format) (by : List ℕ) (core entry exit ticks index : ℕ) → IsUtf8 by → core < 2 ^ 64 → index < 2 ^ 64 → entry < 2 ^ 32 → exit < 2 ^ 32 →
+    ticks < 2 ^ 32 → IsPlain (wait_data format by core entry exit ticks index)
+wait_plain One by core entry exit ticks index utf8 small few entry_word exit_word ticks_word = (
+  refl,
+  refl,
+  utf8,
+  (
+    refl,
+    refl,
+    small,
+    (
+      refl,
+      refl,
+      IsUtf8-are_ascii _ refl,
+      (refl, refl, omega (arith, entry_word), (refl, refl, omega (arith, exit_word), (refl, refl, omega (arith, ticks_word), tt))),
+    ),
+  ),
+)
+wait_plain Two by core entry exit ticks index utf8 small few entry_word exit_word ticks_word = (
+  refl,
+  refl,
+  utf8,
+  (
+    refl,
+    refl,
+    small,
+    (
+      refl,
+      refl,
+      IsUtf8-are_ascii _ refl,
+      (refl, refl, omega (arith, entry_word), (refl, refl, omega (arith, exit_word), (refl, refl, few, (refl, refl, omega (arith, ticks_word), tt)))),
+    ),
+  ),
+)
 
-take_plain : (format : Format) (by : List ℕ) (core : ℕ) (clear : Bool) (ticks index : ℕ) → IsUtf8 by → core < 2 ^ 64 → index < 2 ^ 64 → ticks < 2 ^ 32 → IsPlain (take_data format by core clear ticks index)
-take_plain One by core clear ticks index utf8 small few word = (refl, refl, utf8, (refl, refl, tt, (refl, refl, small, (refl, refl, IsUtf8-are_ascii _ refl, (refl, refl, omega (arith, word), tt)))))
-take_plain Two by core clear ticks index utf8 small few word = (refl, refl, utf8, (refl, refl, tt, (refl, refl, small, (refl, refl, IsUtf8-are_ascii _ refl, (refl, refl, few, (refl, refl, omega (arith, word), tt))))))
+take_plain : (format : Format) (by : List ℕ) (core : ℕ) (clear : Bool) (ticks index : ℕ) → IsUtf8 by → core < 2 ^ 64 → index < 2 ^ 64 → ticks < 2 ^ 32 → IsPlain
+    (take_data format by core clear ticks index)
+take_plain One by core clear ticks index utf8 small few word = (
+  refl,
+  refl,
+  utf8,
+  (refl, refl, tt, (refl, refl, small, (refl, refl, IsUtf8-are_ascii _ refl, (refl, refl, omega (arith, word), tt)))),
+)
+take_plain Two by core clear ticks index utf8 small few word = (
+  refl,
+  refl,
+  utf8,
+  (refl, refl, tt, (refl, refl, small, (refl, refl, IsUtf8-are_ascii _ refl, (refl, refl, few, (refl, refl, omega (arith, word), tt))))),
+)
 
-state_clear_plain : (format : Format) (by : List ℕ) (core : ℕ) (to : List ℕ) (index : ℕ) → IsUtf8 by → core < 2 ^ 64 → IsUtf8 to → index < 2 ^ 64 → IsPlain (state_clear_data format by core to index)
-state_clear_plain One by core to index utf8 small to_utf8 few = (refl, refl, utf8, (refl, refl, small, (refl, refl, IsUtf8-are_ascii _ refl, (refl, refl, to_utf8, tt))))
-state_clear_plain Two by core to index utf8 small to_utf8 few = (refl, refl, utf8, (refl, refl, small, (refl, refl, IsUtf8-are_ascii _ refl, (refl, refl, few, (refl, refl, to_utf8, tt)))))
+state_clear_plain : (format : Format) (by : List ℕ) (core : ℕ) (to : List ℕ) (index : ℕ) → IsUtf8 by → core < 2 ^ 64 → IsUtf8 to → index < 2 ^ 64 → IsPlain
+    (state_clear_data format by core to index)
+state_clear_plain One by core to index utf8 small to_utf8 few = (
+  refl,
+  refl,
+  utf8,
+  (refl, refl, small, (refl, refl, IsUtf8-are_ascii _ refl, (refl, refl, to_utf8, tt))),
+)
+state_clear_plain Two by core to index utf8 small to_utf8 few = (
+  refl,
+  refl,
+  utf8,
+  (refl, refl, small, (refl, refl, IsUtf8-are_ascii _ refl, (refl, refl, few, (refl, refl, to_utf8, tt)))),
+)
 
-value_clear_plain : (format : Format) (by : List ℕ) (core : ℕ) (to : List ℕ) (bits index : ℕ) → IsUtf8 by → core < 2 ^ 64 → IsUtf8 to → index < 2 ^ 64 → bits < 2 ^ 32 → IsPlain (value_clear_data format by core to bits index)
-value_clear_plain One by core to bits index utf8 small to_utf8 few word = (refl, refl, omega (arith, word), (refl, refl, utf8, (refl, refl, small, (refl, refl, IsUtf8-are_ascii _ refl, (refl, refl, to_utf8, tt)))))
-value_clear_plain Two by core to bits index utf8 small to_utf8 few word = (refl, refl, omega (arith, word), (refl, refl, utf8, (refl, refl, small, (refl, refl, IsUtf8-are_ascii _ refl, (refl, refl, few, (refl, refl, to_utf8, tt))))))
+value_clear_plain : (format : Format) (by : List ℕ) (core : ℕ) (to : List ℕ) (bits index : ℕ) → IsUtf8 by → core < 2 ^ 64 → IsUtf8 to → index < 2 ^ 64 → bits <
+    2 ^ 32 → IsPlain (value_clear_data format by core to bits index)
+value_clear_plain One by core to bits index utf8 small to_utf8 few word =
+    (refl, refl, omega (arith, word), (refl, refl, utf8, (refl, refl, small, (refl, refl, IsUtf8-are_ascii _ refl, (refl, refl, to_utf8, tt)))))
+value_clear_plain Two by core to bits index utf8 small to_utf8 few word = (
+  refl,
+  refl,
+  omega (arith, word),
+  (
+    refl,
+    refl,
+    utf8,
+    (refl, refl, small, (refl, refl, IsUtf8-are_ascii _ refl, (refl, refl, few, (refl, refl, to_utf8, tt)))),
+  ),
+)
 
 -- an index is a small number
 few_index : (header : Header) (index : ℕ) → IsWithinLimits header → index < header.config.notes → index < 2 ^ 64
 few_index header index h there = omega (arith, h.few_notes, there)
 
-pub call_plain : (format : Format) (header : Header) (by : List ℕ) (core : ℕ) (made : Call) → IsWithinLimits header → AreNames header → HasTarget header made → IsUtf8 by → core < 2 ^ 64 → IsOfWords made → IsPlain (call_data format header by core made)
+pub call_plain : (format : Format) (header : Header) (by : List ℕ) (core : ℕ) (made : Call) → IsWithinLimits header → AreNames header → HasTarget header made →
+    IsUtf8 by → core < 2 ^ 64 → IsOfWords made → IsPlain (call_data format header by core made)
 call_plain format header by core call.Yield h names target utf8 small words = bare_plain by core _ utf8 small (IsUtf8-are_ascii _ refl)
-call_plain format header by core (call.Delay ticks) h names target utf8 small words = (refl, refl, utf8, (refl, refl, small, (refl, refl, IsUtf8-are_ascii _ refl, (refl, refl, omega arith, tt))))
-call_plain format header by core (call.DelayUntil prev inc) h names target utf8 small words = (refl, refl, utf8, (refl, refl, small, (refl, refl, IsUtf8-are_ascii _ refl, (refl, refl, omega (arith, words.1), (refl, refl, omega (arith, words.0), tt)))))
-call_plain format header by core (call.PrioritySet task priority) h names target utf8 small words = (refl, refl, utf8, (refl, refl, small, (refl, refl, IsUtf8-are_ascii _ refl, (refl, refl, omega arith, (refl, refl, names task target.1 target.0, tt)))))
-call_plain format header by core (call.AffinitySet task mask) h names target utf8 small words = (refl, refl, utf8, (refl, refl, small, (refl, refl, IsUtf8-are_ascii _ refl, (refl, refl, omega arith, (refl, refl, names task target.1 target.0, tt)))))
-call_plain format header by core (call.PreemptOff task) h names target utf8 small words = for_plain by core _ _ utf8 small (IsUtf8-are_ascii _ refl) (names task target.1 target.0)
-call_plain format header by core (call.PreemptOn task) h names target utf8 small words = for_plain by core _ _ utf8 small (IsUtf8-are_ascii _ refl) (names task target.1 target.0)
-call_plain format header by core (call.Notify note) h names target utf8 small words = notify_plain format by core _ note.action note.index utf8 small (names note.task target.owner.1 target.owner.0) (few_index header note.index h target.index_there) words
-call_plain format header by core (call.NotifyWait entry exit ticks index) h names target utf8 small words = wait_plain format by core entry exit ticks index utf8 small (few_index header index h target) words.0 words.1 words.2
-call_plain format header by core (call.NotifyTake clear ticks index) h names target utf8 small words = take_plain format by core clear ticks index utf8 small (few_index header index h target) words
-call_plain format header by core (call.StateClear task index) h names target utf8 small words = state_clear_plain format by core _ index utf8 small (names task target.owner.1 target.owner.0) (few_index header index h target.index_there)
-call_plain format header by core (call.ValueClear task bits index) h names target utf8 small words = value_clear_plain format by core _ bits index utf8 small (names task target.owner.1 target.owner.0) (few_index header index h target.index_there) words
-call_plain format header by core (call.MutexTake mutex ticks) h names target utf8 small words = (refl, refl, utf8, (refl, refl, small, (refl, refl, IsUtf8-are_ascii _ refl, (refl, refl, omega (arith, h.few_mutexes), (refl, refl, omega arith, tt)))))
-call_plain format header by core (call.MutexGive mutex) h names target utf8 small words = (refl, refl, utf8, (refl, refl, small, (refl, refl, IsUtf8-are_ascii _ refl, (refl, refl, omega (arith, h.few_mutexes), tt))))
+call_plain format header by core (call.Delay ticks) h names target utf8 small words =
+    (refl, refl, utf8, (refl, refl, small, (refl, refl, IsUtf8-are_ascii _ refl, (refl, refl, omega arith, tt))))
+call_plain format header by core (call.DelayUntil prev inc) h names target utf8 small words = (
+  refl,
+  refl,
+  utf8,
+  (
+    refl,
+    refl,
+    small,
+    (
+      refl,
+      refl,
+      IsUtf8-are_ascii _ refl,
+      (refl, refl, omega (arith, words.1), (refl, refl, omega (arith, words.0), tt)),
+    ),
+  ),
+)
+call_plain format header by core (call.PrioritySet task priority) h names target utf8 small words =
+    (refl, refl, utf8, (refl, refl, small, (refl, refl, IsUtf8-are_ascii _ refl, (refl, refl, omega arith, (refl, refl, names task target.1 target.0, tt)))))
+call_plain format header by core (call.AffinitySet task mask) h names target utf8 small words =
+    (refl, refl, utf8, (refl, refl, small, (refl, refl, IsUtf8-are_ascii _ refl, (refl, refl, omega arith, (refl, refl, names task target.1 target.0, tt)))))
+call_plain format header by core (call.PreemptOff task) h names target utf8 small words = for_plain by core _ _ utf8 small (IsUtf8-are_ascii _ refl)
+    (names task target.1 target.0)
+call_plain format header by core (call.PreemptOn task) h names target utf8 small words = for_plain by core _ _ utf8 small (IsUtf8-are_ascii _ refl)
+    (names task target.1 target.0)
+call_plain format header by core (call.Notify note) h names target utf8 small words = notify_plain format by core _ note.action note.index utf8 small
+    (names note.task target.owner.1 target.owner.0) (few_index header note.index h target.index_there) words
+call_plain format header by core (call.NotifyWait entry exit ticks index) h names target utf8 small words = wait_plain format by core entry exit ticks index
+    utf8 small (few_index header index h target) words.0 words.1 words.2
+call_plain format header by core (call.NotifyTake clear ticks index) h names target utf8 small words = take_plain format by core clear ticks index utf8 small
+    (few_index header index h target) words
+call_plain format header by core (call.StateClear task index) h names target utf8 small words = state_clear_plain format by core _ index utf8 small
+    (names task target.owner.1 target.owner.0) (few_index header index h target.index_there)
+call_plain format header by core (call.ValueClear task bits index) h names target utf8 small words = value_clear_plain format by core _ bits index utf8 small
+    (names task target.owner.1 target.owner.0) (few_index header index h target.index_there) words
+call_plain format header by core (call.MutexTake mutex ticks) h names target utf8 small words =
+    (refl, refl, utf8, (refl, refl, small, (refl, refl, IsUtf8-are_ascii _ refl, (refl, refl, omega (arith, h.few_mutexes), (refl, refl, omega arith, tt)))))
+call_plain format header by core (call.MutexGive mutex) h names target utf8 small words =
+    (refl, refl, utf8, (refl, refl, small, (refl, refl, IsUtf8-are_ascii _ refl, (refl, refl, omega (arith, h.few_mutexes), tt))))
 call_plain format header by core call.Finish h names target utf8 small words = bare_plain by core _ utf8 small (IsUtf8-are_ascii _ refl)
 call_plain format header by core call.HoldOpen h names target utf8 small words = bare_plain by core _ utf8 small (IsUtf8-are_ascii _ refl)
 call_plain format header by core call.HoldClose h names target utf8 small words = bare_plain by core _ utf8 small (IsUtf8-are_ascii _ refl)
 
-step_plain : (format : Format) (header : Header) (made : Step) → IsWithinLimits header → AreNames header → StepFits header made → IsStepOfWords made → IsPlain (step_data format header made)
+step_plain : (format : Format) (header : Header) (made : Step) → IsWithinLimits header → AreNames header → StepFits header made → IsStepOfWords made → IsPlain
+    (step_data format header made)
 step_plain format header step.Tick h names place words = (refl, refl, IsUtf8-are_ascii _ refl, tt)
 step_plain format header (step.Switch core) h names place words = (refl, refl, omega (arith, h.few_cores), (refl, refl, IsUtf8-are_ascii _ refl, tt))
-step_plain format header (step.Call core task made) h names place words = call_plain format header (task_name header task) core made h names place.target (names task place.caller.1 place.caller.0) (omega (arith, h.few_cores, place.core_there)) words
-step_plain format header (step.Interrupt core note) h names place words = interrupt_plain format core _ note.action note.index (omega (arith, h.few_cores, place.core_there)) (names note.task place.target.owner.1 place.target.owner.0) (few_index header note.index h place.target.index_there) words
+step_plain format header (step.Call core task made) h names place words = call_plain format header (task_name header task) core made h names place.target
+    (names task place.caller.1 place.caller.0) (omega (arith, h.few_cores, place.core_there)) words
+step_plain format header (step.Interrupt core note) h names place words = interrupt_plain format core _ note.action note.index
+    (omega (arith, h.few_cores, place.core_there)) (names note.task place.target.owner.1 place.target.owner.0)
+    (few_index header note.index h place.target.index_there) words
 
-steps_plain : (format : Format) (header : Header) (steps : List Step) → IsWithinLimits header → AreNames header → AllByRecursion (λ made. StepFits header made × IsStepOfWords made) steps → ArePlain (items_of (map (step_data format header) steps))
+steps_plain : (format : Format) (header : Header) (steps : List Step) → IsWithinLimits header → AreNames header → AllByRecursion
+    (λ made. StepFits header made × IsStepOfWords made) steps → ArePlain (items_of (map (step_data format header) steps))
 steps_plain format header [] h names each = tt
-steps_plain format header (made ∷ steps) h names each = (step_plain format header made h names each.0.0 each.0.1, steps_plain format header steps h names each.1)
+steps_plain format header (made ∷ steps) h names each = (
+  step_plain format header made h names each.0.0 each.0.1,
+  steps_plain format header steps h names
+      each.1,
+)
 
 -- a task of a header with these settings
 pub record IsTask (config : Config) (task : TaskArgs) : Type 0 where
@@ -131,7 +355,8 @@ pub record IsTask (config : Config) (task : TaskArgs) : Type 0 where
   pub named : IsTrue (is_name task.name)
   pub mask : task.mask < 2 ^ 32
 
-tasks_plain : (config : Config) (tasks : List TaskArgs) → config.priorities ≤ max_priorities → AllByRecursion (IsTask config) tasks → ArePlain (items_of (map task_data tasks))
+tasks_plain : (config : Config) (tasks : List TaskArgs) → config.priorities ≤ max_priorities → AllByRecursion (IsTask config) tasks → ArePlain
+    (items_of (map task_data tasks))
 tasks_plain config [] few each = tt
 tasks_plain config (task ∷ tasks) few each =
     let priority : task.priority < config.priorities = grind (arith, nat_tests, each.0.fits) in
@@ -148,11 +373,74 @@ pub record IsWritable (header : Header) (steps : List Step) : Type 0 where
 data_plain : (format : Format) (header : Header) (steps : List Step) → IsWritable header steps → IsPlain (data_in format header steps)
 unfolding data_in
 data_plain One header steps h =
-    let limits = h.limits in
-    (refl, refl, omega (arith, limits.few_cores), (refl, refl, omega arith, (refl, refl, omega (arith, limits.few_mutexes), (refl, refl, omega (arith, limits.few_priorities), (refl, refl, tt, (refl, refl, steps_plain One header steps limits h.names h.each_step, (refl, refl, tasks_plain header.config header.tasks limits.few_priorities h.each_task, (refl, refl, omega (arith, h.tick), tt))))))))
+    let limits = h.limits in (
+      refl,
+      refl,
+      omega (arith, limits.few_cores),
+      (
+        refl,
+        refl,
+        omega arith,
+        (
+          refl,
+          refl,
+          omega (arith, limits.few_mutexes),
+          (
+            refl,
+            refl,
+            omega (arith, limits.few_priorities),
+            (
+              refl,
+              refl,
+              tt,
+              (
+                refl,
+                refl,
+                steps_plain One header steps limits h.names h.each_step,
+                (refl, refl, tasks_plain header.config header.tasks limits.few_priorities h.each_task, (refl, refl, omega (arith, h.tick), tt)),
+              ),
+            ),
+          ),
+        ),
+      ),
+    )
 data_plain Two header steps h =
-    let limits = h.limits in
-    (refl, refl, omega (arith, limits.few_cores), (refl, refl, omega arith, (refl, refl, omega (arith, limits.few_mutexes), (refl, refl, omega (arith, limits.few_notes), (refl, refl, omega (arith, limits.few_priorities), (refl, refl, tt, (refl, refl, steps_plain Two header steps limits h.names h.each_step, (refl, refl, tasks_plain header.config header.tasks limits.few_priorities h.each_task, (refl, refl, omega (arith, h.tick), tt)))))))))
+    let limits = h.limits in (
+      refl,
+      refl,
+      omega (arith, limits.few_cores),
+      (
+        refl,
+        refl,
+        omega arith,
+        (
+          refl,
+          refl,
+          omega (arith, limits.few_mutexes),
+          (
+            refl,
+            refl,
+            omega (arith, limits.few_notes),
+            (
+              refl,
+              refl,
+              omega (arith, limits.few_priorities),
+              (
+                refl,
+                refl,
+                tt,
+                (
+                  refl,
+                  refl,
+                  steps_plain Two header steps limits h.names h.each_step,
+                  (refl, refl, tasks_plain header.config header.tasks limits.few_priorities h.each_task, (refl, refl, omega (arith, h.tick), tt)),
+                ),
+              ),
+            ),
+          ),
+        ),
+      ),
+    )
 
 pub session_plain : (header : Header) (steps : List Step) → IsWritable header steps → IsPlain (session_data header steps)
 session_plain header steps h = data_plain (format_for header.config) header steps h
@@ -161,7 +449,7 @@ items_within : {A : Type 0} (data_of : A → Data) (n : ℕ) → ((x : A) → de
 items_within data_of n each [] = omega arith
 items_within data_of n each (x ∷ xs) = omega (arith, each x, items_within data_of n each xs)
 
-notify_depth : (format : Format) (by : List ℕ) (core : ℕ) (to : List ℕ) (what : Action) (index : ℕ) → depth (notify_data format by core to what index) ≤ 1
+notify_depth : (format : Format) (by : List ℕ) (core : ℕ) (to : List ℕ) (what : NotifyAction) (index : ℕ) → depth (notify_data format by core to what index) ≤ 1
 notify_depth One by core to action.Nothing index = omega arith
 notify_depth One by core to (action.SetBits bits) index = omega arith
 notify_depth One by core to action.Increment index = omega arith
@@ -173,7 +461,7 @@ notify_depth Two by core to action.Increment index = omega arith
 notify_depth Two by core to (action.Set value) index = omega arith
 notify_depth Two by core to (action.SetNew value) index = omega arith
 
-interrupt_depth : (format : Format) (core : ℕ) (to : List ℕ) (what : Action) (index : ℕ) → depth (interrupt_data format core to what index) ≤ 1
+interrupt_depth : (format : Format) (core : ℕ) (to : List ℕ) (what : NotifyAction) (index : ℕ) → depth (interrupt_data format core to what index) ≤ 1
 interrupt_depth One core to action.Nothing index = omega arith
 interrupt_depth One core to (action.SetBits bits) index = omega arith
 interrupt_depth One core to action.Increment index = omega arith

@@ -1,5 +1,6 @@
 -- A JSON value of whole numbers, texts and objects with ascending ASCII keys is read back from its compact text.
-use Rattle.std.proofs.Common.{◌≡◌, ℕ, suc, max, ◌^◌, ◌<◌, ◌≤◌, Bool, true, false, ◌&&◌, List, [], ◌∷◌, ◌++◌, Option, Some, option_map, option_and_then, Ok, decimal, refl, sym, ap, ap₂, ◌∙◌, subst, append-nil, IsUtf8, Ordering, Less, Equal, Greater, nat_cmp}
+use Rattle.std.proofs.Common.{◌≡◌, ℕ, suc, max, ◌^◌, ◌<◌, ◌≤◌, Bool, true, false, ◌&&◌, List, [], ◌∷◌, ◌++◌, Option, Some, option_map, option_and_then, Ok}
+use Rattle.std.proofs.Common.{decimal, refl, sym, ap, ap₂, ◌∙◌, subst, append-nil, IsUtf8, Ordering, Less, Equal, Greater, nat_cmp}
 use Rattle.std.specs.Prelude.{⊤}
 use Rattle.std.specs.Ordering.{is_gt, match_ordering}
 use Rattle.std.specs.Cmp.Lexicographic.{slice_cmp}
@@ -16,9 +17,11 @@ use Rattle.json.proofs.Printed.Decimals.{IsNumber-decimal}
 use Rattle.json.proofs.Printed.Tokens.{tokens-print}
 use Rattle.json.proofs.Printed.Trees.{value-json_tokens, ArePrintable-json_tokens}
 use Rattle.json.proofs.Printed.Utf8.{are_ascii, IsUtf8-are_ascii, IsUtf8-quoted}
-use Rattle.serde_json.specs.Data.{Num, unsigned, negative, float, Data, null, boolean, number, string, array, object, Items, no_items, item, Members, no_members, member, put, depth, items_depth, members_depth}
+use Rattle.serde_json.specs.Data.{Num, unsigned, negative, float, Data, null, boolean, number, string, array, object, Items, no_items, item, Members}
+use Rattle.serde_json.specs.Data.{no_members, member, put, depth, items_depth, members_depth}
 use Rattle.serde_json.specs.Read.{read, of_json, of_items, of_members, max_depth}
-use Rattle.serde_json.specs.Written.{outline, items_outline, members_outline, has_float, items_have_float, members_have_float, comma_if, compact_text, items_text, members_text}
+use Rattle.serde_json.specs.Written.{outline, items_outline, members_outline, has_float, items_have_float, members_have_float, comma_if, compact_text}
+use Rattle.serde_json.specs.Written.{items_text, members_text}
 use Rattle.serde_json.proofs.Numbers.{number_of-decimal}
 use Rattle.serde_json.proofs.Texts.{print-outline}
 use Rattle.session_text.specs.Session.{document}
@@ -91,7 +94,8 @@ is_above-join k (member l e front) ms above more =
     let both = and_parts (is_gt (slice_cmp nat_cmp k l)) (is_above k front) above in
     and_from _ _ both.0 (is_above-join k front ms both.1 more)
 
-are_above-join : (k : List ℕ) (d : Data) (front ms : Members) → are_above front ms ≡ true → is_below k ms ≡ true → are_above (join front (member k d no_members)) ms ≡ true
+are_above-join : (k : List ℕ) (d : Data) (front ms : Members) → are_above front ms ≡ true → is_below k ms ≡ true → are_above
+    (join front (member k d no_members)) ms ≡ true
 are_above-join k d front no_members above below = refl
 are_above-join k d front (member l e ms) above below =
     let both = and_parts (is_above l front) (are_above front ms) above in
@@ -117,7 +121,8 @@ mutual
 
   of_items-outline : (ds : Items) → ArePlain ds → of_items (items_outline ds) ≡ Some ds
   of_items-outline no_items h = refl
-  of_items-outline (item d ds) h = ap₂ (λ first others. option_and_then (λ d. option_map (item d) others) first) (of_json-outline d h.0) (of_items-outline ds h.1)
+  of_items-outline (item d ds) h = ap₂ (λ first others. option_and_then (λ d. option_map (item d) others) first) (of_json-outline d h.0)
+      (of_items-outline ds h.1)
 
   of_members-outline : (front ms : Members) → are_above front ms ≡ true → MembersArePlain ms → of_members (members_outline ms) front ≡ Some (join front ms)
   of_members-outline front no_members above h = ap Some (sym (join-no_members front))
@@ -187,19 +192,22 @@ mutual
 
   utf8-items_text : (later : Bool) (ds : Items) → ArePlain ds → IsUtf8 (items_text later ds)
   utf8-items_text later no_items h = IsUtf8-are_ascii _ refl
-  utf8-items_text later (item d ds) h = IsUtf8-append (comma_if later) _ (utf8_comma later) (IsUtf8-append (compact_text d) _ (utf8-text d h.0) (utf8-items_text true ds h.1))
+  utf8-items_text later (item d ds) h = IsUtf8-append (comma_if later) _ (utf8_comma later)
+      (IsUtf8-append (compact_text d) _ (utf8-text d h.0) (utf8-items_text true ds h.1))
 
   utf8-members_text : (later : Bool) (ms : Members) → MembersArePlain ms → IsUtf8 (members_text later ms)
   utf8-members_text later no_members h = IsUtf8-are_ascii _ refl
   utf8-members_text later (member k d ms) h =
       let value = IsUtf8-append (compact_text d) _ (utf8-text d h.2) (utf8-members_text true ms h.3) in
-      IsUtf8-append (comma_if later) _ (utf8_comma later) (IsUtf8-append (quoted k) _ (IsUtf8-quoted k (IsUtf8-are_ascii k h.1)) (IsUtf8-append (58 ∷ []) _ (IsUtf8-are_ascii _ refl) value))
+      IsUtf8-append (comma_if later) _ (utf8_comma later) (IsUtf8-append (quoted k) _ (IsUtf8-quoted k (IsUtf8-are_ascii k h.1))
+      (IsUtf8-append (58 ∷ []) _ (IsUtf8-are_ascii _ refl) value))
 
 read-compact_text : (d : Data) → IsPlain d → depth d ≤ max_depth → read (compact_text d) ≡ Some d
 read-compact_text d h shallow =
     let whole = λ (o : Option (json.Json × List Token)). option_and_then of_json (option_and_then (λ p. json.if_last p.0 p.1) o) in
     let text : tokens (compact_text d) ≡ json_tokens (outline d) ++ [] =
-    ap tokens (sym (print-outline d)) ∙ tokens-print (json_tokens (outline d)) (ArePrintable-json_tokens (outline d) (numbers-outline d h)) ∙ sym (append-nil _) in
+    ap tokens (sym (print-outline d)) ∙ tokens-print (json_tokens (outline d)) (ArePrintable-json_tokens (outline d) (numbers-outline d h)) ∙ sym (append-nil _)
+    in
     let within : tree.depth (outline d) ≤ max_depth = subst (λ n. n ≤ max_depth) (sym (depth-outline d)) shallow in
     ap whole (ap (json.value max_depth) text ∙ value-json_tokens (outline d) max_depth [] within) ∙ of_json-outline d h
 

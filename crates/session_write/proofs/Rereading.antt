@@ -1,5 +1,6 @@
 -- A session that is written is read back.
-use Rattle.std.proofs.Common.{◌≡◌, ℕ, suc, ◌-◌, ◌^◌, ◌<◌, ◌≤◌, ◌==◌, Bool, true, false, cond, List, [], ◌∷◌, map, codes, refl, sym, ap, arith, ltb, lt-ltb, Option, None, Result, Ok}
+use Rattle.std.proofs.Common.{◌≡◌, ℕ, suc, ◌-◌, ◌^◌, ◌<◌, ◌≤◌, ◌==◌, Bool, true, false, cond, List, [], ◌∷◌, map, codes, refl, sym, ap, arith, ltb, lt-ltb}
+use Rattle.std.proofs.Common.{Option, None, Result, Ok}
 use Rattle.std.specs.Prelude.{All, IsTrue, ⊤}
 use Rattle.std.specs.List.{list_all, AllByRecursion}
 use Rattle.std.proofs.lemmas.Bool.{and_parts}
@@ -11,8 +12,8 @@ use Rattle.serde_json.specs.View.{items_of}
 use Rattle.bench_types.specs.declared.header.Config.{Config}
 use Rattle.bench_types.specs.declared.header.TaskArgs.{TaskArgs}
 use Rattle.bench_types.specs.declared.header.Header.{Header}
-use Rattle.bench_types.specs.declared.note.Action.{Action}
-use Rattle.bench_types.specs.declared.note.Action.TheVariants as action
+use Rattle.bench_types.specs.declared.note.NotifyAction.{NotifyAction}
+use Rattle.bench_types.specs.declared.note.NotifyAction.TheVariants as action
 use Rattle.bench_types.specs.declared.step.Step.{Step}
 use Rattle.bench_types.specs.declared.step.Step.TheVariants as step
 use Rattle.bench_types.specs.declared.step.Call.{Call}
@@ -21,11 +22,11 @@ use Rattle.bench_types.specs.declared.step_flaw.StepFlaw.{StepFlaw}
 use Rattle.bench_types.specs.Flaw.{header_flaw}
 use Rattle.bench_types.specs.Name.{is_name}
 use Rattle.bench_types.specs.Session.{IsSession}
-use Rattle.bench_types.specs.Step.{settings_of, IsActionOfWord, IsOfWords, IsStepOfWords}
+use Rattle.bench_types.specs.Step.{settings_of, IsNotifyActionOfWord, IsOfWords, IsStepOfWords}
 use Rattle.bench_types.specs.StepFlaw.{step_flaw}
 use Rattle.bench_types.specs.Limits.{max_priorities}
 use Rattle.session_text.specs.Accepted.{items_accepted}
-use Rattle.session_text.specs.Action.{action_at, action_kind_at, action_of_kind_at}
+use Rattle.session_text.specs.NotifyAction.{action_at, action_kind_at, action_of_kind_at}
 use Rattle.session_text.specs.Array.{each_at, list_at}
 use Rattle.session_text.specs.declared.format.Format.{Format}
 use Rattle.session_text.specs.declared.format.Format.TheVariants.{One, Two}
@@ -47,7 +48,8 @@ task_read : (at : List ℕ) (task : TaskArgs) → task.priority < 2 ^ 32 → tas
 unfolding task_at number_at text_at
 task_read at task priority mask = rw (lt-ltb _ _ priority, lt-ltb _ _ mask) refl
 
-tasks_read : (config : Config) (at : List ℕ) (index : ℕ) (tasks : List TaskArgs) → config.priorities ≤ max_priorities → AllByRecursion (IsTask config) tasks → each_at task_at at index (items_of (map task_data tasks)) ≡ Ok tasks
+tasks_read : (config : Config) (at : List ℕ) (index : ℕ) (tasks : List TaskArgs) → config.priorities ≤ max_priorities → AllByRecursion (IsTask config) tasks →
+    each_at task_at at index (items_of (map task_data tasks)) ≡ Ok tasks
 tasks_read config at index [] few each = refl
 tasks_read config at index (task ∷ tasks) few each =
     let priority : task.priority < config.priorities = grind (arith, nat_tests, each.0.fits) in
@@ -81,75 +83,229 @@ first_index header index one there = omega arith
 index_number : (header : Header) (index : ℕ) → IsWithinLimits header → index < header.config.notes → ltb index (2 ^ 32) ≡ true
 index_number header index h there = lt-ltb _ _ (omega (arith, h.few_notes))
 
-notify_read : (format : Format) (header : Header) (at : List ℕ) (core task to : ℕ) (what : Action) (index : ℕ) → Fits format header → IsWithinLimits header → core < header.config.cores → IsUserTask header task → IsNoteThere header to index → IsActionOfWord what → step_at format (names_of header) at (step_data format header (step.Call core task (call.Notify (record { task = to; action = what; index = index })))) ≡ Ok (step.Call core task (call.Notify (record { task = to; action = what; index = index })))
+notify_read : (format : Format) (header : Header) (at : List ℕ) (core task to : ℕ) (what : NotifyAction) (index : ℕ) → Fits format header → IsWithinLimits
+    header → core < header.config.cores → IsUserTask header task → IsNoteThere header to index → IsNotifyActionOfWord what → step_at format (names_of header)
+    at (step_data format header (step.Call core task (call.Notify (record { task = to; action = what; index = index })))) ≡ Ok
+    (step.Call core task (call.Notify (record { task = to; action = what; index = index })))
 unfolding step_at kind_at text_at step_of_kind_at number_at task_named_at call_at note_at action_at action_kind_at action_of_kind_at index_at number_or_at
-notify_read One header at core task to action.Nothing index fits h there caller target word = rw (first_index header index fits target.index_there, core_number header core h there, target_named header task h caller, target_named header to h target.owner) refl
-notify_read One header at core task to (action.SetBits bits) index fits h there caller target word = rw (first_index header index fits target.index_there, core_number header core h there, lt-ltb _ _ word, target_named header task h caller, target_named header to h target.owner) refl
-notify_read One header at core task to action.Increment index fits h there caller target word = rw (first_index header index fits target.index_there, core_number header core h there, target_named header task h caller, target_named header to h target.owner) refl
-notify_read One header at core task to (action.Set value) index fits h there caller target word = rw (first_index header index fits target.index_there, core_number header core h there, lt-ltb _ _ word, target_named header task h caller, target_named header to h target.owner) refl
-notify_read One header at core task to (action.SetNew value) index fits h there caller target word = rw (first_index header index fits target.index_there, core_number header core h there, lt-ltb _ _ word, target_named header task h caller, target_named header to h target.owner) refl
-notify_read Two header at core task to action.Nothing index fits h there caller target word = rw (index_number header index h target.index_there, core_number header core h there, target_named header task h caller, target_named header to h target.owner) refl
-notify_read Two header at core task to (action.SetBits bits) index fits h there caller target word = rw (index_number header index h target.index_there, core_number header core h there, lt-ltb _ _ word, target_named header task h caller, target_named header to h target.owner) refl
-notify_read Two header at core task to action.Increment index fits h there caller target word = rw (index_number header index h target.index_there, core_number header core h there, target_named header task h caller, target_named header to h target.owner) refl
-notify_read Two header at core task to (action.Set value) index fits h there caller target word = rw (index_number header index h target.index_there, core_number header core h there, lt-ltb _ _ word, target_named header task h caller, target_named header to h target.owner) refl
-notify_read Two header at core task to (action.SetNew value) index fits h there caller target word = rw (index_number header index h target.index_there, core_number header core h there, lt-ltb _ _ word, target_named header task h caller, target_named header to h target.owner) refl
+notify_read One header at core task to action.Nothing index fits h there caller target word = rw (
+  first_index header index fits target.index_there,
+  core_number header core h there,
+  target_named header task h caller,
+  target_named header to h
+      target.owner,
+) refl
+notify_read One header at core task to (action.SetBits bits) index fits h there caller target word = rw (
+  first_index header index fits target.index_there,
+  core_number header core h there,
+  lt-ltb _ _ word,
+  target_named header task h caller,
+  target_named header
+      to h target.owner,
+) refl
+notify_read One header at core task to action.Increment index fits h there caller target word = rw (
+  first_index header index fits target.index_there,
+  core_number header core h there,
+  target_named header task h caller,
+  target_named header to h
+      target.owner,
+) refl
+notify_read One header at core task to (action.Set value) index fits h there caller target word = rw (
+  first_index header index fits target.index_there,
+  core_number header core h there,
+  lt-ltb _ _ word,
+  target_named header task h caller,
+  target_named header
+      to h target.owner,
+) refl
+notify_read One header at core task to (action.SetNew value) index fits h there caller target word = rw (
+  first_index header index fits target.index_there,
+  core_number header core h there,
+  lt-ltb _ _ word,
+  target_named header task h caller,
+  target_named header
+      to h target.owner,
+) refl
+notify_read Two header at core task to action.Nothing index fits h there caller target word = rw
+    (index_number header index h target.index_there, core_number header core h there, target_named header task h caller, target_named header to h target.owner)
+    refl
+notify_read Two header at core task to (action.SetBits bits) index fits h there caller target word = rw (
+  index_number header index h target.index_there,
+  core_number header core h there,
+  lt-ltb _ _ word,
+  target_named header task h caller,
+  target_named header to
+      h target.owner,
+) refl
+notify_read Two header at core task to action.Increment index fits h there caller target word = rw
+    (index_number header index h target.index_there, core_number header core h there, target_named header task h caller, target_named header to h target.owner)
+    refl
+notify_read Two header at core task to (action.Set value) index fits h there caller target word = rw (
+  index_number header index h target.index_there,
+  core_number header core h there,
+  lt-ltb _ _ word,
+  target_named header task h caller,
+  target_named header to
+      h target.owner,
+) refl
+notify_read Two header at core task to (action.SetNew value) index fits h there caller target word = rw (
+  index_number header index h target.index_there,
+  core_number header core h there,
+  lt-ltb _ _ word,
+  target_named header task h caller,
+  target_named header to
+      h target.owner,
+) refl
 
-interrupt_read : (format : Format) (header : Header) (at : List ℕ) (core to : ℕ) (what : Action) (index : ℕ) → Fits format header → IsWithinLimits header → core < header.config.cores → IsNoteThere header to index → IsActionOfWord what → step_at format (names_of header) at (step_data format header (step.Interrupt core (record { task = to; action = what; index = index }))) ≡ Ok (step.Interrupt core (record { task = to; action = what; index = index }))
+interrupt_read : (format : Format) (header : Header) (at : List ℕ) (core to : ℕ) (what : NotifyAction) (index : ℕ) → Fits format header → IsWithinLimits header
+    → core < header.config.cores → IsNoteThere header to index → IsNotifyActionOfWord what → step_at format (names_of header)
+    at (step_data format header (step.Interrupt core (record { task = to; action = what; index = index }))) ≡ Ok
+    (step.Interrupt core (record { task = to; action = what; index = index }))
 unfolding step_at kind_at text_at step_of_kind_at number_at task_named_at note_at action_at action_kind_at action_of_kind_at index_at number_or_at
-interrupt_read One header at core to action.Nothing index fits h there target word = rw (first_index header index fits target.index_there, core_number header core h there, target_named header to h target.owner) refl
-interrupt_read One header at core to (action.SetBits bits) index fits h there target word = rw (first_index header index fits target.index_there, core_number header core h there, lt-ltb _ _ word, target_named header to h target.owner) refl
-interrupt_read One header at core to action.Increment index fits h there target word = rw (first_index header index fits target.index_there, core_number header core h there, target_named header to h target.owner) refl
-interrupt_read One header at core to (action.Set value) index fits h there target word = rw (first_index header index fits target.index_there, core_number header core h there, lt-ltb _ _ word, target_named header to h target.owner) refl
-interrupt_read One header at core to (action.SetNew value) index fits h there target word = rw (first_index header index fits target.index_there, core_number header core h there, lt-ltb _ _ word, target_named header to h target.owner) refl
-interrupt_read Two header at core to action.Nothing index fits h there target word = rw (index_number header index h target.index_there, core_number header core h there, target_named header to h target.owner) refl
-interrupt_read Two header at core to (action.SetBits bits) index fits h there target word = rw (index_number header index h target.index_there, core_number header core h there, lt-ltb _ _ word, target_named header to h target.owner) refl
-interrupt_read Two header at core to action.Increment index fits h there target word = rw (index_number header index h target.index_there, core_number header core h there, target_named header to h target.owner) refl
-interrupt_read Two header at core to (action.Set value) index fits h there target word = rw (index_number header index h target.index_there, core_number header core h there, lt-ltb _ _ word, target_named header to h target.owner) refl
-interrupt_read Two header at core to (action.SetNew value) index fits h there target word = rw (index_number header index h target.index_there, core_number header core h there, lt-ltb _ _ word, target_named header to h target.owner) refl
+interrupt_read One header at core to action.Nothing index fits h there target word = rw
+    (first_index header index fits target.index_there, core_number header core h there, target_named header to h target.owner) refl
+interrupt_read One header at core to (action.SetBits bits) index fits h there target word = rw
+    (first_index header index fits target.index_there, core_number header core h there, lt-ltb _ _ word, target_named header to h target.owner) refl
+interrupt_read One header at core to action.Increment index fits h there target word = rw
+    (first_index header index fits target.index_there, core_number header core h there, target_named header to h target.owner) refl
+interrupt_read One header at core to (action.Set value) index fits h there target word = rw
+    (first_index header index fits target.index_there, core_number header core h there, lt-ltb _ _ word, target_named header to h target.owner) refl
+interrupt_read One header at core to (action.SetNew value) index fits h there target word = rw
+    (first_index header index fits target.index_there, core_number header core h there, lt-ltb _ _ word, target_named header to h target.owner) refl
+interrupt_read Two header at core to action.Nothing index fits h there target word = rw
+    (index_number header index h target.index_there, core_number header core h there, target_named header to h target.owner) refl
+interrupt_read Two header at core to (action.SetBits bits) index fits h there target word = rw
+    (index_number header index h target.index_there, core_number header core h there, lt-ltb _ _ word, target_named header to h target.owner) refl
+interrupt_read Two header at core to action.Increment index fits h there target word = rw
+    (index_number header index h target.index_there, core_number header core h there, target_named header to h target.owner) refl
+interrupt_read Two header at core to (action.Set value) index fits h there target word = rw
+    (index_number header index h target.index_there, core_number header core h there, lt-ltb _ _ word, target_named header to h target.owner) refl
+interrupt_read Two header at core to (action.SetNew value) index fits h there target word = rw
+    (index_number header index h target.index_there, core_number header core h there, lt-ltb _ _ word, target_named header to h target.owner) refl
 
-call_read : (format : Format) (header : Header) (at : List ℕ) (core task : ℕ) (made : Call) → Fits format header → IsWithinLimits header → IsCallInPlace header core task made → IsOfWords made → step_at format (names_of header) at (step_data format header (step.Call core task made)) ≡ Ok (step.Call core task made)
+call_read : (format : Format) (header : Header) (at : List ℕ) (core task : ℕ) (made : Call) → Fits format header → IsWithinLimits header → IsCallInPlace header
+    core task made → IsOfWords made → step_at format (names_of header) at (step_data format header (step.Call core task made)) ≡ Ok (step.Call core task made)
 unfolding step_at kind_at text_at step_of_kind_at number_at flag_at task_named_at call_at wait_at index_at number_or_at
-call_read format header at core task call.Yield fits h place words = rw (core_number header core h place.core_there, target_named header task h place.caller) refl
-call_read format header at core task (call.Delay ticks) fits h place words = rw (core_number header core h place.core_there, lt-ltb _ _ words, target_named header task h place.caller) refl
-call_read format header at core task (call.DelayUntil prev inc) fits h place words = rw (core_number header core h place.core_there, lt-ltb _ _ words.0, lt-ltb _ _ words.1, target_named header task h place.caller) refl
-call_read format header at core task (call.PrioritySet to priority) fits h place words = rw (core_number header core h place.core_there, lt-ltb _ _ words, target_named header task h place.caller, target_named header to h place.target) refl
-call_read format header at core task (call.AffinitySet to mask) fits h place words = rw (core_number header core h place.core_there, lt-ltb _ _ words, target_named header task h place.caller, target_named header to h place.target) refl
-call_read format header at core task (call.PreemptOff to) fits h place words = rw (core_number header core h place.core_there, target_named header task h place.caller, target_named header to h place.target) refl
-call_read format header at core task (call.PreemptOn to) fits h place words = rw (core_number header core h place.core_there, target_named header task h place.caller, target_named header to h place.target) refl
-call_read format header at core task (call.Notify note) fits h place words = notify_read format header at core task note.task note.action note.index fits h place.core_there place.caller place.target words
-call_read One header at core task (call.NotifyWait entry exit ticks index) fits h place words = rw (first_index header index fits place.target, core_number header core h place.core_there, lt-ltb _ _ words.0, lt-ltb _ _ words.1, lt-ltb _ _ words.2, target_named header task h place.caller) refl
-call_read Two header at core task (call.NotifyWait entry exit ticks index) fits h place words = rw (index_number header index h place.target, core_number header core h place.core_there, lt-ltb _ _ words.0, lt-ltb _ _ words.1, lt-ltb _ _ words.2, target_named header task h place.caller) refl
-call_read One header at core task (call.NotifyTake clear ticks index) fits h place words = rw (first_index header index fits place.target, core_number header core h place.core_there, lt-ltb _ _ words, target_named header task h place.caller) refl
-call_read Two header at core task (call.NotifyTake clear ticks index) fits h place words = rw (index_number header index h place.target, core_number header core h place.core_there, lt-ltb _ _ words, target_named header task h place.caller) refl
-call_read One header at core task (call.StateClear to index) fits h place words = rw (first_index header index fits place.target.index_there, core_number header core h place.core_there, target_named header task h place.caller, target_named header to h place.target.owner) refl
-call_read Two header at core task (call.StateClear to index) fits h place words = rw (index_number header index h place.target.index_there, core_number header core h place.core_there, target_named header task h place.caller, target_named header to h place.target.owner) refl
-call_read One header at core task (call.ValueClear to bits index) fits h place words = rw (first_index header index fits place.target.index_there, core_number header core h place.core_there, lt-ltb _ _ words, target_named header task h place.caller, target_named header to h place.target.owner) refl
-call_read Two header at core task (call.ValueClear to bits index) fits h place words = rw (index_number header index h place.target.index_there, core_number header core h place.core_there, lt-ltb _ _ words, target_named header task h place.caller, target_named header to h place.target.owner) refl
-call_read format header at core task (call.MutexTake mutex ticks) fits h place words = rw (core_number header core h place.core_there, mutex_number header mutex h place.target, lt-ltb _ _ words, target_named header task h place.caller) refl
-call_read format header at core task (call.MutexGive mutex) fits h place words = rw (core_number header core h place.core_there, mutex_number header mutex h place.target, target_named header task h place.caller) refl
-call_read format header at core task call.Finish fits h place words = rw (core_number header core h place.core_there, target_named header task h place.caller) refl
-call_read format header at core task call.HoldOpen fits h place words = rw (core_number header core h place.core_there, target_named header task h place.caller) refl
-call_read format header at core task call.HoldClose fits h place words = rw (core_number header core h place.core_there, target_named header task h place.caller) refl
+call_read format header at core task call.Yield fits h place words = rw (core_number header core h place.core_there, target_named header task h place.caller)
+    refl
+call_read format header at core task (call.Delay ticks) fits h place words = rw
+    (core_number header core h place.core_there, lt-ltb _ _ words, target_named header task h place.caller) refl
+call_read format header at core task (call.DelayUntil prev inc) fits h place words = rw
+    (core_number header core h place.core_there, lt-ltb _ _ words.0, lt-ltb _ _ words.1, target_named header task h place.caller) refl
+call_read format header at core task (call.PrioritySet to priority) fits h place words = rw
+    (core_number header core h place.core_there, lt-ltb _ _ words, target_named header task h place.caller, target_named header to h place.target) refl
+call_read format header at core task (call.AffinitySet to mask) fits h place words = rw
+    (core_number header core h place.core_there, lt-ltb _ _ words, target_named header task h place.caller, target_named header to h place.target) refl
+call_read format header at core task (call.PreemptOff to) fits h place words = rw
+    (core_number header core h place.core_there, target_named header task h place.caller, target_named header to h place.target) refl
+call_read format header at core task (call.PreemptOn to) fits h place words = rw
+    (core_number header core h place.core_there, target_named header task h place.caller, target_named header to h place.target) refl
+call_read format header at core task (call.Notify note) fits h place words = notify_read format header at core task note.task note.action note.index fits h
+    place.core_there place.caller place.target words
+call_read One header at core task (call.NotifyWait entry exit ticks index) fits h place words = rw (
+  first_index header index fits place.target,
+  core_number header core h place.core_there,
+  lt-ltb _ _ words.0,
+  lt-ltb _ _ words.1,
+  lt-ltb _ _ words.2,
+  target_named header task h place.caller,
+) refl
+call_read Two header at core task (call.NotifyWait entry exit ticks index) fits h place words = rw (
+  index_number header index h place.target,
+  core_number header core h place.core_there,
+  lt-ltb _ _ words.0,
+  lt-ltb _ _ words.1,
+  lt-ltb _ _ words.2,
+  target_named header task h place.caller,
+) refl
+call_read One header at core task (call.NotifyTake clear ticks index) fits h place words = rw
+    (first_index header index fits place.target, core_number header core h place.core_there, lt-ltb _ _ words, target_named header task h place.caller) refl
+call_read Two header at core task (call.NotifyTake clear ticks index) fits h place words = rw
+    (index_number header index h place.target, core_number header core h place.core_there, lt-ltb _ _ words, target_named header task h place.caller) refl
+call_read One header at core task (call.StateClear to index) fits h place words = rw (
+  first_index header index fits place.target.index_there,
+  core_number header core h place.core_there,
+  target_named header task h place.caller,
+  target_named
+      header to h place.target.owner,
+) refl
+call_read Two header at core task (call.StateClear to index) fits h place words = rw (
+  index_number header index h place.target.index_there,
+  core_number header core h place.core_there,
+  target_named header task h place.caller,
+  target_named
+      header to h place.target.owner,
+) refl
+call_read One header at core task (call.ValueClear to bits index) fits h place words = rw (
+  first_index header index fits place.target.index_there,
+  core_number header core h place.core_there,
+  lt-ltb _ _ words,
+  target_named header task h
+      place.caller,
+  target_named header to h place.target.owner,
+) refl
+call_read Two header at core task (call.ValueClear to bits index) fits h place words = rw (
+  index_number header index h place.target.index_there,
+  core_number header core h place.core_there,
+  lt-ltb _ _ words,
+  target_named header task h
+      place.caller,
+  target_named header to h place.target.owner,
+) refl
+call_read format header at core task (call.MutexTake mutex ticks) fits h place words = rw
+    (core_number header core h place.core_there, mutex_number header mutex h place.target, lt-ltb _ _ words, target_named header task h place.caller) refl
+call_read format header at core task (call.MutexGive mutex) fits h place words = rw
+    (core_number header core h place.core_there, mutex_number header mutex h place.target, target_named header task h place.caller) refl
+call_read format header at core task call.Finish fits h place words = rw (core_number header core h place.core_there, target_named header task h place.caller)
+    refl
+call_read format header at core task call.HoldOpen fits h place words = rw (core_number header core h place.core_there, target_named header task h place.caller)
+    refl
+call_read format header at core task call.HoldClose fits h place words = rw
+    (core_number header core h place.core_there, target_named header task h place.caller) refl
 
-step_read : (format : Format) (header : Header) (at : List ℕ) (made : Step) → Fits format header → IsWithinLimits header → StepFits header made → IsStepOfWords made → step_at format (names_of header) at (step_data format header made) ≡ Ok made
+step_read : (format : Format) (header : Header) (at : List ℕ) (made : Step) → Fits format header → IsWithinLimits header → StepFits header made → IsStepOfWords
+    made → step_at format (names_of header) at (step_data format header made) ≡ Ok made
 unfolding step_at kind_at text_at step_of_kind_at number_at
 step_read format header at step.Tick fits h place words = refl
 step_read format header at (step.Switch core) fits h place words = rw (core_number header core h place) refl
 step_read format header at (step.Call core task made) fits h place words = call_read format header at core task made fits h place words
-step_read format header at (step.Interrupt core note) fits h place words = interrupt_read format header at core note.task note.action note.index fits h place.core_there place.target words
+step_read format header at (step.Interrupt core note) fits h place words = interrupt_read format header at core note.task note.action note.index fits h
+    place.core_there place.target words
 
-steps_read : (format : Format) (header : Header) (at : List ℕ) (index : ℕ) (steps : List Step) → Fits format header → IsWithinLimits header → AllByRecursion (λ made. StepFits header made × IsStepOfWords made) steps → each_at (step_at format (names_of header)) at index (items_of (map (step_data format header) steps)) ≡ Ok steps
+steps_read : (format : Format) (header : Header) (at : List ℕ) (index : ℕ) (steps : List Step) → Fits format header → IsWithinLimits header → AllByRecursion
+    (λ made. StepFits header made × IsStepOfWords made) steps → each_at (step_at format (names_of header)) at index
+    (items_of (map (step_data format header) steps)) ≡ Ok steps
 steps_read format header at index [] fits h each = refl
-steps_read format header at index (made ∷ steps) fits h each = rw (step_read format header _ made fits h each.0.0 each.0.1, steps_read format header at (suc index) steps fits h each.1) refl
+steps_read format header at index (made ∷ steps) fits h each = rw (
+  step_read format header _ made fits h each.0.0 each.0.1,
+  steps_read format header
+      at (suc index) steps fits h each.1,
+) refl
 
 -- the settings, with the number of notifications that the first format means
-config_of_one : (config : Config) → config.notes ≡ 1 → record { cores = config.cores; priorities = config.priorities; slicing = config.slicing; tick = config.tick; mutexes = config.mutexes; notes = 1 } ≡ config
+config_of_one : (config : Config) → config.notes ≡ 1 → record {
+  cores = config.cores;
+  priorities = config.priorities;
+  slicing = config.slicing;
+  tick =
+      config.tick;
+  mutexes = config.mutexes;
+  notes = 1;
+} ≡ config
 config_of_one config one = ap with_notes (sym one)
   where
     with_notes : ℕ → Config
-    with_notes notes = record { cores = config.cores; priorities = config.priorities; slicing = config.slicing; tick = config.tick; mutexes = config.mutexes; notes = notes }
+    with_notes notes = record {
+      cores = config.cores;
+      priorities = config.priorities;
+      slicing = config.slicing;
+      tick = config.tick;
+      mutexes = config.mutexes;
+      notes = notes;
+    }
 
-config_read : (format : Format) (header : Header) (steps : List Step) (at : List ℕ) → Fits format header → IsWritable header steps → config_at format at (data_in format header steps) ≡ Ok header.config
+config_read : (format : Format) (header : Header) (steps : List Step) (at : List ℕ) → Fits format header → IsWritable header steps → config_at format
+    at (data_in format header steps) ≡ Ok header.config
 unfolding data_in config_at notes_at number_at flag_at
 config_read One header steps at fits h =
     let limits = h.limits in
@@ -165,12 +321,14 @@ config_read Two header steps at fits h =
     let notes : header.config.notes < 2 ^ 32 = omega (arith, limits.few_notes) in
     rw (lt-ltb _ _ cores, lt-ltb _ _ priorities, lt-ltb _ _ mutexes, lt-ltb _ _ notes, lt-ltb _ _ h.tick) refl
 
-tasks_found : (format : Format) (header : Header) (steps : List Step) (at : List ℕ) → IsWritable header steps → list_at task_at at (codes "tasks") (data_in format header steps) ≡ Ok header.tasks
+tasks_found : (format : Format) (header : Header) (steps : List Step) (at : List ℕ) → IsWritable header steps → list_at task_at at (codes "tasks")
+    (data_in format header steps) ≡ Ok header.tasks
 unfolding data_in list_at array_at
 tasks_found One header steps at h = tasks_read header.config _ 0 header.tasks h.limits.few_priorities h.each_task
 tasks_found Two header steps at h = tasks_read header.config _ 0 header.tasks h.limits.few_priorities h.each_task
 
-header_read : (format : Format) (header : Header) (steps : List Step) (at : List ℕ) → Fits format header → header_flaw header ≡ None → IsWritable header steps → header_at format at (data_in format header steps) ≡ Ok (Ok header)
+header_read : (format : Format) (header : Header) (steps : List Step) (at : List ℕ) → Fits format header → header_flaw header ≡ None → IsWritable header steps →
+    header_at format at (data_in format header steps) ≡ Ok (Ok header)
 unfolding header_at
 header_read format header steps at fits valid h =
     rw (config_read format header steps at fits h, tasks_found format header steps at h, valid) refl
@@ -180,17 +338,30 @@ unfolding data_in format_at number_at
 format_read One header steps at = refl
 format_read Two header steps at = refl
 
-steps_found : (format : Format) (header : Header) (steps : List Step) (at : List ℕ) → Fits format header → IsWritable header steps → list_at (step_at format (names_of header)) at (codes "steps") (data_in format header steps) ≡ Ok steps
+steps_found : (format : Format) (header : Header) (steps : List Step) (at : List ℕ) → Fits format header → IsWritable header steps → list_at
+    (step_at format (names_of header)) at (codes "steps") (data_in format header steps) ≡ Ok steps
 unfolding data_in list_at array_at
 steps_found One header steps at fits h = steps_read One header _ 0 steps fits h.limits h.each_step
 steps_found Two header steps at fits h = steps_read Two header _ 0 steps fits h.limits h.each_step
 
-data_read : (format : Format) (header : Header) (steps : List Step) (at : List ℕ) → Fits format header → header_flaw header ≡ None → IsWritable header steps → session_at at (data_in format header steps) ≡ Ok (format, Ok header, steps)
+data_read : (format : Format) (header : Header) (steps : List Step) (at : List ℕ) → Fits format header → header_flaw header ≡ None → IsWritable header steps →
+    session_at at (data_in format header steps) ≡ Ok (format, Ok header, steps)
 unfolding data_in session_at
-data_read One header steps at fits valid h = rw (format_read One header steps at, header_read One header steps at fits valid h, steps_found One header steps at fits h) refl
-data_read Two header steps at fits valid h = rw (format_read Two header steps at, header_read Two header steps at fits valid h, steps_found Two header steps at fits h) refl
+data_read One header steps at fits valid h = rw (
+  format_read One header steps at,
+  header_read One header steps at fits valid h,
+  steps_found One header steps
+      at fits h,
+) refl
+data_read Two header steps at fits valid h = rw (
+  format_read Two header steps at,
+  header_read Two header steps at fits valid h,
+  steps_found Two header steps
+      at fits h,
+) refl
 
-all_of : (config : Config) (tasks : List TaskArgs) → list_all (has_valid_args config) tasks ≡ true → AllByRecursion (λ task. IsTrue (is_name task.name)) tasks → AllByRecursion (λ task. task.mask < 2 ^ 32) tasks → AllByRecursion (IsTask config) tasks
+all_of : (config : Config) (tasks : List TaskArgs) → list_all (has_valid_args config) tasks ≡ true → AllByRecursion (λ task. IsTrue (is_name task.name)) tasks →
+    AllByRecursion (λ task. task.mask < 2 ^ 32) tasks → AllByRecursion (IsTask config) tasks
 all_of config [] fit named masks = tt
 all_of config (task ∷ tasks) fit named masks =
     let both = and_parts (has_valid_args config task) (list_all (has_valid_args config) tasks) fit in
@@ -206,22 +377,27 @@ writable header steps h =
       tick = h.header.tick;
       each_task = all_of header.config header.tasks within.args names masks;
       names = λ task high low. utf8_name (task_name header task) (h.header.names (task - header.config.cores) _ (omega arith));
-      each_step = recursion_from_All (λ made. StepFits header made × IsStepOfWords made) steps (λ k d short. (in_place header _ (h.steps k d short).passes, (h.steps k d short).words));
+      each_step = recursion_from_All (λ made. StepFits header made × IsStepOfWords made) steps
+          (λ k d short. (in_place header _ (h.steps k d short).passes, (h.steps k d short).words));
     }
 
 -- items of which none is at fault pass their checks
-none_at_fault : {A : Type 0} (flaw_of : A → Option StepFlaw) (names : List (List ℕ)) (at : List ℕ) (array : Option Data) (index : ℕ) (items : List A) → AllByRecursion (λ item. flaw_of item ≡ None) items → items_accepted flaw_of names at array index items ≡ Ok tt
+none_at_fault : {A : Type 0} (flaw_of : A → Option StepFlaw) (names : List (List ℕ)) (at : List ℕ) (array : Option Data) (index : ℕ) (items : List A) →
+    AllByRecursion (λ item. flaw_of item ≡ None) items → items_accepted flaw_of names at array index items ≡ Ok tt
 none_at_fault flaw_of names at array index [] each = refl
 none_at_fault flaw_of names at array index (item ∷ items) each = rw (each.0, none_at_fault flaw_of names at array (suc index) items each.1) refl
 
-all_accepted : {A : Type 0} (flaw_of : A → Option StepFlaw) (names : List (List ℕ)) (at : List ℕ) (array : Option Data) (items : List A) → All (λ item. flaw_of item ≡ None) items → items_accepted flaw_of names at array 0 items ≡ Ok tt
+all_accepted : {A : Type 0} (flaw_of : A → Option StepFlaw) (names : List (List ℕ)) (at : List ℕ) (array : Option Data) (items : List A) → All
+    (λ item. flaw_of item ≡ None) items → items_accepted flaw_of names at array 0 items ≡ Ok tt
 all_accepted flaw_of names at array items pass = none_at_fault flaw_of names at array 0 items (recursion_from_All (λ item. flaw_of item ≡ None) items pass)
 
-accepted_read : (header : Header) (d : Data) (steps : List Step) → steps_accepted header [] d steps ≡ Ok tt → session_accepted [] d (Ok header) steps ≡ Ok (header, steps)
+accepted_read : (header : Header) (d : Data) (steps : List Step) → steps_accepted header [] d steps ≡ Ok tt → session_accepted [] d (Ok header) steps ≡ Ok
+    (header, steps)
 unfolding session_accepted
 accepted_read header d steps passing = rw passing refl
 
-steps_pass : (header : Header) (d : Data) (steps : List Step) → All (λ made. step_flaw (settings_of header) made ≡ None) steps → steps_accepted header [] d steps ≡ Ok tt
+steps_pass : (header : Header) (d : Data) (steps : List Step) → All (λ made. step_flaw (settings_of header) made ≡ None) steps → steps_accepted header [] d
+    steps ≡ Ok tt
 unfolding steps_accepted
 steps_pass header d steps pass = all_accepted (step_flaw (settings_of header)) (user_names header) (codes "steps") (get (codes "steps") d) steps pass
 
@@ -233,5 +409,9 @@ written_reads_back header steps h =
     let d = session_data header steps in
     let passing = steps_pass header d steps (λ k d short. step_unflawed (settings_of header) _ (h.steps k d short).passes) in
     let valid = checked_flaw header h.header.passes in
-    rw (document-compact_text d (session_plain header steps writes) (session_depth header steps), data_read format header steps [] (fits_for header) valid writes)
+    rw (
+      document-compact_text d (session_plain header steps writes) (session_depth header steps),
+      data_read format header steps [] (fits_for header) valid
+          writes,
+    )
     (accepted_read header d steps passing)

@@ -4,8 +4,8 @@ use Rattle.std.specs.Prelude.{◌≡◌, ◌-◌, ℕ, ◌==◌, Bool, List, [],
 use Rattle.serde_json.specs.Data.{Data, Members, number, unsigned, string, boolean, array, object, no_members, member, put}
 use Rattle.serde_json.specs.View.{items_of}
 use Rattle.serde_json.specs.Written.{compact_text}
-use Rattle.bench_types.specs.declared.note.Action.{Action}
-use Rattle.bench_types.specs.declared.note.Action.TheVariants as action
+use Rattle.bench_types.specs.declared.note.NotifyAction.{NotifyAction}
+use Rattle.bench_types.specs.declared.note.NotifyAction.TheVariants as action
 use Rattle.bench_types.specs.declared.header.Config.{Config}
 use Rattle.bench_types.specs.declared.header.TaskArgs.{TaskArgs}
 use Rattle.bench_types.specs.declared.header.Header.{Header}
@@ -16,7 +16,7 @@ use Rattle.bench_types.specs.declared.step.Call.TheVariants as call
 use Rattle.bench_types.specs.Session.{IsSession}
 use Rattle.session_text.specs.declared.format.Format.{Format}
 use Rattle.session_text.specs.declared.format.Format.TheVariants.{One, Two}
-use Rattle.session_text.specs.Action.{action_number}
+use Rattle.session_text.specs.NotifyAction.{action_number}
 use Rattle.session_text.specs.Session.{session}
 
 abbrev pub members : List (List ℕ × Data) → Members
@@ -86,7 +86,7 @@ affinity_data by core to mask =
     ∷ (codes "to", string to) ∷ [])
 
 -- the word of an action
-abbrev pub action_word : Action → List ℕ
+abbrev pub action_word : NotifyAction → List ℕ
 action_word action.Nothing = codes "none"
 action_word (action.SetBits bits) = codes "set_bits"
 action_word action.Increment = codes "increment"
@@ -103,13 +103,13 @@ abbrev pub value_member : Option ℕ → List (List ℕ × Data)
 value_member None = []
 value_member (Some value) = (codes "value", whole value) ∷ []
 
-abbrev pub notify_data : Format → List ℕ → ℕ → List ℕ → Action → ℕ → Data
+abbrev pub notify_data : Format → List ℕ → ℕ → List ℕ → NotifyAction → ℕ → Data
 notify_data format by core to what index =
     object_with ((codes "action", string (action_word what)) ∷ (codes "by", string by)
     ∷ (codes "core", whole core) ∷ (codes "do", string (codes "notify"))
     ∷ index_member format index ++ (codes "to", string to) ∷ value_member (action_number what))
 
-abbrev pub interrupt_data : Format → ℕ → List ℕ → Action → ℕ → Data
+abbrev pub interrupt_data : Format → ℕ → List ℕ → NotifyAction → ℕ → Data
 interrupt_data format core to what index =
     object_with ((codes "action", string (action_word what)) ∷ (codes "core", whole core)
     ∷ (codes "do", string (codes "isr_notify"))

@@ -5,20 +5,20 @@ ghost use Rattle.session_write.specs.Written.{action_word, interrupt_data, notif
 
 use crate::caller::Caller;
 use crate::object::{put_flag, put_index, put_text, put_value, put_whole};
-use bench_types::{Action, Note};
+use bench_types::{Note, NotifyAction};
 use serde_json::{Map, Value};
 use session_text::Format;
 use std::alloc::{AllocError, Global};
 
-fn action_word(action: Action) -> &'static str
+fn action_word(action: NotifyAction) -> &'static str
     ensures { result.now ≡ action_word action }
 {
     match action {
-        Action::Nothing => "none",
-        Action::SetBits(_) => "set_bits",
-        Action::Increment => "increment",
-        Action::Set(_) => "set",
-        Action::SetNew(_) => "set_new",
+        NotifyAction::Nothing => "none",
+        NotifyAction::SetBits(_) => "set_bits",
+        NotifyAction::Increment => "increment",
+        NotifyAction::Set(_) => "set",
+        NotifyAction::SetNew(_) => "set_new",
     }
 }
 

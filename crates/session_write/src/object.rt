@@ -2,10 +2,10 @@
 ghost use Rattle.std.specs.Prelude.{◌≡◌, OnOk};
 ghost use Rattle.serde_json.specs.Data.{boolean, string, put as with_member};
 ghost use Rattle.serde_json.specs.View.{members_view};
-ghost use Rattle.session_text.specs.Action.{action_number};
+ghost use Rattle.session_text.specs.NotifyAction.{action_number};
 ghost use Rattle.session_write.specs.Written.{index_member, value_member, whole, with_members};
 
-use bench_types::Action;
+use bench_types::NotifyAction;
 use serde_json::{Map, Value, put};
 use session_text::Format;
 use std::alloc::{AllocError, Global};
@@ -70,14 +70,14 @@ pub(crate) fn put_index(
 pub(crate) fn put_value(
     object: &mut Map<String, Value>,
     alloc: Global,
-    action: Action,
+    action: NotifyAction,
 ) -> Result<(), AllocError>
     ensures { OnOk result (members_view object.new.entries
         ≡ with_members (value_member (action_number action)) (members_view object.old.entries)) }
 {
     match action {
-        Action::Nothing | Action::Increment => Ok(()),
-        Action::SetBits(value) | Action::Set(value) | Action::SetNew(value) => {
+        NotifyAction::Nothing | NotifyAction::Increment => Ok(()),
+        NotifyAction::SetBits(value) | NotifyAction::Set(value) | NotifyAction::SetNew(value) => {
             put_whole(object, alloc, "value", value)
         }
     }

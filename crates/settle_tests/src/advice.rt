@@ -95,7 +95,7 @@ fn check_parts<R: Threads + Abort + Sync>(rt: &R, host: &HostRuntime) -> Result<
 }
 
 #[test]
-fn progress_is_told_part_by_part(rt: HostRuntime) -> Result<(), Fail> {
+fn progress_is_printed_part_by_part(rt: HostRuntime) -> Result<(), Fail> {
     check_parts(&rt, &rt)
 }
 

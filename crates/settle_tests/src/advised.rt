@@ -54,24 +54,24 @@ const BEST: &str = "B.ready is 2; 12 changes tried
 
 #[test]
 fn best_changes_and_their_costs(rt: HostRuntime) -> Result<(), Fail> {
-    let told = advised(&rt, &rt, "B.ready", 2)?;
-    assert_eq!(&rt; told.status, AdviceStatus::Given);
-    assert_eq!(&rt; told.text.as_str(), BEST);
+    let printed = advised(&rt, &rt, "B.ready", 2)?;
+    assert_eq!(&rt; printed.status, AdviceStatus::Given);
+    assert_eq!(&rt; printed.text.as_str(), BEST);
     Ok(())
 }
 
 #[test]
 fn none_of_the_best(rt: HostRuntime) -> Result<(), Fail> {
-    let told = advised(&rt, &rt, "B.ready", 0)?;
-    assert_eq!(&rt; told.text.as_str(), "B.ready is 2; 12 changes tried\n");
+    let printed = advised(&rt, &rt, "B.ready", 0)?;
+    assert_eq!(&rt; printed.text.as_str(), "B.ready is 2; 12 changes tried\n");
     Ok(())
 }
 
 #[test]
 fn advice_on_no_number(rt: HostRuntime) -> Result<(), Fail> {
-    let told = advised(&rt, &rt, "B.blocked", 2)?;
-    assert_eq!(&rt; told.status, AdviceStatus::Unknown);
+    let printed = advised(&rt, &rt, "B.blocked", 2)?;
+    assert_eq!(&rt; printed.status, AdviceStatus::Unknown);
     let text = "no number is called B.blocked; these are:\nA.run\nA.run.longest\n";
-    assert!(&rt; told.text.starts_with(text));
+    assert!(&rt; printed.text.starts_with(text));
     Ok(())
 }

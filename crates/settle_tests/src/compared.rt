@@ -146,7 +146,7 @@ fn edits_past(steps: u32) -> [Edit; 3] {
 }
 
 #[test]
-fn refused_edits_are_told(rt: HostRuntime) -> Result<(), Fail> {
+fn refused_edits_are_printed(rt: HostRuntime) -> Result<(), Fail> {
     let settled = compared(&rt, &session(), &edits_past(5))?;
     assert_text(&rt, settled.as_str(), REFUSED);
     let header = three_tasks(rt.alloc(), false)?;

@@ -105,8 +105,8 @@ fn limits_of_a_run(rt: HostRuntime) -> Result<(), Fail> {
     assert_eq!(&rt; less.text.as_str(), "C.switches is 1, at least 2\n");
     let unknown = checked(&rt, &rt, "A.blocked", Bound::AtMost(1))?;
     assert_eq!(&rt; unknown.status, CheckStatus::Unknown);
-    let told = "no number is called A.blocked; these are:\nA.run\nA.run.longest\n";
-    assert!(&rt; unknown.text.starts_with(told));
+    let printed = "no number is called A.blocked; these are:\nA.run\nA.run.longest\n";
+    assert!(&rt; unknown.text.starts_with(printed));
     Ok(())
 }
 

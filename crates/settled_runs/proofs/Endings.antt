@@ -1,5 +1,6 @@
 -- Each piece of quiet work leaves less to do, so that quiet work ends and each session has a settled run.
-use Rattle.std.proofs.Common.{◌≡◌, ℕ, zero, suc, ◌^◌, ◌<◌, true, cond, ◌&&◌, List, [], ◌∷◌, ◌++◌, length, Option, Some, None, refl, sym, ap, subst, ◌∙◌, inl, inr, arith}
+use Rattle.std.proofs.Common.{◌≡◌, ℕ, zero, suc, ◌^◌, ◌<◌, true, cond, ◌&&◌, List, [], ◌∷◌, ◌++◌, length, Option, Some, None, refl, sym, ap, subst, ◌∙◌, inl}
+use Rattle.std.proofs.Common.{inr, arith}
 use Rattle.std.specs.Prelude.{◌⊎◌, All, sum, map, count_by, is_some}
 use Rattle.std.specs.List.{AllByRecursion}
 use Rattle.std.proofs.lemmas.List.Elements.{All-head, All-tail, recursion_from_All}
@@ -24,7 +25,8 @@ use Rattle.bench_model.specs.Steps.{performed}
 use Rattle.bench_model.specs.Table.{Table, stamp_queues}
 use Rattle.step_laws.proofs.Along.{settings_after}
 use Rattle.settled_runs.specs.declared.waiting_call.WaitingCall.{WaitingCall}
-use Rattle.settled_runs.specs.Settled.{is_open, on_its_core, quiet_step, without_first, waiting_after, still_waiting, waiting_with, made_at_once, events_of, IsQuietWork, IsSettledFrom, IsSettled}
+use Rattle.settled_runs.specs.Settled.{is_open, on_its_core, quiet_step, without_first, waiting_after, still_waiting, waiting_with, made_at_once, events_of}
+use Rattle.settled_runs.specs.Settled.{IsQuietWork, IsSettledFrom, IsSettled}
 use Rattle.settled_runs.specs.SettleLaws.{MayWait}
 use Rattle.settled_runs.specs.Work.{could_finish, weight_at, work_of, IsLess}
 use Rattle.settled_runs.proofs.Finishes.{could_before, ended_after}

@@ -7,15 +7,15 @@ use Rattle.bench_types.specs.declared.kernel_data.MutexWait.{MutexWait}
 use Rattle.bench_types.specs.declared.reply.Reply.{Reply}
 use Rattle.bench_types.specs.declared.reply.Reply.TheVariants.{Done, Blocked, Flag}
 use Rattle.bench_types.specs.declared.step.Step.TheVariants as steps
-use Rattle.bench_types.specs.declared.step.Call.{Call}
 use Rattle.bench_types.specs.declared.step.Call.TheVariants.{Finish}
+use Rattle.bench_types.specs.declared.step.BlockingCall.{BlockingCall}
 use Rattle.bench_types.specs.declared.step.Unfinished.{Unfinished}
 use Rattle.bench_types.specs.declared.step.Unfinished.TheVariants.{Made, Take}
 use Rattle.bench_types.specs.Step.{IsCheckedStep}
 use Rattle.bench_model.specs.declared.row.TaskState.TheVariants as standings
 use Rattle.bench_model.specs.Control.{Control, task_at, in_mask}
 use Rattle.bench_model.specs.ControlFields.{in_use_set}
-use Rattle.bench_model.specs.Mutexes.{held_by, taken, inherited, waited_at, after_disinherit, timed_out, take_finished}
+use Rattle.bench_model.specs.Mutexes.{held_by, taken, inherited, waited_at, after_disinherit, timed_out, finish_from, take_finished}
 use Rattle.bench_model.specs.Notifying.{completed}
 use Rattle.bench_model.specs.Refusals.{call_refusal}
 use Rattle.bench_model.specs.Seek.{seek}
@@ -103,7 +103,7 @@ taken_calm : (table : Table) (task mutex : ℕ) → IsCalm table (taken task mut
 unfolding taken
 taken_calm table task mutex = record { ready = λ i. refl; calls = refl }
 
-completed_calm : (table : Table) (task : ℕ) (call : Call) → IsCalm table (completed task call table).1
+completed_calm : (table : Table) (task : ℕ) (call : BlockingCall) → IsCalm table (completed task call table).1
 completed_calm table task call = let made = completed_notes task call table in subst (IsCalm table) (sym made.1) (record { ready = λ i. refl; calls = refl })
 
 in_use_rows : (table : Table) (task priority : ℕ) → length (in_use_set stamp_queues task priority table).orders.rows ≡ length table.orders.rows
@@ -199,11 +199,7 @@ module _ (table : Table) (core task : ℕ) (sound : IsConsistent table) (place :
       later holder held false = wait_ends mutex holder (deadline_left task table.orders) held
 
       at : (o : Option ℕ) → holder_at table.holders mutex ≡ o
-          → HasEnded task table (option_map_or {U = Reply × Table}
-          (λ holder. cond (option_map_or (λ ticks. eqb ticks 0) (deadline_left task table.orders) false)
-          (Flag false, timed_out stamp_queues core task mutex mark holder (after_return stamp_queues task table))
-          (Blocked, waited_at stamp_queues core task mutex holder (deadline_left task table.orders) table)) o
-          (Flag true, taken task mutex (after_return stamp_queues task table))).1
+          → HasEnded task table (finish_from stamp_queues o core task mutex mark table).1
       at None free = then_calm task table _ _ returned (taken_calm (after_return stamp_queues task table) task mutex)
       at (Some holder) held = later holder held (option_map_or (λ ticks. eqb ticks 0) (deadline_left task table.orders) false)
 

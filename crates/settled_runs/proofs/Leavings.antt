@@ -40,12 +40,24 @@ few_with waiting (Switch core) = omega arith
 few_with waiting (Interrupt core note) = omega arith
 few_with waiting (steps.Call core task call) = omega (arith, length-append waiting (record { task = task; call = call } ∷ []))
 
-few_from : (events : List Step) (table : Table) (waiting : List WaitingCall) (run : List Step) (left : List WaitingCall) → IsSettledFrom table waiting events run left → length left ≤ length waiting + length events
+few_from : (events : List Step) (table : Table) (waiting : List WaitingCall) (run : List Step) (left : List WaitingCall) → IsSettledFrom table waiting events
+    run left → length left ≤ length waiting + length events
 few_from [] table waiting run left settled = subst (λ calls. length calls ≤ length waiting + 0) settled.1 (omega (arith, few_still waiting run))
 few_from (event ∷ events) table waiting run left settled =
     let quiet = settled.0 in
     let waits = still_waiting waiting quiet in
-    omega (arith, few_still waiting quiet, few_with waits event, few_from events (state_after table (quiet ++ made_at_once event)) (waiting_with waits event) settled.1 left settled.4)
+    omega (
+      arith,
+      few_still waiting quiet,
+      few_with waits event,
+      few_from events (state_after table (quiet ++ made_at_once event)) (waiting_with waits event)
+          settled.1 left settled.4,
+    )
 
 pub few_are_left : FewAreLeft
-few_are_left header session run left settled = omega (arith, few_from (events_of session) (start header) [] run left settled, length-filter is_event session, count_by-le-length is_event session)
+few_are_left header session run left settled = omega (
+  arith,
+  few_from (events_of session) (start header) [] run left settled,
+  length-filter is_event session,
+  count_by-le-length is_event session,
+)

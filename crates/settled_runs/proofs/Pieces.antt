@@ -1,5 +1,6 @@
 -- What a piece of quiet work is: a switch, a `finish`, or a waiting call.
-use Rattle.std.proofs.Common.{◌≡◌, ℕ, suc, ◌<◌, ◌≤◌, Bool, true, false, cond, eqb, List, [], ◌∷◌, ◌++◌, length, map, Option, Some, None, refl, sym, ap, subst, ◌∙◌, inl, inr, arith}
+use Rattle.std.proofs.Common.{◌≡◌, ℕ, suc, ◌<◌, ◌≤◌, Bool, true, false, cond, eqb, List, [], ◌∷◌, ◌++◌, length, map, Option, Some, None, refl, sym, ap, subst}
+use Rattle.std.proofs.Common.{◌∙◌, inl, inr, arith}
 use Rattle.std.specs.Prelude.{◌⊎◌}
 use Rattle.std.specs.List.{find, filter, AllByRecursion}
 use Rattle.std.specs.Option.{option_or}
@@ -15,7 +16,8 @@ use Rattle.list_orders.specs.Search.{numbers}
 use Rattle.bench_model.specs.Control.{current}
 use Rattle.bench_model.specs.Table.{Table}
 use Rattle.settled_runs.specs.declared.waiting_call.WaitingCall.{WaitingCall}
-use Rattle.settled_runs.specs.Settled.{is_open, is_timely, is_finish, switches, finish_on, runs_user_task, finishes, core_running, on_its_core, quiet_step, without_first}
+use Rattle.settled_runs.specs.Settled.{is_open, is_timely, is_finish, switches, finish_on, runs_user_task, finishes, core_running, on_its_core, quiet_step}
+use Rattle.settled_runs.specs.Settled.{without_first}
 use Rattle.settled_runs.specs.SettleLaws.{waiting_of}
 use Rattle.settled_runs.proofs.Timely.{timely_same}
 

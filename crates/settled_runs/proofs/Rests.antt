@@ -1,5 +1,6 @@
 -- The steps of settled runs are checked, and after the last the kernel is at rest.
-use Rattle.std.proofs.Common.{◌≡◌, ℕ, ◌^◌, ◌<◌, ◌≤◌, Bool, true, false, cond, eqb, ltb, leb, ◌&&◌, List, [], ◌∷◌, ◌++◌, length, map, Option, Some, None, Result, Ok, Err, refl, sym, ap, subst, ◌∙◌, inl, inr, append_assoc, arith}
+use Rattle.std.proofs.Common.{◌≡◌, ℕ, ◌^◌, ◌<◌, ◌≤◌, Bool, true, false, cond, eqb, ltb, leb, ◌&&◌, List, [], ◌∷◌, ◌++◌, length, map, Option, Some, None, Result}
+use Rattle.std.proofs.Common.{Ok, Err, refl, sym, ap, subst, ◌∙◌, inl, inr, append_assoc, arith}
 use Rattle.std.specs.Prelude.{All, unwrap_or}
 use Rattle.std.specs.List.{find, filter, AllByRecursion}
 use Rattle.std.proofs.lemmas.Bool.{cases_eq}
@@ -30,7 +31,8 @@ use Rattle.step_laws.proofs.Along.{settings_after, settings_along, sound_along, 
 use Rattle.step_laws.proofs.Starts.{start_sound}
 use Rattle.step_laws.proofs.Steps.{after_sound}
 use Rattle.settled_runs.specs.declared.waiting_call.WaitingCall.{WaitingCall}
-use Rattle.settled_runs.specs.Settled.{is_event, is_finish, is_open, is_timely, switches, finishes, finish_on, runs_user_task, core_running, on_its_core, quiet_step, waiting_after, still_waiting, waiting_with, made_at_once, events_of, IsQuietWork, IsSettledFrom, IsSettled}
+use Rattle.settled_runs.specs.Settled.{is_event, is_finish, is_open, is_timely, switches, finishes, finish_on, runs_user_task, core_running, on_its_core}
+use Rattle.settled_runs.specs.Settled.{quiet_step, waiting_after, still_waiting, waiting_with, made_at_once, events_of, IsQuietWork, IsSettledFrom, IsSettled}
 use Rattle.settled_runs.specs.SettleLaws.{MayWait, IsAtRest}
 use Rattle.settled_runs.proofs.Pieces.{IsPiece, piece_of, none_found, find_fails, find_among, each_unmap, both_each}
 use Rattle.settled_runs.proofs.Settlings.{Events, after_all, still_all, with_all, event_begins, events_are, quiet_rests}

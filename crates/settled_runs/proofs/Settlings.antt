@@ -1,5 +1,6 @@
 -- What a settled run keeps of its session: there is one alone, and its calls, ticks and interrupts are the session's.
-use Rattle.std.proofs.Common.{◌≡◌, ℕ, zero, suc, Bool, true, false, cond, not, eqb, ◌&&◌, List, [], ◌∷◌, ◌++◌, take, Option, Some, None, refl, sym, ap, subst, ◌∙◌, inl, inr, append_assoc, arith}
+use Rattle.std.proofs.Common.{◌≡◌, ℕ, zero, suc, Bool, true, false, cond, not, eqb, ◌&&◌, List, [], ◌∷◌, ◌++◌, take, Option, Some, None, refl, sym, ap, subst}
+use Rattle.std.proofs.Common.{◌∙◌, inl, inr, append_assoc, arith}
 use Rattle.std.specs.Prelude.{option_map, slice_get}
 use Rattle.std.specs.List.{filter, AllByRecursion}
 use Rattle.std.proofs.lemmas.Grind.{flat_map-append}
@@ -22,9 +23,10 @@ use Rattle.bench_model.specs.Session.{step_of, state_after, state_at, reply_at}
 use Rattle.bench_model.specs.Start.{start}
 use Rattle.bench_model.specs.Table.{Table, stamp_queues}
 use Rattle.settled_runs.specs.declared.waiting_call.WaitingCall.{WaitingCall}
-use Rattle.settled_runs.specs.Settled.{is_finish, is_timely, is_event, events_of, quiet_step, without_first, waiting_after, still_waiting, waiting_with, made_at_once, on_its_core, IsQuietWork, IsSettledFrom, IsSettled}
+use Rattle.settled_runs.specs.Settled.{is_finish, is_timely, is_event, events_of, quiet_step, without_first, waiting_after, still_waiting, waiting_with}
+use Rattle.settled_runs.specs.Settled.{made_at_once, on_its_core, IsQuietWork, IsSettledFrom, IsSettled}
 use Rattle.settled_runs.specs.SettleLaws.{call_of, calls_of, waiting_of, comes_from_outside, is_answer}
-use Rattle.settled_runs.proofs.Timely.{answered, open_answered, timely_answered, told_answered}
+use Rattle.settled_runs.proofs.Timely.{answered, open_answered, timely_answered, known_answered}
 use Rattle.settled_runs.proofs.Pieces.{IsPiece, piece_of, none_alone, without_all}
 
 -- ---- one run
@@ -192,8 +194,8 @@ module _ (task : ℕ) where
       let quiet = settled.0 in
       let rest = settled.1 in
       let waits = still_waiting waiting quiet in
-      let begun = with_begins waits event are.0 (still_all Begins quiet waiting all) in
-      let later = settled_calls events _ (waiting_with waits event) rest left are.1 begun settled.4 in
+      let entered = with_begins waits event are.0 (still_all Begins quiet waiting all) in
+      let later = settled_calls events _ (waiting_with waits event) rest left are.1 entered settled.4 in
       ap (λ first. first ++ (call_of task event ++ calls_of task events)) (quiet_calls quiet table waiting all settled.3)
       ∙ turned (calls_of task quiet) (waiting_of task waits) (call_of task event) (calls_of task events) (calls_of task (made_at_once event))
       (calls_of task rest) (waiting_of task left) (at_once_calls event)
@@ -254,8 +256,8 @@ settled_outside :
     → IsSettledFrom table waiting events run left → filter comes_from_outside events ≡ filter comes_from_outside run
 settled_outside [] table waiting run left are all settled = sym (quiet_inside run table waiting all settled.0)
 settled_outside (event ∷ events) table waiting run left are all settled =
-    let begun = with_begins (still_waiting waiting settled.0) event are.0 (still_all Begins settled.0 waiting all) in
-    let later = settled_outside events _ _ settled.1 left are.1 begun settled.4 in
+    let entered = with_begins (still_waiting waiting settled.0) event are.0 (still_all Begins settled.0 waiting all) in
+    let later = settled_outside events _ _ settled.1 left are.1 entered settled.4 in
     ap (λ rest. cond (comes_from_outside event) (event ∷ rest) rest) later
     ∙ sym (once_outside event settled.1 are.0)
     ∙ ap (λ none. none ++ filter comes_from_outside (made_at_once event ++ settled.1)) (sym (quiet_inside settled.0 table waiting all settled.3))
@@ -304,10 +306,10 @@ piece_answered table waiting step all made = at (piece_of Begins begins table wa
     at : IsPiece Begins table waiting step → answered (refusal stamp_queues step table) ≡ true
     at (inl it) = open_answered table step it.free
     at (inr (inl it)) = open_answered table step it.free
-    at (inr (inr it)) = told (sym it.is) it.timely
+    at (inr (inr it)) = known (sym it.is) it.timely
       where
-        told : on_its_core table it.waits ≡ step → is_timely table step ≡ true → answered (refusal stamp_queues step table) ≡ true
-        told same timely =
+        known : on_its_core table it.waits ≡ step → is_timely table step ≡ true → answered (refusal stamp_queues step table) ≡ true
+        known same timely =
             subst (λ step. answered (refusal stamp_queues step table) ≡ true) same
             (timely_answered table _ it.waits.task it.waits.call (subst (λ step. is_timely table step ≡ true) (sym same) timely))
 
@@ -336,8 +338,8 @@ settled_answered [] table waiting run left are all settled = quiet_answered run 
 settled_answered (event ∷ events) table waiting run left are all settled =
     let quiet = settled.0 in
     let once = made_at_once event in
-    let begun = with_begins (still_waiting waiting quiet) event are.0 (still_all Begins quiet waiting all) in
-    let later = settled_answered events _ _ settled.1 left are.1 begun settled.4 in
+    let entered = with_begins (still_waiting waiting quiet) event are.0 (still_all Begins quiet waiting all) in
+    let later = settled_answered events _ _ settled.1 left are.1 entered settled.4 in
     let next = fold-append (λ (table : Table) (step : Step). (step_of step table).1) table quiet once in
     subst (λ run. AnsweredAlong table run) (sym settled.2)
     (along_append quiet (once ++ settled.1) table (quiet_answered quiet table waiting all settled.3)
@@ -350,16 +352,16 @@ reply_from table made place = option_map (λ step. (step_of step (state_after ta
 answered_at : (made : List Step) (table : Table) (place : ℕ) (why : Refusal) → AnsweredAlong table made → reply_from table made place ≡ Some (Refused why)
     → is_answer why ≡ true
 unfolding AnsweredAlong reply_from
-answered_at [] table place why along told = absurd (cc (told))
-answered_at (step ∷ made) table zero why along told = told_answered table step why along.0 (same_Some _ _ told)
-answered_at (step ∷ made) table (suc place) why along told = answered_at made (step_of step table).1 place why along.1 told
+answered_at [] table place why along known = absurd (cc (known))
+answered_at (step ∷ made) table zero why along known = known_answered table step why along.0 (same_Some _ _ known)
+answered_at (step ∷ made) table (suc place) why along known = answered_at made (step_of step table).1 place why along.1 known
 
 pub refusals_are_answers :
     (header : Header) (session run : List Step) (left : List WaitingCall) (place : ℕ) (why : Refusal) → IsSettled header session run left
     → reply_at header run place ≡ Some (Refused why) → is_answer why ≡ true
 unfolding reply_at state_at reply_from
-refusals_are_answers header session run left place why settled told =
-    answered_at run (start header) place why (settled_answered (events_of session) (start header) [] run left (events_are session) tt settled) told
+refusals_are_answers header session run left place why settled known =
+    answered_at run (start header) place why (settled_answered (events_of session) (start header) [] run left (events_are session) tt settled) known
 
 -- ---- settled runs of settled runs
 
@@ -439,8 +441,8 @@ settled_again [] table waiting run left are all settled =
 settled_again (event ∷ events) table waiting run left are all settled =
     let quiet = settled.0 in
     let once = made_at_once event in
-    let begun = with_begins (still_waiting waiting quiet) event are.0 (still_all Begins quiet waiting all) in
-    let later = settled_again events _ _ settled.1 left are.1 begun settled.4 in
+    let entered = with_begins (still_waiting waiting quiet) event are.0 (still_all Begins quiet waiting all) in
+    let later = settled_again events _ _ settled.1 left are.1 entered settled.4 in
     let next = fold-append (λ (table : Table) (step : Step). (step_of step table).1) table quiet once in
     let none = none_alone _ _ (quiet_rests quiet table waiting settled.3) in
     let rest =

@@ -1,5 +1,6 @@
 -- A switch of a due core leaves the due cores less weight, and all else of the work as it was.
-use Rattle.std.proofs.Common.{◌≡◌, ℕ, suc, ◌+◌, ◌<◌, ◌≤◌, ◌≢◌, Bool, true, false, cond, not, eqb, ltb, ◌&&◌, ◌||◌, length, Option, Some, None, refl, sym, ap, subst, ◌∙◌, inl, inr, arith}
+use Rattle.std.proofs.Common.{◌≡◌, ℕ, suc, ◌+◌, ◌<◌, ◌≤◌, ◌≢◌, Bool, true, false, cond, not, eqb, ltb, ◌&&◌, ◌||◌, length, Option, Some, None, refl, sym, ap}
+use Rattle.std.proofs.Common.{subst, ◌∙◌, inl, inr, arith}
 use Rattle.std.specs.Prelude.{is_some, is_none, unwrap_or, slice_index_or}
 use Rattle.std.specs.List.{sum_by}
 use Rattle.std.specs.Option.{option_map_or}

@@ -54,12 +54,12 @@ hold_late core task call table =
     (either_late (closes_hold call) _ _ refl refl)
 
 -- a call that begins comes too early just where its task has an unfinished one
-begun_late : (unfinished : Option Unfinished) (call : Call) (rest : Option Refusal) → is_finish call ≡ false → late rest ≡ true
+entered_late : (unfinished : Option Unfinished) (call : Call) (rest : Option Refusal) → is_finish call ≡ false → late rest ≡ true
     → late (option_or (call_refusal unfinished call) rest) ≡ is_none unfinished
-begun_late None Finish rest begins goes = absurd (cc (begins))
-begun_late None call rest begins goes = goes
-begun_late (Some unfinished) Finish rest begins goes = absurd (cc (begins))
-begun_late (Some unfinished) call rest begins goes = refl
+entered_late None Finish rest begins goes = absurd (cc (begins))
+entered_late None call rest begins goes = goes
+entered_late (Some unfinished) Finish rest begins goes = absurd (cc (begins))
+entered_late (Some unfinished) call rest begins goes = refl
 
 -- ---- calls that begin
 
@@ -83,7 +83,7 @@ timely_where table core task call begins =
     first_late (hold_refusal stamp_queues core task call table) (give_refusal table.holders task call) (hold_late core task call table)
     (give_late table.holders task call) in
     three_conds (is_held_elsewhere core table.hold) (eqb (current table.control core) task) (is_due table.control core && not (is_held_by core table.hold))
-    (is_none (call_at table.calls task)) _ (begun_late (call_at table.calls task) call _ begins rest)
+    (is_none (call_at table.calls task)) _ (entered_late (call_at table.calls task) call _ begins rest)
 
 -- so one call that begins comes too early where another does
 pub timely_same : (table : Table) (core task : ℕ) (call other : Call) → is_finish call ≡ false → is_finish other ≡ false
@@ -134,11 +134,11 @@ first_alike : (one other : Option Refusal) → alike one → alike other → ali
 first_alike (Some why) other first second = first
 first_alike None other first second = second
 
-begun_alike : (unfinished : Option Unfinished) (call : Call) → alike (call_refusal unfinished call)
-begun_alike None Finish = refl
-begun_alike None call = refl
-begun_alike (Some unfinished) Finish = refl
-begun_alike (Some unfinished) call = refl
+entered_alike : (unfinished : Option Unfinished) (call : Call) → alike (call_refusal unfinished call)
+entered_alike None Finish = refl
+entered_alike None call = refl
+entered_alike (Some unfinished) Finish = refl
+entered_alike (Some unfinished) call = refl
 
 give_alike : (holders : List (Option ℕ)) (task : ℕ) (call : Call) → alike (give_refusal holders task call)
 give_alike holders task (MutexGive mutex) = at (holder_at holders mutex)
@@ -160,7 +160,7 @@ call_alike table core task call =
     either_alike (is_held_elsewhere core table.hold) _ _ refl
     (either_alike (not (eqb (current table.control core) task)) _ _ refl
     (either_alike (is_due table.control core && not (is_held_by core table.hold)) _ _ refl
-    (first_alike (call_refusal (call_at table.calls task) call) _ (begun_alike (call_at table.calls task) call)
+    (first_alike (call_refusal (call_at table.calls task) call) _ (entered_alike (call_at table.calls task) call)
     (first_alike (hold_refusal stamp_queues core task call table) _ (hold_alike core task call table) (give_alike table.holders task call)))))
 
 -- a call that does not come too early is refused by an answer at most
@@ -178,12 +178,12 @@ open_answered table step free = at (refusal stamp_queues step table) free
     at (Some why) none = absurd (cc (none))
 
 -- a reply is a refusal where the step is refused so
-pub told_answered : (table : Table) (step : Step) (why : Refusal) → answered (refusal stamp_queues step table) ≡ true → (step_of step table).0 ≡ Refused why
+pub known_answered : (table : Table) (step : Step) (why : Refusal) → answered (refusal stamp_queues step table) ≡ true → (step_of step table).0 ≡ Refused why
     → is_answer why ≡ true
 unfolding after
-told_answered table step why all told = at (refusal stamp_queues step table) all told
+known_answered table step why all known = at (refusal stamp_queues step table) all known
   where
     at : (o : Option Refusal) → answered o ≡ true
         → (option_map_or {U = Reply × Table} (λ why. (Refused why, table)) o (performed stamp_queues step table)).0 ≡ Refused why → is_answer why ≡ true
-    at None all told = absurd (cc (sym (performed_made stamp_queues step table) ∙ ap is_refusal told))
-    at (Some it) all told = cc (all, told)
+    at None all known = absurd (cc (sym (performed_made stamp_queues step table) ∙ ap is_refusal known))
+    at (Some it) all known = cc (all, known)

@@ -1,5 +1,6 @@
 -- The laws of settled runs. Each is a clause of a public function.
-use Rattle.std.specs.Prelude.{◌≡◌, ℕ, ◌^◌, ◌<◌, ◌≤◌, List, [], ◌∷◌, ◌++◌, length, filter, flat_map, All, Bool, true, false, not, ◌&&◌, ◌==◌, Some, if◌then◌else◌}
+use Rattle.std.specs.Prelude.{◌≡◌, ℕ, ◌^◌, ◌<◌, ◌≤◌, List, [], ◌∷◌, ◌++◌, length, filter, flat_map, All, Bool, true, false, not, ◌&&◌, ◌==◌, Some}
+use Rattle.std.specs.Prelude.{if◌then◌else◌}
 use Rattle.bench_types.specs.declared.header.Header.{Header}
 use Rattle.bench_types.specs.declared.kernel_data.Settings.{Settings}
 use Rattle.bench_types.specs.declared.reply.Refusal.{Refusal}

@@ -1,6 +1,7 @@
 -- Settled runs: what a target makes of the calls, the ticks and the interrupts of a session. On a
 -- target the port makes each switch, and a task's call returns, by itself.
-use Rattle.std.specs.Prelude.{◌≡◌, ℕ, List, [], ◌∷◌, ◌++◌, map, find, filter, fold, Bool, true, false, not, ◌==◌, nat_le, Option, Some, None, is_none, unwrap_or, if◌then◌else◌}
+use Rattle.std.specs.Prelude.{◌≡◌, ℕ, List, [], ◌∷◌, ◌++◌, map, find, filter, fold, Bool, true, false, not, ◌==◌, nat_le, Option, Some, None, is_none}
+use Rattle.std.specs.Prelude.{unwrap_or, if◌then◌else◌}
 use Rattle.std.specs.Option.{option_or, option_map_or}
 use Rattle.bench_types.specs.declared.header.Header.{Header}
 use Rattle.bench_types.specs.declared.reply.Refusal.{Refusal}

@@ -14,7 +14,8 @@ on_err (Ok value) holds = tt
 on_err (Err why) holds = holds
 
 -- on the way they are no more than a session may have
-pub few_counted : (header : Header) (steps : List Step) (settling : Settling) → IsAt header steps settling → (first count : ℕ) → HasCounted first count settling → CountsUpTo max_steps first count
+pub few_counted : (header : Header) (steps : List Step) (settling : Settling) → IsAt header steps settling → (first count : ℕ) → HasCounted first count settling
+    → CountsUpTo max_steps first count
 few_counted header steps settling here first count counted = (length settling.run.items, here.room, counted)
 
 -- before the first step there is none

@@ -1,5 +1,6 @@
 -- What the searches for the next piece of quiet work find.
-use Rattle.std.proofs.Common.{◌≡◌, ℕ, suc, ◌+◌, ◌-◌, ◌<◌, ◌≤◌, ◌≢◌, Bool, true, false, cond, not, eqb, leb, ◌&&◌, List, [], ◌∷◌, ◌++◌, length, get_or, map, Option, Some, None, refl, sym, ap, subst, ◌∙◌, inl, inr, arith}
+use Rattle.std.proofs.Common.{◌≡◌, ℕ, suc, ◌+◌, ◌-◌, ◌<◌, ◌≤◌, ◌≢◌, Bool, true, false, cond, not, eqb, leb, ◌&&◌, List, [], ◌∷◌, ◌++◌, length, get_or, map}
+use Rattle.std.proofs.Common.{Option, Some, None, refl, sym, ap, subst, ◌∙◌, inl, inr, arith}
 use Rattle.std.specs.Prelude.{◌⊎◌, option_map, option_to_list, is_none, is_some, replicate, slice_index, slice_set}
 use Rattle.std.specs.List.{find, filter}
 use Rattle.std.specs.Option.{option_or, option_map_or}
@@ -21,10 +22,12 @@ use Rattle.bench_model.specs.Refusals.{refusal}
 use Rattle.bench_model.specs.Sound.{IsSound}
 use Rattle.bench_model.specs.Table.{Table, stamp_queues}
 use Rattle.settled_runs.specs.declared.waiting_call.WaitingCall.{WaitingCall}
-use Rattle.settled_runs.specs.Settled.{is_early, is_finish, is_open, is_timely, switches, finishes, finish_on, runs_user_task, core_running, on_its_core, quiet_step}
+use Rattle.settled_runs.specs.Settled.{is_early, is_finish, is_open, is_timely, switches, finishes, finish_on, runs_user_task, core_running, on_its_core}
+use Rattle.settled_runs.specs.Settled.{quiet_step}
 use Rattle.settled_runs.proofs.Rests.{running_below, runs_core}
 use Rattle.settled_runs.proofs.Timely.{timely_same, timely_runs}
-use Rattle.settling.specs.Places.{step_at, call_in, begins, is_call_of, is_waiting, on_core, waiting_at, made_from, can_come, AreLinked, AreQueues, HasCallers, IsNext, IsSearched}
+use Rattle.settling.specs.Places.{step_at, call_in, begins, is_call_of, is_waiting, on_core, waiting_at, made_from, can_come, AreLinked, AreQueues, HasCallers}
+use Rattle.settling.specs.Places.{IsNext, IsSearched}
 use Rattle.settling.proofs.Places.{none_of_numbers, one_of_numbers, found_place, waiting_suc}
 
 pub same_settings : (kernel : View) (table : Table) → StandsFor kernel table → table.settings ≡ kernel.settings
@@ -53,16 +56,16 @@ find_kept p q (x ∷ xs) = at (p x) (q x) (find_kept p q xs)
     at true d rest = ap (λ o. cond (q x) (Some x) o) rest
     at false d rest = rest
 
-pub open_told : (table : Table) (step : Step) (why : Option Refusal) (free : Bool) → why ≡ refusal stamp_queues step table → is_some why ≡ not free
+pub open_known : (table : Table) (step : Step) (why : Option Refusal) (free : Bool) → why ≡ refusal stamp_queues step table → is_some why ≡ not free
     → is_open table step ≡ free
 unfolding is_open
-open_told table step why free same told = ap is_none (sym same) ∙ at why free told
+open_known table step why free same known = ap is_none (sym same) ∙ at why free known
   where
     at : (why : Option Refusal) (free : Bool) → is_some why ≡ not free → is_none why ≡ free
-    at None true told = refl
-    at None false told = absurd (cc (told))
-    at (Some why) true told = absurd (cc (told))
-    at (Some why) false told = refl
+    at None true known = refl
+    at None false known = absurd (cc (known))
+    at (Some why) true known = absurd (cc (known))
+    at (Some why) false known = refl
 
 pub switch_found : (table : Table) (core : ℕ) → core < table.settings.cores → is_open table (Switch core) ≡ true
     → ((k : ℕ) → k < core → is_open table (Switch k) ≡ false) → Some (Switch core) ≡ find (is_open table) (switches table)
@@ -96,30 +99,30 @@ no_finish_found table others =
     sym (finishes_as table
     ∙ ap (option_map (finish_on table)) (none_of_numbers (λ k. runs_user_task table k && is_open table (finish_on table k)) table.settings.cores others))
 
-pub timely_told : (table : Table) (step : Step) (why : Option Refusal) → why ≡ refusal stamp_queues step table
+pub timely_known : (table : Table) (step : Step) (why : Option Refusal) → why ≡ refusal stamp_queues step table
     → option_map_or (λ why. not (is_early why)) why true ≡ is_timely table step
 unfolding is_timely
-timely_told table step why same = ap (λ why. option_map_or (λ why. not (is_early why)) why true) same
+timely_known table step why same = ap (λ why. option_map_or (λ why. not (is_early why)) why true) same
 
-pub next_told : (table : Table) (waiting : List WaitingCall) (switch finish call : Option Step) → switch ≡ find (is_open table) (switches table)
+pub next_known : (table : Table) (waiting : List WaitingCall) (switch finish call : Option Step) → switch ≡ find (is_open table) (switches table)
     → finish ≡ find (is_open table) (finishes table) → call ≡ find (is_timely table) (map (on_its_core table) waiting)
     → option_or switch (option_or finish call) ≡ quiet_step table waiting
 unfolding quiet_step
-next_told table waiting switch finish call first second third = λ i. option_or (first i) (option_or (second i) (third i))
+next_known table waiting switch finish call first second third = λ i. option_or (first i) (option_or (second i) (third i))
 
 pub next_at_switch : (table : Table) (waiting : List WaitingCall) (step : Step) → Some step ≡ find (is_open table) (switches table)
     → Some step ≡ quiet_step table waiting
 next_at_switch table waiting step first =
-    next_told table waiting (Some step) (find (is_open table) (finishes table)) (find (is_timely table) (map (on_its_core table) waiting)) first refl refl
+    next_known table waiting (Some step) (find (is_open table) (finishes table)) (find (is_timely table) (map (on_its_core table) waiting)) first refl refl
 
 pub next_at_finish : (table : Table) (waiting : List WaitingCall) (step : Step) → None ≡ find (is_open table) (switches table)
     → Some step ≡ find (is_open table) (finishes table) → Some step ≡ quiet_step table waiting
 next_at_finish table waiting step first second =
-    next_told table waiting None (Some step) (find (is_timely table) (map (on_its_core table) waiting)) first second refl
+    next_known table waiting None (Some step) (find (is_timely table) (map (on_its_core table) waiting)) first second refl
 
 pub next_at_call : (table : Table) (waiting : List WaitingCall) (call : Option Step) → None ≡ find (is_open table) (switches table)
     → None ≡ find (is_open table) (finishes table) → call ≡ find (is_timely table) (map (on_its_core table) waiting) → call ≡ quiet_step table waiting
-next_at_call table waiting call first second third = next_told table waiting None None call first second third
+next_at_call table waiting call first second third = next_known table waiting None None call first second third
 
 -- ---- calls that wait
 
@@ -281,12 +284,12 @@ and_left true d none = absurd (cc (none))
 and_left false d none = refl
 
 -- the core's user task may finish, or not
-pub user_told : (table : Table) (core task : ℕ) (free : Bool) → task ≡ current table.control core → table.settings.cores ≤ task
+pub user_known : (table : Table) (core task : ℕ) (free : Bool) → task ≡ current table.control core → table.settings.cores ≤ task
     → is_open table (steps.Call core task Finish) ≡ free → (runs_user_task table core && is_open table (finish_on table core)) ≡ free
-user_told table core task free runs user told =
+user_known table core task free runs user known =
     let is : leb table.settings.cores task ≡ true = grind (arith, nat_tests, user) in
     let here : leb table.settings.cores (current table.control core) ≡ true = ap (leb table.settings.cores) (sym runs) ∙ is in
-    ap (λ b. b && is_open table (finish_on table core)) here ∙ subst (λ task. is_open table (steps.Call core task Finish) ≡ free) runs told
+    ap (λ b. b && is_open table (finish_on table core)) here ∙ subst (λ task. is_open table (steps.Call core task Finish) ≡ free) runs known
 
 -- the next core's task, where its next call is at this place
 module _ (table : Table) (heads next : List ℕ) (session : List Step) (come : ℕ) (sound : IsSound table)
@@ -432,22 +435,22 @@ queues_begin session tasks heads next linked = record {
   after = λ task place low is. linked.after task place (omega arith) low is;
 }
 
-caller_told : (step : Step) (task : ℕ) → Some task ≡ cond (begins step) (Some (call_in step).task) None → is_call_of task step ≡ true
-caller_told step task told = at (begins step) refl told
+caller_known : (step : Step) (task : ℕ) → Some task ≡ cond (begins step) (Some (call_in step).task) None → is_call_of task step ≡ true
+caller_known step task known = at (begins step) refl known
   where
     at : (b : Bool) → begins step ≡ b → Some task ≡ cond b (Some (call_in step).task) None → is_call_of task step ≡ true
-    at true is told =
-        let same : task ≡ (call_in step).task = cc (told) in
+    at true is known =
+        let same : task ≡ (call_in step).task = cc (known) in
         let own : eqb (call_in step).task task ≡ true = grind (arith, nat_tests, same) in
         (λ i. is i && own i)
-    at false none told = absurd (cc (told))
+    at false none known = absurd (cc (known))
 
-pub none_told : (step : Step) → None ≡ cond (begins step) (Some (call_in step).task) None → begins step ≡ false
-none_told step told = at (begins step) told
+pub none_known : (step : Step) → None ≡ cond (begins step) (Some (call_in step).task) None → begins step ≡ false
+none_known step known = at (begins step) known
   where
     at : (b : Bool) → None ≡ cond b (Some (call_in step).task) None → b ≡ false
-    at true told = absurd (cc (told))
-    at false told = refl
+    at true known = absurd (cc (known))
+    at false known = refl
 
 -- one place earlier on
 module _ (session : List Step) (place tasks : ℕ) (heads next : List ℕ) (some : 0 < place) (linked : AreLinked session place tasks heads next) where
@@ -456,14 +459,14 @@ module _ (session : List Step) (place tasks : ℕ) (heads next : List ℕ) (some
 
   pub linked_none : None ≡ cond (begins (step_at session (place - 1))) (Some (call_in (step_at session (place - 1))).task) None
       → AreLinked session (place - 1) tasks heads next
-  linked_none told = linked_other session (place - 1) tasks heads next before_it (none_told (step_at session (place - 1)) told)
+  linked_none known = linked_other session (place - 1) tasks heads next before_it (none_known (step_at session (place - 1)) known)
 
   pub linked_some : (task old : ℕ) → HasCallers session tasks → old ≡ get_or heads task old
       → Some task ≡ cond (begins (step_at session (place - 1))) (Some (call_in (step_at session (place - 1))).task) None
       → AreLinked session (place - 1) tasks (slice_set heads task (place - 1)) (slice_set next (place - 1) old)
-  linked_some task old callers read told =
+  linked_some task old callers read known =
       let step = step_at session (place - 1) in
-      let is = caller_told step task told in
+      let is = caller_known step task known in
       let begin = (both_are task step is).0 in
       let user : task < tasks = subst (λ task. task < tasks) (its_task task step is) (callers (place - 1) (omega (arith, some, linked.reached)) begin) in
       let here : old ≡ slice_index heads task = get_or_read heads task old (omega (arith, user, linked.head_each)) read 0 in
@@ -474,42 +477,42 @@ module _ (session : List Step) (place tasks : ℕ) (heads next : List ℕ) (some
 
 pub waits_none : (step : Step) (here : Bool) → None ≡ cond (begins step) (Some (call_in step)) None
     → None ≡ cond (begins step && here) (Some (call_in step)) None
-waits_none step here told = at (begins step) told
+waits_none step here known = at (begins step) known
   where
     at : (b : Bool) → None ≡ cond b (Some (call_in step)) None → None ≡ cond (b && here) (Some (call_in step)) None
-    at true told = absurd (cc (told))
-    at false told = refl
+    at true known = absurd (cc (known))
+    at false known = refl
 
 pub waits_some : (step : Step) (heads : List ℕ) (place : ℕ) (waits : WaitingCall) (here : Bool) → Some waits ≡ cond (begins step) (Some (call_in step)) None
     → leb (slice_index heads waits.task) place ≡ here
     → cond here (Some waits) None ≡ cond (begins step && leb (slice_index heads (call_in step).task) place) (Some (call_in step)) None
-waits_some step heads place waits here told low = at (begins step) told
+waits_some step heads place waits here known low = at (begins step) known
   where
     at : (b : Bool) → Some waits ≡ cond b (Some (call_in step)) None
         → cond here (Some waits) None ≡ cond (b && leb (slice_index heads (call_in step).task) place) (Some (call_in step)) None
-    at true told =
-        let same : waits ≡ call_in step = cc (told) in
+    at true known =
+        let same : waits ≡ call_in step = cc (known) in
         let same_low : here ≡ leb (slice_index heads (call_in step).task) place = sym low
         ∙ ap (λ (waits : WaitingCall). leb (slice_index heads waits.task) place) same in
         (λ i. cond (same_low i) (Some (same i)) None)
-    at false told = absurd (cc (told))
+    at false known = absurd (cc (known))
 
 -- the task of a call that begins, as of one of so many
 pub waits_low : (session : List Step) (place tasks : ℕ) (waits : WaitingCall) → HasCallers session tasks → place < length session
     → Some waits ≡ cond (begins (step_at session place)) (Some (call_in (step_at session place))) None → waits.task < tasks
-waits_low session place tasks waits callers low told = at (begins (step_at session place)) refl told
+waits_low session place tasks waits callers low known = at (begins (step_at session place)) refl known
   where
     at : (b : Bool) → begins (step_at session place) ≡ b → Some waits ≡ cond b (Some (call_in (step_at session place))) None → waits.task < tasks
-    at true begin told = let same : waits ≡ call_in (step_at session place) = cc (told) in
+    at true begin known = let same : waits ≡ call_in (step_at session place) = cc (known) in
         subst (λ (waits : WaitingCall). waits.task < tasks) (sym same) (callers place low begin)
-    at false none told = absurd (cc (told))
+    at false none known = absurd (cc (known))
 
 -- one more place
 pub left_more : (heads : List ℕ) (session : List Step) (place : ℕ) (before after : List WaitingCall) (found : Option WaitingCall)
     → before ≡ waiting_at heads session place → found ≡ cond (is_waiting heads session place) (Some (call_in (step_at session place))) None
     → after ≡ before ++ option_to_list found → after ≡ waiting_at heads session (place + 1)
-left_more heads session place before after found first told grows =
-    grows ∙ (λ i. first i ++ option_to_list (told i)) ∙ ap (λ rest. waiting_at heads session place ++ rest) (at (is_waiting heads session place))
+left_more heads session place before after found first known grows =
+    grows ∙ (λ i. first i ++ option_to_list (known i)) ∙ ap (λ rest. waiting_at heads session place ++ rest) (at (is_waiting heads session place))
     ∙ sym (waiting_suc heads session place) ∙ ap (waiting_at heads session) (sym (add-one place))
   where
     at : (b : Bool) → option_to_list (cond b (Some (call_in (step_at session place))) None) ≡ cond b (call_in (step_at session place) ∷ []) []

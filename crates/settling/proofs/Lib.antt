@@ -1,6 +1,6 @@
 mod Counted
 pub mod Finds
-mod NotesTold
+mod NotesKnown
 pub mod Places
 pub mod Progress
 pub mod Ways

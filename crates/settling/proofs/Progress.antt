@@ -1,5 +1,6 @@
 -- How a session is settled further.
-use Rattle.std.proofs.Common.{◌≡◌, ℕ, suc, ◌+◌, ◌^◌, ◌<◌, ◌≤◌, Bool, true, false, cond, not, List, [], ◌∷◌, ◌++◌, length, drop, drop-cons, Some, None, Ok, refl, sym, ap, subst, ◌∙◌, inl, inr, arith}
+use Rattle.std.proofs.Common.{◌≡◌, ℕ, suc, ◌+◌, ◌^◌, ◌<◌, ◌≤◌, Bool, true, false, cond, not, List, [], ◌∷◌, ◌++◌, length, drop, drop-cons, Some, None, Ok, refl}
+use Rattle.std.proofs.Common.{sym, ap, subst, ◌∙◌, inl, inr, arith}
 use Rattle.std.specs.Prelude.{All, slice_index, slice_set}
 use Rattle.std.proofs.lemmas.List.{append-nil, drop_all}
 use Rattle.std.proofs.lemmas.List.Elements.{All-get_or}
@@ -28,9 +29,9 @@ use Rattle.settling.specs.declared.run.Settling.{Settling}
 use Rattle.settling.specs.Places.{begins, call_in, step_at, waiting_at, AreQueues, HasCallers}
 use Rattle.settling.specs.Progress.{waiting_in, IsAt, IsResting, IsTooLong}
 use Rattle.settling.specs.Ways.{IsOnTheWay}
-use Rattle.settling.proofs.Finds.{none_told, same_settings}
+use Rattle.settling.proofs.Finds.{none_known, same_settings}
 use Rattle.settling.proofs.Places.{come_event, come_other, come_queues, has_come, made_queues, made_waiting, waiting_may}
-use Rattle.settling.proofs.Ways.{begun, event_way, piece_way, too_long, too_many, way_ends}
+use Rattle.settling.proofs.Ways.{entered, event_way, piece_way, too_long, too_many, way_ends}
 
 module _ (header : Header) (session : List Step) (old : Settling) (here : IsAt header session old) where
   pub all_checked : All (IsCheckedStep here.table.settings) session
@@ -101,8 +102,8 @@ module _ (header : Header) (session : List Step) (old : Settling) (here : IsAt h
         (new : Settling) → None ≡ cond (begins step) (Some (call_in step).task) None → StandsFor new.kernel (step_of step here.table).1 → new.come ≡ old.come
         → new.queues ≡ old.queues
         → new.run.items ≡ old.run.items ++ step ∷ [] → length new.run.items ≤ max_steps → IsAt header session new
-    at_idle new told stands come queues run room =
-        let none = none_told step told in
+    at_idle new known stands come queues run room =
+        let none = none_known step known in
         at_next new stands come
         (subst (λ (queues : Queues). AreQueues session old.come here.table.settings.tasks queues.heads.items queues.next.items) (sym queues) here.queues)
         (ap (λ (queues : Queues). waiting_at queues.heads.items session old.come) queues ∙ sym (idle_waits step (waiting_in session old) none)) run room
@@ -114,20 +115,20 @@ module _ (header : Header) (session : List Step) (old : Settling) (here : IsAt h
     is_call (inr (inl it)) begin = absurd (cc (begin, ap begins it.is))
     is_call (inr (inr it)) begin = it
 
-    module _ (task : ℕ) (told : Some task ≡ cond (begins step) (Some (call_in step).task) None) where
+    module _ (task : ℕ) (known : Some task ≡ cond (begins step) (Some (call_in step).task) None) where
       begin : begins step ≡ true
-      begin = at (begins step) refl told
+      begin = at (begins step) refl known
         where
           at : (b : Bool) → begins step ≡ b → Some task ≡ cond b (Some (call_in step).task) None → b ≡ true
-          at true is told = refl
-          at false is told = absurd (cc (told))
+          at true is known = refl
+          at false is known = absurd (cc (known))
 
       made : CallMade (MayWait here.table.settings) here.table (waiting_in session old) step
       made = is_call (piece_of (MayWait here.table.settings) (begin_waits here.table.settings) here.table (waiting_in session old) step good_here.may next)
           begin
 
       task_is : task ≡ made.waits.task
-      task_is = let same : task ≡ (call_in step).task = cc (told, begin) in same ∙ ap (λ step. (call_in step).task) made.is
+      task_is = let same : task ≡ (call_in step).task = cc (known, begin) in same ∙ ap (λ step. (call_in step).task) made.is
 
       pub task_low : task < here.table.settings.tasks
       task_low = omega (arith, task_is, made.may.task.1)
@@ -193,7 +194,7 @@ at_start header session settling is stands none queues empty =
       way =
           subst (λ run. IsOnTheWay header session (start header) (waiting_in session settling) (events_of (drop settling.come session)) run) (sym empty)
           (subst (λ come. IsOnTheWay header session (start header) (waiting_at settling.queues.heads.items session come) (events_of (drop come session)) [])
-          (sym none) (begun header session));
+          (sym none) (entered header session));
       room = omega (arith, ap length empty);
     }
 

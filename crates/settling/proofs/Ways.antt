@@ -11,8 +11,8 @@ use Rattle.settled_runs.specs.Settled.{events_of, made_at_once, waiting_with, wa
 use Rattle.settled_runs.proofs.Settlings.{before}
 use Rattle.settling.specs.Ways.{IsOnTheWay}
 
-pub begun : (header : Header) (session : List Step) → IsOnTheWay header session (start header) [] (events_of session) []
-begun header session = record { forward = λ rest left settled. settled; backward = λ whole left settled. (whole, refl, settled) }
+pub entered : (header : Header) (session : List Step) → IsOnTheWay header session (start header) [] (events_of session) []
+entered header session = record { forward = λ rest left settled. settled; backward = λ whole left settled. (whole, refl, settled) }
 
 -- a settled run begins with the next piece of quiet work
 

@@ -68,7 +68,7 @@ impl Settling {
     // Before the first piece of quiet work.
     fn start(alloc: Global, header: &Header, steps: &[Step]) -> Result<Settling, SettleFault>
         requires { IsSession (record { header = header.now; steps = steps.now }) }
-        ensures begun { IfOk result (λ settling. IsAt header.now steps.now settling) }
+        ensures entered { IfOk result (λ settling. IsAt header.now steps.now settling) }
         ensures none { IfOk result (λ settling. settling.come ≡ 0) }
         ensures empty { IfOk result (λ settling. settling.run.items ≡ []) }
         ensures memory { IfErr result (λ fault. fault ≡ SettleFault.NoMemory) }

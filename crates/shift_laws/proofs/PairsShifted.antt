@@ -13,7 +13,8 @@ use Rattle.bench_model.specs.Table.{Table, row_at, stamp_of, is_ready, wake_in, 
 use Rattle.session_laws.proofs.Alike.{same_from_alike, alike_from_same}
 use Rattle.shift_laws.specs.Later.{later}
 use Rattle.shift_laws.specs.Shifts.{SamePairwiseShifted}
-use Rattle.shift_laws.proofs.LaterTables.{consistent_later, deadline_at_later, deadline_later, is_ready_later, later_shifted, stamp_later, stands_later, wait_later, wake_later}
+use Rattle.shift_laws.proofs.LaterTables.{consistent_later, deadline_at_later, deadline_later, is_ready_later, later_shifted, stamp_later, stands_later}
+use Rattle.shift_laws.proofs.LaterTables.{wait_later, wake_later}
 use Rattle.shift_laws.proofs.Steps.{same_from_shifted, shifted_from_same}
 
 -- all that is compared of single tasks, and by what their order is told

@@ -1,5 +1,6 @@
 -- Lists of steps from tables that are shifted: equal replies, running tasks and tallies, and shifted states.
-use Rattle.std.proofs.Common.{◌≡◌, ℕ, zero, suc, ◌≤◌, Bool, true, false, ◌||◌, List, [], ◌∷◌, length, take, refl, sym, ap, subst, ◌∙◌, true≢false, inl, inr, arith}
+use Rattle.std.proofs.Common.{◌≡◌, ℕ, zero, suc, ◌≤◌, Bool, true, false, ◌||◌, List, [], ◌∷◌, length, take, refl, sym, ap, subst, ◌∙◌, true≢false, inl, inr}
+use Rattle.std.proofs.Common.{arith}
 use Rattle.std.specs.Prelude.{All, ◌⊎◌}
 use Rattle.std.proofs.lemmas.List.Elements.{All-head, All-take}
 use Rattle.bench_types.specs.declared.kernel_data.Settings.{Settings}
@@ -9,7 +10,7 @@ use Rattle.bench_types.specs.Step.{IsCheckedStep}
 use Rattle.bench_model.specs.Control.{Control, running}
 use Rattle.bench_model.specs.Equal.{Same}
 use Rattle.bench_model.specs.Lists.{View, list_queues, view_of}
-use Rattle.bench_model.specs.Session.{step_of, state_after, trace}
+use Rattle.bench_model.specs.Session.{step_of, state_after, run_results}
 use Rattle.bench_model.specs.Shifted.{SameShifted, untimed, shift_between, delays_until, some_delays_until, is_met}
 use Rattle.bench_model.specs.Sound.{IsSound}
 use Rattle.bench_model.specs.Table.{Table, stamp_queues}
@@ -19,7 +20,7 @@ use Rattle.session_laws.proofs.Tallies.{tallied_seen, length_each, length_tallie
 use Rattle.step_laws.proofs.Along.{settings_after, checked_rest}
 use Rattle.step_laws.proofs.Steps.{after_sound, equal_after}
 use Rattle.shift_laws.specs.Shifts.{IsShifted, RunShifted}
-use Rattle.shift_laws.proofs.ShiftTests.{met_told}
+use Rattle.shift_laws.proofs.ShiftTests.{met_decided}
 use Rattle.shift_laws.proofs.Steps.{no_ticks_between, not_shifted, shifted_after, shifted_from_same, unshifted}
 
 -- ---- one step
@@ -97,7 +98,7 @@ module _ (by : ℕ) (a b : Table) (step : Step) (steps : List Step) (both : AreS
 
 -- ---- lists of steps
 
-outcomes_alike : (by : ℕ) (steps : List Step) (a b : Table) → AreShifted by a b → RunOn by a steps → trace a steps ≡ trace b steps
+outcomes_alike : (by : ℕ) (steps : List Step) (a b : Table) → AreShifted by a b → RunOn by a steps → run_results a steps ≡ run_results b steps
 outcomes_alike by [] a b both on = refl
 outcomes_alike by (step ∷ steps) a b both on =
     let outcomes = first_outcomes by a b step steps both on in
@@ -157,7 +158,7 @@ run_shifted by a b steps first second same checked never =
 pub met_run :
     (a b : Table) (steps : List Step) → IsSound a → IsSound b → All (IsCheckedStep a.settings) steps → is_met a b steps ≡ true
     → RunShifted (shift_between (view_of a).orders.tick (view_of b).orders.tick) a b steps
-met_run a b steps first second checked met = from ((met_told a b steps).0 met)
+met_run a b steps first second checked met = from ((met_decided a b steps).0 met)
   where
     by : ℕ
     by = shift_between (view_of a).orders.tick (view_of b).orders.tick

@@ -8,21 +8,21 @@ use Rattle.bench_model.specs.Lists.{View, lists_of, view_of}
 use Rattle.bench_model.specs.SameTest.{is_same}
 use Rattle.bench_model.specs.Shifted.{SameShifted, is_same_shifted, is_met, untimed, at_tick, some_delays_until}
 use Rattle.bench_model.specs.Table.{Table, tick_count}
-use Rattle.session_laws.proofs.SameTests.{views, same_told}
+use Rattle.session_laws.proofs.SameTests.{views, same_decided}
 
-pub same_shifted_told : (a b : Table) → ((is_same_shifted a b ≡ true) ↔ SameShifted a b)
+pub same_shifted_decided : (a b : Table) → ((is_same_shifted a b ≡ true) ↔ SameShifted a b)
 unfolding is_same_shifted
-same_shifted_told a b = views (untimed (view_of a)) (untimed (view_of b))
+same_shifted_decided a b = views (untimed (view_of a)) (untimed (view_of b))
 
-told_not : (x : Bool) → Decides (not x) (x ≡ false)
-told_not true = (λ e. absurd (true≢false (sym e)), λ e. absurd (true≢false e))
-told_not false = (λ e. refl, λ e. refl)
+decided_not : (x : Bool) → Decides (not x) (x ≡ false)
+decided_not true = (λ e. absurd (true≢false (sym e)), λ e. absurd (true≢false e))
+decided_not false = (λ e. refl, λ e. refl)
 
-pub met_told :
+pub met_decided :
     (old new : Table) (steps : List Step) → ((is_met old new steps ≡ true) ↔ (Same old new ⊎ (SameShifted old new × (some_delays_until steps ≡ false))))
-met_told old new steps =
-    Decides-or (is_same old new) _ (same_told old new)
-    (Decides-and (is_same_shifted old new) (not (some_delays_until steps)) (same_shifted_told old new) (told_not (some_delays_until steps)))
+met_decided old new steps =
+    Decides-or (is_same old new) _ (same_decided old new)
+    (Decides-and (is_same_shifted old new) (not (some_delays_until steps)) (same_shifted_decided old new) (decided_not (some_delays_until steps)))
 
 pub same_at_one_tick : (a b : Table) → (Same a b ↔ (SameShifted a b × (tick_count a.orders ≡ tick_count b.orders)))
 unfolding lists_of

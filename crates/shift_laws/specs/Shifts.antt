@@ -4,7 +4,7 @@ use Rattle.bench_types.specs.declared.step.Step.{Step}
 use Rattle.bench_model.specs.Alike.{InOneReadyList, AreDelayedTogether, InOneWaitQueue, SameOrder, wait_of}
 use Rattle.bench_model.specs.Lists.{view_of}
 use Rattle.bench_model.specs.Looks.{ticks_left}
-use Rattle.bench_model.specs.Session.{state_after, trace}
+use Rattle.bench_model.specs.Session.{state_after, run_results}
 use Rattle.bench_model.specs.Shifted.{shifted}
 use Rattle.bench_model.specs.Table.{Table, is_ready, deadline_left}
 use Rattle.bench_model.specs.Tallied.{part_tallies}
@@ -16,7 +16,7 @@ IsShifted by a b = view_of b ≡ shifted by (view_of a)
 -- from both tables the steps have the same replies, the same running tasks after each and the same
 -- tallies, and at each place the second state is the first with a tick count so many ticks later
 pub record RunShifted (by : ℕ) (a b : Table) (steps : List Step) : Type 0 where
-  pub outcomes : trace a steps ≡ trace b steps
+  pub outcomes : run_results a steps ≡ run_results b steps
   pub tallies : part_tallies a.settings a steps ≡ part_tallies a.settings b steps
   pub states :
       (place : ℕ)

@@ -1,8 +1,10 @@
 -- Counting the tasks of a ready list, and ending time slices core by core.
-use Rattle.std.proofs.Common.{◌≡◌, ℕ, ◌+◌, ◌-◌, ◌<◌, ◌≤◌, Bool, true, false, cond, not, ◌&&◌, ◌||◌, eqb, ltb, List, [], ◌∷◌, ◌++◌, length, map, drop, refl, sym, ap, ◌∙◌, arith}
+use Rattle.std.proofs.Common.{◌≡◌, ℕ, ◌+◌, ◌-◌, ◌<◌, ◌≤◌, Bool, true, false, cond, not, ◌&&◌, ◌||◌, eqb, ltb, List, [], ◌∷◌, ◌++◌, length, map, drop, refl, sym}
+use Rattle.std.proofs.Common.{ap, ◌∙◌, arith}
 use Rattle.std.specs.Prelude.{slice_set, slice_index_or}
 use Rattle.std.specs.List.{filter}
-use Rattle.std.proofs.lemmas.List.{length-append, append-nil, append_assoc, map-append, drop_more, drop_all, length-drop, get_or-drop, get_or-append_right, set-append_right}
+use Rattle.std.proofs.lemmas.List.{length-append, append-nil, append_assoc, map-append, drop_more, drop_all, length-drop, get_or-drop, get_or-append_right}
+use Rattle.std.proofs.lemmas.List.{set-append_right}
 use Rattle.std.proofs.lemmas.List.Elements.{filter-append}
 use Rattle.std.proofs.lemmas.List.FromFn.{length-range_with_len, length-map-range_with_len}
 use Rattle.bench_types.specs.declared.kernel_data.CoreLook.{CoreLook}
@@ -18,7 +20,13 @@ abbrev pub count_below : (ℕ → Bool) → ℕ → ℕ
 count_below test n = length (filter test (numbers n))
 
 pub counted_more : (test : ℕ → Bool) (n : ℕ) → count_below test (n + 1) ≡ count_below test n + cond (test n) 1 0
-counted_more test n = grind (arith, ap (λ ns. length (filter test ns)) (numbers_more n), filter-append test (numbers n) (n ∷ []), length-append (filter test (numbers n)) (filter test (n ∷ [])))
+counted_more test n = grind (
+  arith,
+  ap (λ ns. length (filter test ns)) (numbers_more n),
+  filter-append test (numbers n) (n ∷ []),
+  length-append
+      (filter test (numbers n)) (filter test (n ∷ [])),
+)
 
 pub counted_few : (test : ℕ → Bool) (n : ℕ) → count_below test n ≤ n
 counted_few test n = omega (arith, length_filter test (numbers n), length-range_with_len 0 n)
@@ -62,7 +70,8 @@ module _ (old : Table) where
       get_or-append_right (map each (numbers core)) (drop core old.control.cores) core core no_look (each_length core) (omega arith)
       ∙ ap (λ i. slice_index_or (drop core old.control.cores) i no_look) none ∙ get_or-drop core old.control.cores 0 no_look ∙ ap (core_at old.control) past
 
-  set_there : (core : ℕ) (look : CoreLook) → core < length old.control.cores → slice_set (done_to core) core look ≡ map each (numbers core) ++ look ∷ drop (core + 1) old.control.cores
+  set_there : (core : ℕ) (look : CoreLook) → core < length old.control.cores → slice_set (done_to core) core look ≡ map each (numbers core) ++ look ∷ drop
+      (core + 1) old.control.cores
   set_there core look below =
       let none : core - core ≡ 0 = omega arith in
       set-append_right (map each (numbers core)) (drop core old.control.cores) core core look (each_length core) (omega arith)
@@ -81,16 +90,23 @@ pub record IsSlicing (old : Table) (core : ℕ) (now : Table) : Type 0 where
 pub slicing_starts : (old : Table) → IsSlicing old 0 old
 slicing_starts old = record { so_far = refl }
 
-pub slicing_goes : (old now next : Table) (core : ℕ) → IsSlicing old core now → core < length old.control.cores → next ≡ ended core now → IsSlicing old (core + 1) next
+pub slicing_goes : (old now next : Table) (core : ℕ) → IsSlicing old core now → core < length old.control.cores → next ≡ ended core now → IsSlicing old
+    (core + 1) next
 slicing_goes old now next core slicing below goes = record {
   so_far = goes ∙ ap (ended core) slicing.so_far
       ∙ ap (λ look. with_cores old (slice_set (done_to old core) core (turned old core look))) (look_there old core)
       ∙ ap (with_cores old) (set_there old core (each old core) below ∙ done_more old core);
 }
 
-pub slicing_length : (old now : Table) (core : ℕ) → IsSlicing old core now → core ≤ length old.control.cores → length now.control.cores ≡ length old.control.cores
+pub slicing_length : (old now : Table) (core : ℕ) → IsSlicing old core now → core ≤ length old.control.cores → length now.control.cores ≡ length
+    old.control.cores
 slicing_length old now core slicing low =
-    ap (λ (t : Table). length t.control.cores) slicing.so_far ∙ omega (arith, length-append (map (each old) (numbers core)) (drop core old.control.cores), each_length old core, length-drop core old.control.cores)
+    ap (λ (t : Table). length t.control.cores) slicing.so_far ∙ omega (
+      arith,
+      length-append (map (each old) (numbers core)) (drop core old.control.cores),
+      each_length old core,
+      length-drop core old.control.cores,
+    )
 
 pub slicing_ends : (old now : Table) → IsSlicing old (length old.control.cores) now → old.settings.slicing ≡ true → now ≡ sliced stamp_queues old
 unfolding sliced

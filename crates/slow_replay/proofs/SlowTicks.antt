@@ -24,7 +24,11 @@ differ a b = not (eqb a b)
 -- no number comes twice
 numbers_once : (a n : ℕ) → IsOrdered differ (range_with_len a n)
 numbers_once a zero = tt
-numbers_once a (suc n) = (All-weaker (λ i. (a + 1 ≤ i) × (i < a + 1 + n)) (λ i. differ a i ≡ true) (λ i h. grind (arith, nat_tests, h.0)) (range_with_len (a + 1) n) (range_all (a + 1) n), numbers_once (a + 1) n)
+numbers_once a (suc n) = (
+  All-weaker (λ i. (a + 1 ≤ i) × (i < a + 1 + n)) (λ i. differ a i ≡ true) (λ i h. grind (arith, nat_tests, h.0))
+      (range_with_len (a + 1) n) (range_all (a + 1) n),
+  numbers_once (a + 1) n,
+)
 
 by_stamp_once : (stamp : ℕ → ℕ) (test : ℕ → Bool) (n bound : ℕ) → IsOrdered differ (by_stamp stamp test (numbers n) bound)
 unfolding by_stamp
@@ -34,7 +38,8 @@ by_stamp_once stamp test n (suc b) =
     let last = filter (λ i. test i && eqb (stamp i) b) (numbers n) in
     IsOrdered-append differ early last (by_stamp_once stamp test n b) (IsOrdered-filter differ (λ i. test i && eqb (stamp i) b) (numbers n) (numbers_once 0 n))
     (All-weaker (λ i. stamp i < b) (λ i. AllByRecursion (λ j. differ i j ≡ true) last)
-    (λ i h. All-weaker (λ j. (test j && eqb (stamp j) b) ≡ true) (λ j. differ i j ≡ true) (λ j k. grind (arith, nat_tests, h, k, ap stamp)) last (All-filter_passes (λ j. test j && eqb (stamp j) b) (numbers n)))
+    (λ i h. All-weaker (λ j. (test j && eqb (stamp j) b) ≡ true) (λ j. differ i j ≡ true) (λ j k. grind (arith, nat_tests, h, k, ap stamp)) last
+    (All-filter_passes (λ j. test j && eqb (stamp j) b) (numbers n)))
     early (by_stamp_early stamp test (numbers n) b))
 
 -- there are at most as many as numbers
@@ -45,7 +50,8 @@ first_due_is stamps stamped =
     let n = length stamps.rows in
     let test = λ (i : ℕ). wakes_at stamps.tick (row_at stamps i).standing in
     sym (first_is_best (λ i. 0) (stamp_of stamps) test n (by_stamp (stamp_of stamps) test (numbers n) stamps.next)
-    (by_stamp_ordered (stamp_of stamps) test (numbers n) stamps.next) (All-by_stamp (stamp_of stamps) test (numbers n) (λ i. i < n) stamps.next (numbers_below n))
+    (by_stamp_ordered (stamp_of stamps) test (numbers n) stamps.next) (All-by_stamp (stamp_of stamps) test (numbers n) (λ i. i < n) stamps.next
+    (numbers_below n))
     (λ i h. grind (arith, nat_tests, has-by_stamp (stamp_of stamps) test (numbers n) i stamps.next, stamped.given i h, numbers_have n i h)) stamped.once)
 
 pub first_due_none : (stamps : Stamps) → IsStamped stamps → first_due stamps ≡ None → due stamps ≡ []
@@ -61,17 +67,22 @@ due_once stamps = by_stamp_once (stamp_of stamps) (λ i. wakes_at stamps.tick (r
 
 due_without : (stamps : Stamps) (task : ℕ) → IsStamped stamps → task < length stamps.rows → due (add_to_ready_list task stamps) ≡ without task (due stamps)
 unfolding due add_to_ready_list
-due_without stamps task stamped below = standing_so_moved stamps task Ready below (wakes_at stamps.tick) stamped.given ∙ append-nil (without task (standing_so (wakes_at stamps.tick) stamps))
+due_without stamps task stamped below = standing_so_moved stamps task Ready below (wakes_at stamps.tick) stamped.given ∙ append-nil
+    (without task (standing_so (wakes_at stamps.tick) stamps))
 
 -- waking the first of them leaves the others
-pub first_due_some : (stamps : Stamps) (task : ℕ) → IsStamped stamps → task < length stamps.rows → first_due stamps ≡ Some task → due stamps ≡ task ∷ due (add_to_ready_list task stamps)
-first_due_some stamps task stamped below some = from (due stamps) (sym (first_due_is stamps stamped) ∙ some) (due_once stamps) (due_without stamps task stamped below)
+pub first_due_some : (stamps : Stamps) (task : ℕ) → IsStamped stamps → task < length stamps.rows → first_due stamps ≡ Some task → due stamps ≡ task ∷ due
+    (add_to_ready_list task stamps)
+first_due_some stamps task stamped below some = from (due stamps) (sym (first_due_is stamps stamped) ∙ some) (due_once stamps)
+    (due_without stamps task stamped below)
   where
-    from : (xs : List ℕ) → find (λ _. true) xs ≡ Some task → IsOrdered differ xs → due (add_to_ready_list task stamps) ≡ without task xs → xs ≡ task ∷ due (add_to_ready_list task stamps)
+    from : (xs : List ℕ) → find (λ _. true) xs ≡ Some task → IsOrdered differ xs → due (add_to_ready_list task stamps) ≡ without task xs → xs ≡ task ∷ due
+        (add_to_ready_list task stamps)
     from [] e once rest = absurd (cc (e))
     from (x ∷ xs) e once rest =
         let same : x ≡ task = cc (e) in
-        let others = filter_all (λ m. not (eqb m task)) xs (All-weaker (λ y. differ x y ≡ true) (λ y. not (eqb y task) ≡ true) (λ y h. grind (arith, nat_tests, h, same)) xs once.0) in
+        let others = filter_all (λ m. not (eqb m task)) xs (All-weaker (λ y. differ x y ≡ true) (λ y. not (eqb y task) ≡ true)
+        (λ y h. grind (arith, nat_tests, h, same)) xs once.0) in
         grind (arith, nat_tests, same, rest, others)
 
 -- old is being ticked: waking the tasks that are still due in now, and then slicing, ends in its tick
@@ -94,7 +105,8 @@ add_to_ready_next : (stamps : Stamps) (task : ℕ) → (add_to_ready_list task s
 unfolding add_to_ready_list
 add_to_ready_next stamps task = refl
 
-pub waking_goes : (old now next : Table) (task : ℕ) → IsWaking old now → task < length now.orders.rows → first_due now.orders ≡ Some task → next ≡ wake stamp_queues 0 task now → IsWaking old next × (length (due next.orders) < length (due now.orders))
+pub waking_goes : (old now next : Table) (task : ℕ) → IsWaking old now → task < length now.orders.rows → first_due now.orders ≡ Some task → next ≡ wake
+    stamp_queues 0 task now → IsWaking old next × (length (due next.orders) < length (due now.orders))
 unfolding wake
 waking_goes old now next task waking below some goes =
     let first = first_due_some now.orders task waking.stamped below some in
@@ -110,7 +122,9 @@ waking_goes old now next task waking below some goes =
     )
 
 pub waking_ends : (old now : Table) → IsWaking old now → first_due now.orders ≡ None → sliced stamp_queues now ≡ ticked stamp_queues old
-waking_ends old now waking none = sym (ap (λ tasks. sliced stamp_queues (woken stamp_queues tasks now)) (first_due_none now.orders waking.stamped none)) ∙ waking.rest
+waking_ends old now waking none = sym (ap (λ tasks. sliced stamp_queues (woken stamp_queues tasks now)) (first_due_none now.orders waking.stamped none)) ∙
+    waking.rest
 
-pub waking_room : (old now : Table) (task : ℕ) → IsWaking old now → task < length now.orders.rows → first_due now.orders ≡ Some task → now.orders.next + 1 ≤ old.orders.next + length old.orders.rows
+pub waking_room : (old now : Table) (task : ℕ) → IsWaking old now → task < length now.orders.rows → first_due now.orders ≡ Some task → now.orders.next + 1 ≤
+    old.orders.next + length old.orders.rows
 waking_room old now task waking below some = omega (arith, waking.room, ap length (first_due_some now.orders task waking.stamped below some))

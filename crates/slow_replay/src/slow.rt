@@ -26,8 +26,8 @@ mod sets;
 use bench_model::until::{is_ahead, next_wake};
 use bench_model::{TaskRow, TaskState};
 use bench_types::{
-    Call, CoreLook, Header, Hold, MutexWait, NoteState, Notification, Refusal, Reply, Row,
-    Settings, Step, TaskArgs, TaskControl, Unfinished, cores_of_mask,
+    BlockingCall, Call, CoreLook, Header, Hold, MutexWait, NoteState, Notification, Refusal, Reply,
+    Row, Settings, Step, TaskArgs, TaskControl, Unfinished, cores_of_mask,
 };
 use std::alloc::{AllocError, Global};
 use std::marker::Model;
@@ -376,7 +376,7 @@ impl SlowTable {
             self.ask_itself(core);
             return Reply::Done;
         }
-        let call = Unfinished::Made(Call::Delay(ticks));
+        let call = Unfinished::Made(BlockingCall::Delay(ticks));
         self.block(core, task, call, Some(ticks), None);
         Reply::Blocked
     }
@@ -393,7 +393,7 @@ impl SlowTable {
         let wake = next_wake(prev, inc);
         let delayed = is_ahead(now, prev, wake);
         if delayed {
-            let call = Unfinished::Made(Call::DelayUntil { prev, inc });
+            let call = Unfinished::Made(BlockingCall::DelayUntil { prev, inc });
             self.block(core, task, call, Some(wake.wrapping_sub(now)), None);
         } else {
             self.ask_itself(core);

@@ -24,20 +24,24 @@ use Rattle.step_laws.proofs.Holds.{its_hold, accepted}
 use Rattle.smp_kernel.specs.Kernel.{IsSettled, FindsItsTask}
 
 -- a task that may give a mutex holds it itself, if a task does
-pub own_mutex : (holders : List (Option ℕ)) (task mutex : ℕ) → give_refusal holders task (MutexGive mutex) ≡ None → ForSome (holder_at holders mutex) (λ holder. holder ≡ task)
-own_mutex holders task mutex accepted holder held = at (eqb holder task) refl (subst (λ of. option_map_or (λ holder. cond (eqb holder task) None (Some NotHolder)) of None ≡ None) held accepted)
+pub own_mutex : (holders : List (Option ℕ)) (task mutex : ℕ) → give_refusal holders task (MutexGive mutex) ≡ None → ForSome (holder_at holders mutex)
+    (λ holder. holder ≡ task)
+own_mutex holders task mutex accepted holder held = at (eqb holder task) refl
+    (subst (λ of. option_map_or (λ holder. cond (eqb holder task) None (Some NotHolder)) of None ≡ None) held accepted)
   where
     at : (b : Bool) → eqb holder task ≡ b → cond b None (Some NotHolder) ≡ None → holder ≡ task
     at true same accepted = grind (arith, nat_tests, same)
     at false other accepted = absurd (cc (accepted))
 
 -- the current task of a core on which a call is accepted is ready
-caller_ready : (core : ℕ) (view : View) → IsSettled view → core < view.settings.cores → (is_due view.control core && not (is_held_by core view.hold)) ≡ false → has (current view.control core) view.orders.ready ≡ true
+caller_ready : (core : ℕ) (view : View) → IsSettled view → core < view.settings.cores → (is_due view.control core && not (is_held_by core view.hold)) ≡ false →
+    has (current view.control core) view.orders.ready ≡ true
 caller_ready core view settled low may = at (is_due view.control core) refl (is_held_by core view.hold) refl
   where
     at : (b : Bool) → is_due view.control core ≡ b → (d : Bool) → is_held_by core view.hold ≡ d → has (current view.control core) view.orders.ready ≡ true
     at false idle d held = settled.runs_ready core low idle
-    at true due true held = let it = its_hold core view.hold held in subst (λ c. has (current view.control c) view.orders.ready ≡ true) it.2 (settled.held it.0 it.1).ready
+    at true due true held = let it = its_hold core view.hold held in subst (λ c. has (current view.control c) view.orders.ready ≡ true) it.2
+        (settled.held it.0 it.1).ready
     at true due false free = absurd (cc (may, due, free))
 
 -- the kernel is not held too many times over
@@ -48,7 +52,8 @@ depth_most view settled = at view.hold refl
     at None free = omega arith
     at (Some hold) is = (settled.held hold is).depth
 
-pub finds_its_task : (core task : ℕ) (call : Call) (view : View) → IsSettled view → step_check view.settings (steps.Call core task call) ≡ Ok tt → refusal list_queues (steps.Call core task call) view ≡ None → FindsItsTask view core task call
+pub finds_its_task : (core task : ℕ) (call : Call) (view : View) → IsSettled view → step_check view.settings (steps.Call core task call) ≡ Ok tt → refusal
+    list_queues (steps.Call core task call) view ≡ None → FindsItsTask view core task call
 finds_its_task core task call view settled passes none =
     let both = both_pass (core_check view.settings core >> task_check view.settings task) (call_check view.settings call) passes in
     let in_range = both_pass (core_check view.settings core) (task_check view.settings task) both.0 in

@@ -11,8 +11,10 @@ use Rattle.list_orders.proofs.Ranks.{list_any-placed}
 use Rattle.tick_delay.specs.Parts.{DelayView, is_waiting, advanced}
 use Rattle.smp_kernel.specs.Kernel.{IsDisjoint, delayed_task}
 
-has-moved : (control : Control) (t task : ℕ) (ready : List ℕ) → has t (placed (outranks control) task (without task ready)) ≡ (eqb task t || (not (eqb t task) && has t ready))
-has-moved control t task ready = list_any-placed (outranks control) (λ m. eqb m t) task (without task ready) ∙ ap (λ b. eqb task t || b) (has-filter (λ m. not (eqb m task)) t ready)
+has-moved : (control : Control) (t task : ℕ) (ready : List ℕ) → has t (placed (outranks control) task (without task ready)) ≡
+    (eqb task t || (not (eqb t task) && has t ready))
+has-moved control t task ready = list_any-placed (outranks control) (λ m. eqb m t) task (without task ready) ∙ ap (λ b. eqb task t || b)
+    (has-filter (λ m. not (eqb m task)) t ready)
 
 and_false : (b : Bool) → (b && false) ≡ false
 and_false true = refl
@@ -23,7 +25,8 @@ pub none_found : {E : Type 0} (test : E → Bool) (entries : List E) → list_an
 none_found test [] none = refl
 none_found test (entry ∷ entries) none = at (test entry) none (none_found test entries)
   where
-    at : (b : Bool) → (b || list_any test entries) ≡ false → (list_any test entries ≡ false → find test entries ≡ None) → cond b (Some entry) (find test entries) ≡ None
+    at : (b : Bool) → (b || list_any test entries) ≡ false → (list_any test entries ≡ false → find test entries ≡ None) → cond b (Some entry)
+        (find test entries) ≡ None
     at true none rest = absurd (cc (none))
     at false none rest = rest none
 
@@ -47,7 +50,8 @@ module _ {E : Type 0} (task_of : E → ℕ) where
   left_free task [] free = refl
   left_free task (entry ∷ entries) free = grind (arith, free, left_free task entries (grind (arith, free)))
 
-  pub apart_ready : (control : Control) (task : ℕ) (ready : List ℕ) (entries : List E) → IsDisjoint task_of ready entries → IsDisjoint task_of (placed (outranks control) task (without task ready)) (left task entries)
+  pub apart_ready : (control : Control) (task : ℕ) (ready : List ℕ) (entries : List E) → IsDisjoint task_of ready entries → IsDisjoint task_of
+      (placed (outranks control) task (without task ready)) (left task entries)
   apart_ready control task ready entries apart t found = at (has t ready) refl
     where
       at : (b : Bool) → has t ready ≡ b → waits t (left task entries) ≡ false
@@ -63,15 +67,26 @@ module _ {E : Type 0} (task_of : E → ℕ) where
       at false before = absurd (cc (found, before, has-filter (λ m. not (eqb m task)) t ready, and_false (not (eqb t task))))
 
   -- and waits
-  pub apart_waiting : (front : E → E → Bool) (entry : E) (ready : List ℕ) (entries : List E) → IsDisjoint task_of ready entries → IsDisjoint task_of (without (task_of entry) ready) (placed front entry entries)
+  pub apart_waiting : (front : E → E → Bool) (entry : E) (ready : List ℕ) (entries : List E) → IsDisjoint task_of ready entries → IsDisjoint task_of
+      (without (task_of entry) ready) (placed front entry entries)
   apart_waiting front entry ready entries apart t found = at (has t ready) refl
     where
       at : (b : Bool) → has t ready ≡ b → waits t (placed front entry entries) ≡ false
-      at true before = grind (arith, nat_tests, found, before, apart t before, list_any-placed front (λ e. eqb (task_of e) t) entry entries, has-filter (λ m. not (eqb m (task_of entry))) t ready)
+      at true before = grind (
+        arith,
+        nat_tests,
+        found,
+        before,
+        apart t before,
+        list_any-placed front (λ e. eqb (task_of e) t) entry entries,
+        has-filter
+            (λ m. not (eqb m (task_of entry))) t ready,
+      )
       at false before = absurd (cc (found, before, has-filter (λ m. not (eqb m (task_of entry))) t ready, and_false (not (eqb t (task_of entry)))))
 
   -- the ready lists where a task that is ready goes to the end of its list
-  pub apart_queued : (task : ℕ) (control : Control) (ready : List ℕ) (entries : List E) → IsDisjoint task_of ready entries → IsDisjoint task_of (cond (has task ready) (placed (outranks control) task (without task ready)) ready) entries
+  pub apart_queued : (task : ℕ) (control : Control) (ready : List ℕ) (entries : List E) → IsDisjoint task_of ready entries → IsDisjoint task_of
+      (cond (has task ready) (placed (outranks control) task (without task ready)) ready) entries
   apart_queued task control ready entries apart = at (has task ready) refl
     where
       at : (b : Bool) → has task ready ≡ b → IsDisjoint task_of (cond b (placed (outranks control) task (without task ready)) ready) entries
@@ -91,7 +106,8 @@ unfolding advanced
 apart_advanced ready view apart t found = waiting-aged t view.delayed ∙ apart t found
 
 -- a task stays ready that goes to the end of its list
-pub ready_queued : (task : ℕ) (control : Control) (ready : List ℕ) → has task (cond (has task ready) (placed (outranks control) task (without task ready)) ready) ≡ has task ready
+pub ready_queued : (task : ℕ) (control : Control) (ready : List ℕ) → has task
+    (cond (has task ready) (placed (outranks control) task (without task ready)) ready) ≡ has task ready
 ready_queued task control ready = at (has task ready) refl
   where
     at : (b : Bool) → has task ready ≡ b → has task (cond b (placed (outranks control) task (without task ready)) ready) ≡ b

@@ -28,7 +28,8 @@ waiters_more task wait waiters = option_map_or (λ wait. placed waits_first (rec
 
 -- a ready task waits at no mutex
 pub not_waiting : (parts : Parts) → IsKernelShape parts → (task : ℕ) → has task parts.cores.ready ≡ true → wait_of task parts.mutexes.waiters ≡ None
-not_waiting parts shape task ready = ap (option_map (λ (waiter : Waiter). waiter.wait)) (none_found (λ (waiter : Waiter). eqb waiter.task task) parts.mutexes.waiters (shape.unqueued task ready))
+not_waiting parts shape task ready = ap (option_map (λ (waiter : Waiter). waiter.wait))
+    (none_found (λ (waiter : Waiter). eqb waiter.task task) parts.mutexes.waiters (shape.unqueued task ready))
 
 -- a kernel whose task begins to wait
 abbrev pub blocked_parts : ℕ → ℕ → Unfinished → Option ℕ → Option MutexWait → Parts → Parts
@@ -40,21 +41,27 @@ blocked_parts core task call ticks wait parts = record parts {
   deadlines = slice_set parts.deadlines task (cond (is_some wait) ticks None);
 }
 
-apart_delayed : (task : ℕ) (ticks : Option ℕ) (ready : List ℕ) (delayed : List Delayed) → IsDisjoint delayed_task ready delayed → IsDisjoint delayed_task (without task ready) (delayed_more task ticks delayed)
+apart_delayed : (task : ℕ) (ticks : Option ℕ) (ready : List ℕ) (delayed : List Delayed) → IsDisjoint delayed_task ready delayed → IsDisjoint delayed_task
+    (without task ready) (delayed_more task ticks delayed)
 apart_delayed task None ready delayed apart = apart_unready delayed_task task ready delayed apart
 apart_delayed task (Some left) ready delayed apart = apart_waiting delayed_task wakes_first (record { task = task; left = left }) ready delayed apart
 
-apart_queued : (task : ℕ) (wait : Option MutexWait) (ready : List ℕ) (waiters : List Waiter) → IsDisjoint waiting_task ready waiters → IsDisjoint waiting_task (without task ready) (waiters_more task wait waiters)
+apart_queued : (task : ℕ) (wait : Option MutexWait) (ready : List ℕ) (waiters : List Waiter) → IsDisjoint waiting_task ready waiters → IsDisjoint waiting_task
+    (without task ready) (waiters_more task wait waiters)
 apart_queued task None ready waiters apart = apart_unready waiting_task task ready waiters apart
 apart_queued task (Some wait) ready waiters apart = apart_waiting waiting_task waits_first (record { task = task; wait = wait }) ready waiters apart
 
 module _ (parts : Parts) (shape : IsKernelShape parts) where
-  pub block_seen : (core task : ℕ) (call : Unfinished) (ticks : Option ℕ) (wait : Option MutexWait) → kernel_view (blocked_parts core task call ticks wait parts) ≡ blocked list_queues core task call ticks wait (kernel_view parts)
+  pub block_seen : (core task : ℕ) (call : Unfinished) (ticks : Option ℕ) (wait : Option MutexWait) → kernel_view
+      (blocked_parts core task call ticks wait parts) ≡ blocked list_queues core task call ticks wait (kernel_view parts)
   unfolding blocked delay
   block_seen core task call ticks wait = refl
 
-  pub block_shape : (core task : ℕ) (call : Unfinished) (ticks : Option ℕ) (wait : Option MutexWait) → IsKernelShape (blocked_parts core task call ticks wait parts)
-  block_shape core task call ticks wait = reshaped parts _ refl (cc (length-set parts.cores.control.cores core _, length-set parts.calls task _, length-set parts.deadlines task _)) (apart_delayed task ticks _ _ shape.undelayed) (apart_queued task wait _ _ shape.unqueued) shape
+  pub block_shape : (core task : ℕ) (call : Unfinished) (ticks : Option ℕ) (wait : Option MutexWait) → IsKernelShape
+      (blocked_parts core task call ticks wait parts)
+  block_shape core task call ticks wait = reshaped parts _ refl (cc
+      (length-set parts.cores.control.cores core _, length-set parts.calls task _, length-set parts.deadlines task _))
+      (apart_delayed task ticks _ _ shape.undelayed) (apart_queued task wait _ _ shape.unqueued) shape
 
 -- a kernel whose task begins to wait for a mutex, when the holder has inherited
 abbrev pub waited_parts : ℕ → ℕ → ℕ → ℕ → Option ℕ → Parts → Parts

@@ -42,34 +42,46 @@ abbrev pub queue_of : ℕ → Control → List ℕ → List ℕ
 queue_of task control ready = cond (has task ready) (placed (outranks control) task (without task ready)) ready
 
 -- nothing else changes then
-requeued : (control : Control) (task : ℕ) (lists : Lists) → NoneWaits lists → cond (has task lists.ready) (add_to_ready_list control task lists) lists ≡ record lists { ready = queue_of task control lists.ready }
+requeued : (control : Control) (task : ℕ) (lists : Lists) → NoneWaits lists → cond (has task lists.ready) (add_to_ready_list control task lists) lists ≡
+    record lists { ready = queue_of task control lists.ready }
 unfolding add_to_ready_list
 requeued control task lists apart = at (has task lists.ready) refl
   where
     moved : List ℕ
     moved = placed (outranks control) task (without task lists.ready)
 
-    at : (b : Bool) → has task lists.ready ≡ b → cond b (record lists { ready = moved; delayed = without_delay task lists.delayed; waiters = without_waiter task lists.waiters }) lists ≡ record lists { ready = cond b moved lists.ready }
+    at : (b : Bool) → has task lists.ready ≡ b → cond b (record lists
+        { ready = moved; delayed = without_delay task lists.delayed; waiters = without_waiter task lists.waiters }) lists ≡ record lists
+        { ready = cond b moved lists.ready }
     at true here =
-        ap (λ delayed. record lists { ready = moved; delayed = delayed; waiters = without_waiter task lists.waiters }) (left_free delayed_task task lists.delayed (apart.undelayed task here))
+        ap (λ delayed. record lists { ready = moved; delayed = delayed; waiters = without_waiter task lists.waiters })
+        (left_free delayed_task task lists.delayed (apart.undelayed task here))
         ∙ ap (λ waiters. record lists { ready = moved; waiters = waiters }) (left_free waiting_task task lists.waiters (apart.unqueued task here))
     at false gone = refl
 
 -- the cores when it has selected
 abbrev selected_by : ℕ → Control → List ℕ → Control
-selected_by core control ready = run_on core (unwrap_or (find (may_select control core) (queue_of (current control core) control ready)) (current control core)) control
+selected_by core control ready = run_on core (unwrap_or (find (may_select control core) (queue_of (current control core) control ready)) (current control core))
+    control
 
 -- the cores after the seek for the task that it had
 abbrev settled_by : ℕ → ℕ → Control → List ℕ → Control
-settled_by core loser control ready = cond (not (eqb (current control core) loser) && has loser ready) (seek core loser (may_move control loser (current control core) core) control) control
+settled_by core loser control ready = cond (not (eqb (current control core) loser) && has loser ready)
+    (seek core loser (may_move control loser (current control core) core) control) control
 
-switch_part : (core : ℕ) (view : View) → NoneWaits view.orders → after_select list_queues core view ≡ with_part view (selected_by core view.control view.orders.ready) (queue_of (current view.control core) view.control view.orders.ready)
+switch_part : (core : ℕ) (view : View) → NoneWaits view.orders → after_select list_queues core view ≡ with_part view
+    (selected_by core view.control view.orders.ready) (queue_of (current view.control core) view.control view.orders.ready)
 unfolding after_select pick
 switch_part core view apart =
     let left = current view.control core in
-    ap (λ (orders : Lists). record view { control = run_on core (unwrap_or (find (may_select view.control core) orders.ready) left) view.control; orders = orders }) (requeued view.control left view.orders apart)
+    ap (λ (orders : Lists). record view {
+      control = run_on core (unwrap_or (find (may_select view.control core) orders.ready) left) view.control;
+      orders =
+          orders;
+    }) (requeued view.control left view.orders apart)
 
-resettle_part : (core loser : ℕ) (view : View) → after_eviction list_queues core loser view ≡ with_part view (settled_by core loser view.control view.orders.ready) view.orders.ready
+resettle_part : (core loser : ℕ) (view : View) → after_eviction list_queues core loser view ≡ with_part view
+    (settled_by core loser view.control view.orders.ready) view.orders.ready
 unfolding after_eviction
 resettle_part core loser view = at (not (eqb (current view.control core) loser) && has loser view.orders.ready)
   where
@@ -84,13 +96,16 @@ resettle_part core loser view = at (not (eqb (current view.control core) loser) 
 abbrev turned_by : ℕ → Control → List ℕ → Control
 turned_by core control ready = settled_by core (current control core) (selected_by core control ready) (queue_of (current control core) control ready)
 
-turn_part : (core : ℕ) (view : View) → NoneWaits view.orders → after_switch list_queues core view ≡ with_part view (turned_by core view.control view.orders.ready) (queue_of (current view.control core) view.control view.orders.ready)
+turn_part : (core : ℕ) (view : View) → NoneWaits view.orders → after_switch list_queues core view ≡ with_part view
+    (turned_by core view.control view.orders.ready) (queue_of (current view.control core) view.control view.orders.ready)
 unfolding after_switch
 turn_part core view apart =
     ap (after_eviction list_queues core (current view.control core)) (switch_part core view apart)
-    ∙ resettle_part core (current view.control core) (with_part view (selected_by core view.control view.orders.ready) (queue_of (current view.control core) view.control view.orders.ready))
+    ∙ resettle_part core (current view.control core) (with_part view (selected_by core view.control view.orders.ready)
+    (queue_of (current view.control core) view.control view.orders.ready))
 
-turned_cores : (core : ℕ) (cores : CoresView) → cores_rule (after_switch list_queues core) cores ≡ record cores { control = turned_by core cores.control cores.ready; ready = queue_of (current cores.control core) cores.control cores.ready }
+turned_cores : (core : ℕ) (cores : CoresView) → cores_rule (after_switch list_queues core) cores ≡ record cores
+    { control = turned_by core cores.control cores.ready; ready = queue_of (current cores.control core) cores.control cores.ready }
 turned_cores core cores = ap cores_of (turn_part core (bare_view cores) (none_waits_alone cores))
 
 -- a rule asks cores, and changes no number of cores and tasks and no setting of them
@@ -104,11 +119,13 @@ record IsKept (before after : CoresView) : Type 0 where
 abbrev pub with_cores : Parts → CoresView → Parts
 with_cores parts cores = record parts { cores = cores }
 
-cores_shape : (parts : Parts) (cores : CoresView) → IsKernelShape parts → IsKept parts.cores cores → NoneWaits (kernel_view (with_cores parts cores)).orders → IsKernelShape (with_cores parts cores)
+cores_shape : (parts : Parts) (cores : CoresView) → IsKernelShape parts → IsKept parts.cores cores → NoneWaits (kernel_view (with_cores parts cores)).orders →
+    IsKernelShape (with_cores parts cores)
 cores_shape parts cores shape kept apart =
     reshaped parts _ refl (cc (kept.priorities, kept.slicing, kept.cores, kept.controls)) apart.undelayed apart.unqueued shape
 
-queued_apart : (parts : Parts) (task : ℕ) (control : Control) → IsKernelShape parts → NoneWaits (record (kernel_view parts).orders { ready = queue_of task control parts.cores.ready })
+queued_apart : (parts : Parts) (task : ℕ) (control : Control) → IsKernelShape parts → NoneWaits
+    (record (kernel_view parts).orders { ready = queue_of task control parts.cores.ready })
 queued_apart parts task control shape = record {
   undelayed = apart_queued delayed_task task control _ _ shape.undelayed;
   unqueued = apart_queued waiting_task task control _ _ shape.unqueued;
@@ -126,15 +143,18 @@ settled_more core loser control ready = at (not (eqb (current control core) lose
 
 module _ (parts : Parts) (shape : IsKernelShape parts) where
   -- a switch of the core part is the switch of the kernel
-  pub turn_seen : (core : ℕ) → kernel_view (with_cores parts (cores_rule (after_switch list_queues core) parts.cores)) ≡ after_switch list_queues core (kernel_view parts)
-  turn_seen core = ap (λ cores. kernel_view (with_cores parts cores)) (turned_cores core parts.cores) ∙ sym (turn_part core (kernel_view parts) (none_waits parts shape))
+  pub turn_seen : (core : ℕ) → kernel_view (with_cores parts (cores_rule (after_switch list_queues core) parts.cores)) ≡ after_switch list_queues core
+      (kernel_view parts)
+  turn_seen core = ap (λ cores. kernel_view (with_cores parts cores)) (turned_cores core parts.cores) ∙ sym
+      (turn_part core (kernel_view parts) (none_waits parts shape))
 
   pub turn_shape : (core : ℕ) → IsKernelShape (with_cores parts (cores_rule (after_switch list_queues core) parts.cores))
   turn_shape core =
       let control = parts.cores.control in
       let ready = parts.cores.ready in
       let more = settled_more core (current control core) (selected_by core control ready) (queue_of (current control core) control ready) in
-      let kept : IsKept parts.cores (record parts.cores { control = turned_by core control ready; ready = queue_of (current control core) control ready }) = record {
+      let kept : IsKept parts.cores (record parts.cores { control = turned_by core control ready; ready = queue_of (current control core) control ready }) =
+      record {
         priorities = refl;
         slicing = refl;
         cores = more.cores ∙ length-set control.cores core _;
@@ -143,7 +163,8 @@ module _ (parts : Parts) (shape : IsKernelShape parts) where
       rw (turned_cores core parts.cores) (cores_shape parts _ shape kept (queued_apart parts (current control core) control shape))
 
 -- a core is sought
-pub seek_shape : (parts : Parts) → IsKernelShape parts → (acting task : ℕ) (among : ℕ → Bool) → IsKernelShape (with_cores parts (record parts.cores { control = seek acting task among parts.cores.control }))
+pub seek_shape : (parts : Parts) → IsKernelShape parts → (acting task : ℕ) (among : ℕ → Bool) → IsKernelShape
+    (with_cores parts (record parts.cores { control = seek acting task among parts.cores.control }))
 seek_shape parts shape acting task among =
     let more = seek_more acting task among parts.cores.control in
     let kept : IsKept parts.cores (record parts.cores { control = seek acting task among parts.cores.control }) = record {
@@ -163,7 +184,8 @@ woken_parts task parts cores = record parts {
 }
 
 module _ (parts : Parts) (shape : IsKernelShape parts) (acting task : ℕ) where
-  pub wake_seen : kernel_view (woken_parts task parts (cores_rule (wake list_queues acting task) parts.cores)) ≡ wake list_queues acting task (kernel_view parts)
+  pub wake_seen : kernel_view (woken_parts task parts (cores_rule (wake list_queues acting task) parts.cores)) ≡ wake list_queues acting task
+      (kernel_view parts)
   unfolding wake add_to_ready_list
   wake_seen = refl
 
@@ -176,19 +198,23 @@ module _ (parts : Parts) (shape : IsKernelShape parts) (acting task : ℕ) where
       (apart_ready delayed_task control task _ _ shape.undelayed) (apart_ready waiting_task control task _ _ shape.unqueued) shape
 
 -- setting a priority in use
-in_use_part : (task priority : ℕ) (view : View) → NoneWaits view.orders → in_use_set list_queues task priority view ≡ with_part view (with_in_use task priority view.control) (queue_of task (with_in_use task priority view.control) view.orders.ready)
+in_use_part : (task priority : ℕ) (view : View) → NoneWaits view.orders → in_use_set list_queues task priority view ≡ with_part view
+    (with_in_use task priority view.control) (queue_of task (with_in_use task priority view.control) view.orders.ready)
 unfolding in_use_set
 in_use_part task priority view apart =
     let later = with_in_use task priority view.control in
     ap (λ orders. record view { control = later; orders = orders }) (requeued later task view.orders apart)
 
-pub in_use_cores : (task priority : ℕ) (cores : CoresView) → cores_rule (in_use_set list_queues task priority) cores ≡ record cores { control = with_in_use task priority cores.control; ready = queue_of task (with_in_use task priority cores.control) cores.ready }
+pub in_use_cores : (task priority : ℕ) (cores : CoresView) → cores_rule (in_use_set list_queues task priority) cores ≡ record cores
+    { control = with_in_use task priority cores.control; ready = queue_of task (with_in_use task priority cores.control) cores.ready }
 in_use_cores task priority cores = ap cores_of (in_use_part task priority (bare_view cores) (none_waits_alone cores))
 
 module _ (parts : Parts) (shape : IsKernelShape parts) where
-  pub in_use_seen : (task priority : ℕ) → kernel_view (with_cores parts (cores_rule (in_use_set list_queues task priority) parts.cores)) ≡ in_use_set list_queues task priority (kernel_view parts)
+  pub in_use_seen : (task priority : ℕ) → kernel_view (with_cores parts (cores_rule (in_use_set list_queues task priority) parts.cores)) ≡ in_use_set
+      list_queues task priority (kernel_view parts)
   in_use_seen task priority =
-      ap (λ cores. kernel_view (with_cores parts cores)) (in_use_cores task priority parts.cores) ∙ sym (in_use_part task priority (kernel_view parts) (none_waits parts shape))
+      ap (λ cores. kernel_view (with_cores parts cores)) (in_use_cores task priority parts.cores) ∙ sym
+      (in_use_part task priority (kernel_view parts) (none_waits parts shape))
 
   pub in_use_shape : (task priority : ℕ) → IsKernelShape (with_cores parts (cores_rule (in_use_set list_queues task priority) parts.cores))
   in_use_shape task priority =
@@ -207,7 +233,11 @@ sought_by acting holder ready control = cond (has holder ready) (seek acting hol
 
 -- the cores and ready lists after a change of a priority in use, where there is one, and after who is asked then
 abbrev changed_part : Bool → ℕ → Control → Control → CoresView → CoresView
-changed_part changes task later asked cores = record cores { control = cond changes asked cores.control; ready = cond changes (queue_of task later cores.ready) cores.ready }
+changed_part changes task later asked cores = record cores {
+  control = cond changes asked cores.control;
+  ready = cond changes (queue_of task later cores.ready)
+      cores.ready;
+}
 
 abbrev raised_cores : ℕ → ℕ → ℕ → CoresView → CoresView
 raised_cores acting holder priority cores =
@@ -219,10 +249,12 @@ after_disinherit_cores acting task priority cores =
     let later = with_in_use task priority cores.control in
     changed_part (not (eqb (task_at cores.control task).in_use priority)) task later (ask_its_core acting task later) cores
 
-inherited_part : (acting holder priority : ℕ) (view : View) → NoneWaits view.orders → inherited list_queues acting holder priority view ≡ with_part view (raised_cores acting holder priority (cores_of view)).control (raised_cores acting holder priority (cores_of view)).ready
+inherited_part : (acting holder priority : ℕ) (view : View) → NoneWaits view.orders → inherited list_queues acting holder priority view ≡ with_part view
+    (raised_cores acting holder priority (cores_of view)).control (raised_cores acting holder priority (cores_of view)).ready
 unfolding inherited
 inherited_part acting holder priority view apart =
-    ap (λ later. cond raises (cond (has holder view.orders.ready) (sought later) later) view) (in_use_part holder priority view apart) ∙ at raises (has holder view.orders.ready)
+    ap (λ later. cond raises (cond (has holder view.orders.ready) (sought later) later) view) (in_use_part holder priority view apart) ∙ at raises
+    (has holder view.orders.ready)
   where
     raises : Bool
     raises = ltb (task_at view.control holder).in_use priority
@@ -236,12 +268,15 @@ inherited_part acting holder priority view apart =
     sought : View → View
     sought of = record of { control = seek acting holder (in_mask of.control holder) of.control }
 
-    at : (b d : Bool) → cond b (cond d (sought raised) raised) view ≡ with_part view (cond b (cond d (seek acting holder (in_mask later holder) later) later) view.control) (cond b (queue_of holder later view.orders.ready) view.orders.ready)
+    at : (b d : Bool) → cond b (cond d (sought raised) raised) view ≡ with_part view
+        (cond b (cond d (seek acting holder (in_mask later holder) later) later) view.control)
+        (cond b (queue_of holder later view.orders.ready) view.orders.ready)
     at true true = refl
     at true false = refl
     at false d = refl
 
-after_disinherit_part : (acting task priority : ℕ) (view : View) → NoneWaits view.orders → after_disinherit list_queues acting task priority view ≡ with_part view (after_disinherit_cores acting task priority (cores_of view)).control (after_disinherit_cores acting task priority (cores_of view)).ready
+after_disinherit_part : (acting task priority : ℕ) (view : View) → NoneWaits view.orders → after_disinherit list_queues acting task priority view ≡ with_part
+    view (after_disinherit_cores acting task priority (cores_of view)).control (after_disinherit_cores acting task priority (cores_of view)).ready
 unfolding after_disinherit
 after_disinherit_part acting task priority view apart =
     ap (λ (later : View). cond stays view (record later { control = ask_its_core acting task later.control })) (in_use_part task priority view apart) ∙ at stays
@@ -255,14 +290,17 @@ after_disinherit_part acting task priority view apart =
     queue : List ℕ
     queue = queue_of task later view.orders.ready
 
-    at : (b : Bool) → cond b view (with_part view (ask_its_core acting task later) queue) ≡ with_part view (cond (not b) (ask_its_core acting task later) view.control) (cond (not b) queue view.orders.ready)
+    at : (b : Bool) → cond b view (with_part view (ask_its_core acting task later) queue) ≡ with_part view
+        (cond (not b) (ask_its_core acting task later) view.control) (cond (not b) queue view.orders.ready)
     at true = refl
     at false = refl
 
-inherited_cores : (acting holder priority : ℕ) (cores : CoresView) → cores_rule (inherited list_queues acting holder priority) cores ≡ raised_cores acting holder priority cores
+inherited_cores : (acting holder priority : ℕ) (cores : CoresView) → cores_rule (inherited list_queues acting holder priority) cores ≡ raised_cores acting
+    holder priority cores
 inherited_cores acting holder priority cores = ap cores_of (inherited_part acting holder priority (bare_view cores) (none_waits_alone cores))
 
-given_back_cores : (acting task priority : ℕ) (cores : CoresView) → cores_rule (after_disinherit list_queues acting task priority) cores ≡ after_disinherit_cores acting task priority cores
+given_back_cores : (acting task priority : ℕ) (cores : CoresView) → cores_rule (after_disinherit list_queues acting task priority) cores ≡
+    after_disinherit_cores acting task priority cores
 given_back_cores acting task priority cores = ap cores_of (after_disinherit_part acting task priority (bare_view cores) (none_waits_alone cores))
 
 -- the core of a task is asked, and no number of cores and tasks changes
@@ -278,7 +316,8 @@ its_core_sizes acting task control = at (runs_on control task)
     at None = record { cores = refl; tasks = refl }
     at (Some core) = record { cores = length-set control.cores core _; tasks = refl }
 
-pub ask_its_core_shape : (parts : Parts) → IsKernelShape parts → (acting task : ℕ) → IsKernelShape (with_cores parts (record parts.cores { control = ask_its_core acting task parts.cores.control }))
+pub ask_its_core_shape : (parts : Parts) → IsKernelShape parts → (acting task : ℕ) → IsKernelShape
+    (with_cores parts (record parts.cores { control = ask_its_core acting task parts.cores.control }))
 ask_its_core_shape parts shape acting task =
     let sizes = its_core_sizes acting task parts.cores.control in
     let kept : IsKept parts.cores (record parts.cores { control = ask_its_core acting task parts.cores.control }) = record {
@@ -296,7 +335,9 @@ sought_sizes acting holder ready control = at (has holder ready)
     at true = let more = seek_more acting holder (in_mask control holder) control in record { cores = more.cores; tasks = ap length more.tasks }
     at false = record { cores = refl; tasks = refl }
 
-changed_shape : (parts : Parts) (changes : Bool) (task priority : ℕ) (asked : Control) → IsKernelShape parts → HasSameSizes (with_in_use task priority parts.cores.control) asked → IsKernelShape (with_cores parts (changed_part changes task (with_in_use task priority parts.cores.control) asked parts.cores))
+changed_shape : (parts : Parts) (changes : Bool) (task priority : ℕ) (asked : Control) → IsKernelShape parts → HasSameSizes
+    (with_in_use task priority parts.cores.control) asked → IsKernelShape
+    (with_cores parts (changed_part changes task (with_in_use task priority parts.cores.control) asked parts.cores))
 changed_shape parts true task priority asked shape same =
     let later = with_in_use task priority parts.cores.control in
     let kept : IsKept parts.cores (changed_part true task later asked parts.cores) = record {
@@ -309,21 +350,27 @@ changed_shape parts true task priority asked shape same =
 changed_shape parts false task priority asked shape same = shape
 
 module _ (parts : Parts) (shape : IsKernelShape parts) where
-  pub inherit_seen : (acting holder priority : ℕ) → kernel_view (with_cores parts (cores_rule (inherited list_queues acting holder priority) parts.cores)) ≡ inherited list_queues acting holder priority (kernel_view parts)
+  pub inherit_seen : (acting holder priority : ℕ) → kernel_view (with_cores parts (cores_rule (inherited list_queues acting holder priority) parts.cores)) ≡
+      inherited list_queues acting holder priority (kernel_view parts)
   inherit_seen acting holder priority =
-      ap (λ cores. kernel_view (with_cores parts cores)) (inherited_cores acting holder priority parts.cores) ∙ sym (inherited_part acting holder priority (kernel_view parts) (none_waits parts shape))
+      ap (λ cores. kernel_view (with_cores parts cores)) (inherited_cores acting holder priority parts.cores) ∙ sym
+      (inherited_part acting holder priority (kernel_view parts) (none_waits parts shape))
 
   pub inherit_shape : (acting holder priority : ℕ) → IsKernelShape (with_cores parts (cores_rule (inherited list_queues acting holder priority) parts.cores))
   inherit_shape acting holder priority =
-      rw (inherited_cores acting holder priority parts.cores) (changed_shape parts _ holder priority _ shape (sought_sizes acting holder parts.cores.ready (with_in_use holder priority parts.cores.control)))
+      rw (inherited_cores acting holder priority parts.cores) (changed_shape parts _ holder priority _ shape
+      (sought_sizes acting holder parts.cores.ready (with_in_use holder priority parts.cores.control)))
 
-  pub lower_seen : (acting task priority : ℕ) → kernel_view (with_cores parts (cores_rule (after_disinherit list_queues acting task priority) parts.cores)) ≡ after_disinherit list_queues acting task priority (kernel_view parts)
+  pub lower_seen : (acting task priority : ℕ) → kernel_view (with_cores parts (cores_rule (after_disinherit list_queues acting task priority) parts.cores)) ≡
+      after_disinherit list_queues acting task priority (kernel_view parts)
   lower_seen acting task priority =
-      ap (λ cores. kernel_view (with_cores parts cores)) (given_back_cores acting task priority parts.cores) ∙ sym (after_disinherit_part acting task priority (kernel_view parts) (none_waits parts shape))
+      ap (λ cores. kernel_view (with_cores parts cores)) (given_back_cores acting task priority parts.cores) ∙ sym
+      (after_disinherit_part acting task priority (kernel_view parts) (none_waits parts shape))
 
   pub lower_shape : (acting task priority : ℕ) → IsKernelShape (with_cores parts (cores_rule (after_disinherit list_queues acting task priority) parts.cores))
   lower_shape acting task priority =
-      rw (given_back_cores acting task priority parts.cores) (changed_shape parts _ task priority _ shape (its_core_sizes acting task (with_in_use task priority parts.cores.control)))
+      rw (given_back_cores acting task priority parts.cores) (changed_shape parts _ task priority _ shape
+      (its_core_sizes acting task (with_in_use task priority parts.cores.control)))
 
 -- the end of time slices
 slice_kept : (cores : CoresView) → IsKept cores (cores_rule (sliced list_queues) cores)
@@ -333,13 +380,16 @@ slice_kept cores = at cores.slicing
     more : IsAskedMore cores.control (ask_each 0 (shares_its_time list_queues (bare_view cores)) cores.control)
     more = each_more 0 (shares_its_time list_queues (bare_view cores)) cores.control
 
-    at : (b : Bool) → IsKept cores (cores_of (cond b (record (bare_view cores) { control = ask_each 0 (shares_its_time list_queues (bare_view cores)) cores.control }) (bare_view cores)))
+    at : (b : Bool) → IsKept cores (cores_of (cond b
+        (record (bare_view cores) { control = ask_each 0 (shares_its_time list_queues (bare_view cores)) cores.control }) (bare_view cores)))
     at true = record { priorities = refl; slicing = refl; cores = more.cores; controls = ap length more.tasks }
     at false = record { priorities = refl; slicing = refl; cores = refl; controls = refl }
 
 slice_ready : (cores : CoresView) → (cores_rule (sliced list_queues) cores).ready ≡ cores.ready
 unfolding sliced
-slice_ready cores = elim cores.slicing as (λ b. (cores_of (cond b (record (bare_view cores) { control = ask_each 0 (shares_its_time list_queues (bare_view cores)) cores.control }) (bare_view cores))).ready ≡ cores.ready) [ true ↦ refl | false ↦ refl ]
+slice_ready cores = elim cores.slicing as (λ b.
+    (cores_of (cond b (record (bare_view cores) { control = ask_each 0 (shares_its_time list_queues (bare_view cores)) cores.control })
+    (bare_view cores))).ready ≡ cores.ready) [ true ↦ refl | false ↦ refl ]
 
 module _ (parts : Parts) (shape : IsKernelShape parts) where
   pub slice_seen : kernel_view (with_cores parts (cores_rule (sliced list_queues) parts.cores)) ≡ sliced list_queues (kernel_view parts)
@@ -352,7 +402,9 @@ module _ (parts : Parts) (shape : IsKernelShape parts) where
       alone_cores : View
       alone_cores = bare_view parts.cores
 
-      at : (b d : Bool) → b ≡ d → kernel_view (with_cores parts (cores_of (cond b (record alone_cores { control = ask_each 0 (shares_its_time list_queues alone_cores) parts.cores.control }) alone_cores))) ≡ cond d (record whole { control = ask_each 0 (shares_its_time list_queues whole) parts.cores.control }) whole
+      at : (b d : Bool) → b ≡ d → kernel_view (with_cores parts
+          (cores_of (cond b (record alone_cores { control = ask_each 0 (shares_its_time list_queues alone_cores) parts.cores.control }) alone_cores))) ≡ cond d
+          (record whole { control = ask_each 0 (shares_its_time list_queues whole) parts.cores.control }) whole
       at true true is = refl
       at false false is = refl
       at true false is = absurd (cc (is))
@@ -373,8 +425,9 @@ pub notify_settings : (acting : ℕ) (note : Note) (view : View) → (notify lis
 unfolding notify wake
 notify_settings acting note view =
     let slot = slot_of view.settings note.task note.index in
-    let told = record view { notes = slice_set view.notes slot (notified note.action (note_at view.notes slot)) } in
-    elim (is_waiting (note_at view.notes slot).state) as (λ b. (cond b (wake list_queues acting note.task told) told).settings ≡ view.settings) [ true ↦ refl | false ↦ refl ]
+    let known = record view { notes = slice_set view.notes slot (notified note.action (note_at view.notes slot)) } in
+    elim (is_waiting (note_at view.notes slot).state) as (λ b. (cond b (wake list_queues acting note.task known) known).settings ≡ view.settings)
+    [ true ↦ refl | false ↦ refl ]
 
 pub woken_settings : (tasks : List ℕ) (view : View) → (woken list_queues tasks view).settings ≡ view.settings
 unfolding wake
@@ -383,4 +436,6 @@ woken_settings (task ∷ tasks) view = woken_settings tasks (wake list_queues 0 
 
 pub sliced_settings : (view : View) → (sliced list_queues view).settings ≡ view.settings
 unfolding sliced
-sliced_settings view = elim view.settings.slicing as (λ b. (cond b (record view { control = ask_each 0 (shares_its_time list_queues view) view.control }) view).settings ≡ view.settings) [ true ↦ refl | false ↦ refl ]
+sliced_settings view = elim view.settings.slicing as (λ b.
+    (cond b (record view { control = ask_each 0 (shares_its_time list_queues view) view.control }) view).settings ≡ view.settings)
+    [ true ↦ refl | false ↦ refl ]

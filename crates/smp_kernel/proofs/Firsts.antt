@@ -27,7 +27,8 @@ in_turn view cores = fold (λ kernel core. after_switch list_queues core kernel)
 
 pub in_turn_more : (view : View) (core : ℕ) → in_turn view (core + 1) ≡ after_switch list_queues core (in_turn view core)
 unfolding in_turn
-in_turn_more view core = ap (fold (λ kernel core. after_switch list_queues core kernel) view) (numbers_more core) ∙ fold-append (λ kernel core. after_switch list_queues core kernel) view (numbers core) (core ∷ [])
+in_turn_more view core = ap (fold (λ kernel core. after_switch list_queues core kernel) view) (numbers_more core) ∙ fold-append
+    (λ kernel core. after_switch list_queues core kernel) view (numbers core) (core ∷ [])
 
 pub in_turn_none : (view : View) → in_turn view 0 ≡ view
 unfolding in_turn

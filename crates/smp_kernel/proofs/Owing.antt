@@ -21,19 +21,26 @@ abbrev pub after_disinherit_where : Bool → ℕ → ℕ → ℕ → CoresView �
 after_disinherit_where gives acting task priority cores = cond gives (cores_rule (after_disinherit list_queues acting task priority) cores) cores
 
 module _ (parts : Parts) (shape : IsKernelShape parts) where
-  pub lower_where_seen : (gives : Bool) (acting task priority : ℕ) → kernel_view (with_cores parts (after_disinherit_where gives acting task priority parts.cores)) ≡ cond gives (after_disinherit list_queues acting task priority (kernel_view parts)) (kernel_view parts)
+  pub lower_where_seen : (gives : Bool) (acting task priority : ℕ) → kernel_view
+      (with_cores parts (after_disinherit_where gives acting task priority parts.cores)) ≡ cond gives
+      (after_disinherit list_queues acting task priority (kernel_view parts)) (kernel_view parts)
   lower_where_seen true acting task priority = lower_seen parts shape acting task priority
   lower_where_seen false acting task priority = refl
 
-  pub lower_where_shape : (gives : Bool) (acting task priority : ℕ) → IsKernelShape (with_cores parts (after_disinherit_where gives acting task priority parts.cores))
+  pub lower_where_shape : (gives : Bool) (acting task priority : ℕ) → IsKernelShape
+      (with_cores parts (after_disinherit_where gives acting task priority parts.cores))
   lower_where_shape true acting task priority = lower_shape parts shape acting task priority
   lower_where_shape false acting task priority = shape
 
   -- a wait with a mark ends without the mutex
-  pub timed_out_seen : (core task mutex holder : ℕ) → kernel_view (with_cores parts (after_disinherit_where (not (eqb holder task) && eqb (held_by parts.mutexes.holders holder) 1) core holder (disinherit_priority (first_of mutex parts.mutexes.waiters) (task_at parts.cores.control holder).base) parts.cores)) ≡ timed_out list_queues core task mutex true holder (kernel_view parts)
+  pub timed_out_seen : (core task mutex holder : ℕ) → kernel_view (with_cores parts
+      (after_disinherit_where (not (eqb holder task) && eqb (held_by parts.mutexes.holders holder) 1) core holder
+      (disinherit_priority (first_of mutex parts.mutexes.waiters) (task_at parts.cores.control holder).base) parts.cores)) ≡ timed_out list_queues core task
+      mutex true holder (kernel_view parts)
   unfolding timed_out first_waiter
   timed_out_seen core task mutex holder =
-      lower_where_seen (not (eqb holder task) && eqb (held_by parts.mutexes.holders holder) 1) core holder (disinherit_priority (first_of mutex parts.mutexes.waiters) (task_at parts.cores.control holder).base)
+      lower_where_seen (not (eqb holder task) && eqb (held_by parts.mutexes.holders holder) 1) core holder
+      (disinherit_priority (first_of mutex parts.mutexes.waiters) (task_at parts.cores.control holder).base)
 
 module _ (parts : Parts) (shape : IsKernelShape parts) where
   -- no task holds the mutex
@@ -41,15 +48,18 @@ module _ (parts : Parts) (shape : IsKernelShape parts) where
   freed mutex = record parts { mutexes = record parts.mutexes { holders = slice_set parts.mutexes.holders mutex None } }
 
   freed_shape : (mutex : ℕ) → IsKernelShape (freed mutex)
-  freed_shape mutex = reshaped parts _ refl (ap (λ a. record (sizes_of parts) { holders = a }) (length-set parts.mutexes.holders mutex None)) shape.undelayed shape.unqueued shape
+  freed_shape mutex = reshaped parts _ refl (ap (λ a. record (sizes_of parts) { holders = a }) (length-set parts.mutexes.holders mutex None)) shape.undelayed
+      shape.unqueued shape
 
   abbrev holds_none : ℕ → ℕ → Bool
   holds_none task mutex = eqb (held_by (slice_set parts.mutexes.holders mutex None) task) 0
 
   abbrev pub given_parts : ℕ → ℕ → ℕ → Parts
-  given_parts core task mutex = with_cores (freed mutex) (after_disinherit_where (holds_none task mutex) core task (task_at parts.cores.control task).base parts.cores)
+  given_parts core task mutex = with_cores (freed mutex) (after_disinherit_where (holds_none task mutex) core task (task_at parts.cores.control task).base
+      parts.cores)
 
-  pub give_seen : (core task mutex : ℕ) → kernel_view (given_parts core task mutex) ≡ disinherited list_queues core task (record (kernel_view parts) { holders = slice_set parts.mutexes.holders mutex None })
+  pub give_seen : (core task mutex : ℕ) → kernel_view (given_parts core task mutex) ≡ disinherited list_queues core task
+      (record (kernel_view parts) { holders = slice_set parts.mutexes.holders mutex None })
   unfolding disinherited
   give_seen core task mutex = lower_where_seen (freed mutex) (freed_shape mutex) (holds_none task mutex) core task (task_at parts.cores.control task).base
 
@@ -57,32 +67,43 @@ module _ (parts : Parts) (shape : IsKernelShape parts) where
   give_shape core task mutex = lower_where_shape (freed mutex) (freed_shape mutex) (holds_none task mutex) core task (task_at parts.cores.control task).base
 
 -- the first waiter is woken
-abbrev told : Reply → View → Reply × View
-told reply view = (reply, view)
+abbrev known : Reply → View → Reply × View
+known reply view = (reply, view)
 
-woken_first : (core mutex : ℕ) (view : View) (waiter : ℕ) → Some waiter ≡ option_map (λ (waiter : Waiter). waiter.task) (first_of mutex view.orders.waiters) → wake list_queues core waiter view ≡ first_woken list_queues core mutex view
+woken_first : (core mutex : ℕ) (view : View) (waiter : ℕ) → Some waiter ≡ option_map (λ (waiter : Waiter). waiter.task) (first_of mutex view.orders.waiters) →
+    wake list_queues core waiter view ≡ first_woken list_queues core mutex view
 unfolding first_woken first_waiter
 woken_first core mutex view waiter is = at (first_of mutex view.orders.waiters) is
   where
-    at : (first : Option Waiter) → Some waiter ≡ option_map (λ (waiter : Waiter). waiter.task) first → wake list_queues core waiter view ≡ option_map_or (λ (waiter : Waiter). wake list_queues core waiter.task view) first view
+    at : (first : Option Waiter) → Some waiter ≡ option_map (λ (waiter : Waiter). waiter.task) first → wake list_queues core waiter view ≡ option_map_or
+        (λ (waiter : Waiter). wake list_queues core waiter.task view) first view
     at None is = absurd (cc (is))
     at (Some first) is = let same : waiter ≡ first.task = cc (is) in ap (λ task. wake list_queues core task view) same
 
-woken_none : (core mutex : ℕ) (view : View) → None ≡ option_map (λ (waiter : Waiter). waiter.task) (first_of mutex view.orders.waiters) → view ≡ first_woken list_queues core mutex view
+woken_none : (core mutex : ℕ) (view : View) → None ≡ option_map (λ (waiter : Waiter). waiter.task) (first_of mutex view.orders.waiters) → view ≡ first_woken
+    list_queues core mutex view
 unfolding first_woken first_waiter
 woken_none core mutex view is = at (first_of mutex view.orders.waiters) is
   where
-    at : (first : Option Waiter) → None ≡ option_map (λ (waiter : Waiter). waiter.task) first → view ≡ option_map_or (λ (waiter : Waiter). wake list_queues core waiter.task view) first view
+    at : (first : Option Waiter) → None ≡ option_map (λ (waiter : Waiter). waiter.task) first → view ≡ option_map_or
+        (λ (waiter : Waiter). wake list_queues core waiter.task view) first view
     at None is = refl
     at (Some first) is = absurd (cc (is))
 
-given : (core task mutex : ℕ) (view : View) (holder : ℕ) → holder_at view.holders mutex ≡ Some holder → told (Flag true) (first_woken list_queues core mutex (disinherited list_queues core task (record view { holders = slice_set view.holders mutex None }))) ≡ mutex_give list_queues core task mutex view
+given : (core task mutex : ℕ) (view : View) (holder : ℕ) → holder_at view.holders mutex ≡ Some holder → known (Flag true)
+    (first_woken list_queues core mutex (disinherited list_queues core task (record view { holders = slice_set view.holders mutex None }))) ≡ mutex_give
+    list_queues core task mutex view
 unfolding mutex_give
 given core task mutex view holder held = rw held refl
 
-module _ (core task mutex : ℕ) (view later : View) (holder : ℕ) (held : holder_at view.holders mutex ≡ Some holder) (gave : later ≡ disinherited list_queues core task (record view { holders = slice_set view.holders mutex None })) where
-  pub gave_to : (waiter : ℕ) → Some waiter ≡ option_map (λ (waiter : Waiter). waiter.task) (first_of mutex later.orders.waiters) → told (Flag true) (wake list_queues core waiter later) ≡ mutex_give list_queues core task mutex view
-  gave_to waiter is = ap (told (Flag true)) (woken_first core mutex later waiter is ∙ ap (first_woken list_queues core mutex) gave) ∙ given core task mutex view holder held
+module _ (core task mutex : ℕ) (view later : View) (holder : ℕ) (held : holder_at view.holders mutex ≡ Some holder)
+    (gave : later ≡ disinherited list_queues core task (record view { holders = slice_set view.holders mutex None })) where
+  pub gave_to : (waiter : ℕ) → Some waiter ≡ option_map (λ (waiter : Waiter). waiter.task) (first_of mutex later.orders.waiters) → known (Flag true)
+      (wake list_queues core waiter later) ≡ mutex_give list_queues core task mutex view
+  gave_to waiter is = ap (known (Flag true)) (woken_first core mutex later waiter is ∙ ap (first_woken list_queues core mutex) gave) ∙ given core task mutex
+      view holder held
 
-  pub gave_to_none : None ≡ option_map (λ (waiter : Waiter). waiter.task) (first_of mutex later.orders.waiters) → told (Flag true) later ≡ mutex_give list_queues core task mutex view
-  gave_to_none is = ap (told (Flag true)) (woken_none core mutex later is ∙ ap (first_woken list_queues core mutex) gave) ∙ given core task mutex view holder held
+  pub gave_to_none : None ≡ option_map (λ (waiter : Waiter). waiter.task) (first_of mutex later.orders.waiters) → known (Flag true) later ≡ mutex_give
+      list_queues core task mutex view
+  gave_to_none is = ap (known (Flag true)) (woken_none core mutex later is ∙ ap (first_woken list_queues core mutex) gave) ∙ given core task mutex view holder
+      held

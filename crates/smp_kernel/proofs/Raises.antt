@@ -14,16 +14,21 @@ use Rattle.bench_types.specs.declared.step.Step.{Step}
 use Rattle.bench_types.specs.declared.step.Step.TheVariants.{Tick, Switch, Interrupt}
 use Rattle.bench_types.specs.declared.step.Step.TheVariants as steps
 use Rattle.bench_types.specs.declared.step.Call.{Call}
-use Rattle.bench_types.specs.declared.step.Call.TheVariants.{Yield, Delay, DelayUntil, Finish, PrioritySet, AffinitySet, PreemptOff, PreemptOn, Notify, NotifyWait, NotifyTake, StateClear, ValueClear, MutexTake, MutexGive, HoldOpen, HoldClose}
+use Rattle.bench_types.specs.declared.step.Call.TheVariants.{Yield, Delay, DelayUntil, Finish, PrioritySet, AffinitySet, PreemptOff, PreemptOn, Notify}
+use Rattle.bench_types.specs.declared.step.Call.TheVariants.{NotifyWait, NotifyTake, StateClear, ValueClear, MutexTake, MutexGive, HoldOpen, HoldClose}
+use Rattle.bench_types.specs.declared.step.BlockingCall.{BlockingCall}
+use Rattle.bench_types.specs.declared.step.BlockingCall.TheVariants as blocking
 use Rattle.bench_types.specs.declared.step.Unfinished.{Unfinished}
 use Rattle.bench_types.specs.declared.step.Unfinished.TheVariants.{Made, Take}
 use Rattle.bench_model.specs.Control.{Control, current, task_at, in_mask, ask_each, ask_its_core}
 use Rattle.bench_model.specs.ControlFields.{with_base, with_affinity, with_preemption, in_use_set}
 use Rattle.bench_model.specs.Holds.{hold_opened, hold_closed}
-use Rattle.bench_model.specs.Mutexes.{held_by, taken, inherited, waited_at, mutex_take, owed, after_disinherit, timed_out, take_finished, disinherited, first_woken, mutex_give}
-use Rattle.bench_model.specs.Notes.{note_at, is_waiting, notified, wait_begun, take_begun, of_slot, slot_of}
+use Rattle.bench_model.specs.Mutexes.{held_by, taken, inherited, waited_at, take_from, mutex_take, owed, after_disinherit, timed_out, finish_from}
+use Rattle.bench_model.specs.Mutexes.{take_finished, disinherited, first_woken, give_from, mutex_give}
+use Rattle.bench_model.specs.Notes.{note_at, is_waiting, notified, wait_entered, take_entered, of_slot, slot_of}
 use Rattle.bench_model.specs.Notifying.{timeout_of, notify, interrupted, state_forgotten, bits_cleared, completed, awaited}
-use Rattle.bench_model.specs.PriorityAffinity.{capped, in_use_after, yields_after_priority_set, yields_after_affinity_set, priority_set, affinity_set, preemption_off, preemption_on}
+use Rattle.bench_model.specs.PriorityAffinity.{capped, in_use_after, yields_after_priority_set, yields_after_affinity_set, priority_set, affinity_set}
+use Rattle.bench_model.specs.PriorityAffinity.{preemption_off, preemption_on}
 use Rattle.bench_model.specs.Refusals.{refusal}
 use Rattle.bench_model.specs.Seek.{seek, may_move, wake, after_eviction, after_switch, shares_its_time, sliced}
 use Rattle.bench_model.specs.State.{State, QueueOps, call_at, holder_at, after_select, after_return, yielded, blocked}
@@ -58,7 +63,8 @@ module _ {Orders : Type 0} (ops : QueueOps Orders) where
   -- waking, switching and slicing
   wake_kept : (acting task : ℕ) (state : State Orders) → KeepsAll state.control (wake ops acting task state).control
   unfolding wake
-  wake_kept acting task state = same_tasks state.control (seek acting task (in_mask state.control task) state.control) (seek_more acting task (in_mask state.control task) state.control).tasks
+  wake_kept acting task state = same_tasks state.control (seek acting task (in_mask state.control task) state.control)
+      (seek_more acting task (in_mask state.control task) state.control).tasks
 
   woken_kept : (tasks : List ℕ) (state : State Orders) → KeepsAll state.control (woken ops tasks state).control
   woken_kept [] state task = refl
@@ -100,18 +106,19 @@ module _ {Orders : Type 0} (ops : QueueOps Orders) where
       slot : ℕ
       slot = slot_of state.settings note.task note.index
 
-      told : State Orders
-      told = record state { notes = slice_set state.notes slot (notified note.action (note_at state.notes slot)) }
+      known : State Orders
+      known = record state { notes = slice_set state.notes slot (notified note.action (note_at state.notes slot)) }
 
-      at : (b : Bool) → KeepsAll state.control (cond b (wake ops acting note.task told) told).control
-      at true = wake_kept acting note.task told
+      at : (b : Bool) → KeepsAll state.control (cond b (wake ops acting note.task known) known).control
+      at true = wake_kept acting note.task known
       at false = λ task. refl
 
   -- calls that set something
   in_use_others : (task priority : ℕ) (state : State Orders) → KeepsOthers (Some task) state.control (in_use_set ops task priority state).control
   unfolding in_use_set
   in_use_others task priority state other away =
-      ap (λ (t : TaskControl). t.in_use) (block_other state.control task (record (task_at state.control task) { in_use = priority }) other (λ same. away (ap Some (sym same))))
+      ap (λ (t : TaskControl). t.in_use) (block_other state.control task (record (task_at state.control task) { in_use = priority }) other
+      (λ same. away (ap Some (sym same))))
 
   priority_others : (core task priority : ℕ) (state : State Orders) → KeepsOthers (Some task) state.control (priority_set ops core task priority state).control
   unfolding priority_set
@@ -132,12 +139,15 @@ module _ {Orders : Type 0} (ops : QueueOps Orders) where
       later : State Orders
       later = in_use_set ops task (in_use_after block new) based
 
-      at : (b : Bool) → KeepsOthers (Some task) state.control (cond b state (record later { control = yields_after_priority_set core task block.base new ready later.control })).control
+      at : (b : Bool) → KeepsOthers (Some task) state.control (cond b state
+          (record later { control = yields_after_priority_set core task block.base new ready later.control })).control
       at true = λ other away. refl
       at false =
           kept_then (Some task) state.control later.control (yields_after_priority_set core task block.base new ready later.control)
-          (then_kept (Some task) state.control based.control later.control (in_use_kept state.control task (record block { base = new }) refl) (in_use_others task (in_use_after block new) based))
-          (same_tasks later.control (yields_after_priority_set core task block.base new ready later.control) (after_priority_set_more core task block.base new ready later.control).tasks)
+          (then_kept (Some task) state.control based.control later.control (in_use_kept state.control task (record block { base = new }) refl)
+          (in_use_others task (in_use_after block new) based))
+          (same_tasks later.control (yields_after_priority_set core task block.base new ready later.control)
+          (after_priority_set_more core task block.base new ready later.control).tasks)
 
   affinity_kept : (core task mask : ℕ) (state : State Orders) → KeepsAll state.control (affinity_set ops core task mask state).control
   unfolding affinity_set
@@ -155,20 +165,23 @@ module _ {Orders : Type 0} (ops : QueueOps Orders) where
   unfolding preemption_on
   on_kept core task state other =
       let set = with_preemption task true state.control in
-      same_tasks set (ask_its_core core task set) (its_core_more core task set).tasks other ∙ in_use_kept state.control task (record (task_at state.control task) { preempt = true }) refl other
+      same_tasks set (ask_its_core core task set) (its_core_more core task set).tasks other ∙ in_use_kept state.control task
+      (record (task_at state.control task) { preempt = true }) refl other
 
   -- calls that wait
-  completed_kept : (task : ℕ) (call : Call) (state : State Orders) → KeepsAll state.control (completed task call state).1.control
+  completed_kept : (task : ℕ) (call : BlockingCall) (state : State Orders) → KeepsAll state.control (completed task call state).1.control
   completed_kept task call state other = ap (λ (s : State Orders). (task_at s.control other).in_use) (completed_notes task call state).1
 
-  awaited_kept : (core task : ℕ) (call : Call) (ticks : ℕ) (begun : Bool × List Notification) (state : State Orders) → KeepsAll state.control (awaited ops core task call ticks begun state).1.control
+  awaited_kept : (core task : ℕ) (call : BlockingCall) (ticks : ℕ) (entered : Bool × List Notification) (state : State Orders) → KeepsAll state.control
+      (awaited ops core task call ticks entered state).1.control
   unfolding awaited blocked
-  awaited_kept core task call ticks begun state = at (begun.0 && ltb 0 ticks)
+  awaited_kept core task call ticks entered state = at (entered.0 && ltb 0 ticks)
     where
       waiting : State Orders
-      waiting = record state { notes = begun.1 }
+      waiting = record state { notes = entered.1 }
 
-      at : (b : Bool) → KeepsAll state.control (cond b (outcome Blocked (blocked ops core task (Made call) (timeout_of ticks) None waiting)) (completed task call waiting)).1.control
+      at : (b : Bool) → KeepsAll state.control (cond b (outcome Blocked (blocked ops core task (Made call) (timeout_of ticks) None waiting))
+          (completed task call waiting)).1.control
       at true = λ other. refl
       at false = completed_kept task call waiting
 
@@ -176,7 +189,10 @@ module _ {Orders : Type 0} (ops : QueueOps Orders) where
   unfolding delayed_until yielded blocked
   until_kept core task prev inc state = at (is_ahead (ops.tick_count state.orders) prev (next_wake prev inc))
     where
-      at : (b : Bool) → KeepsAll state.control (cond b (outcome (Until true (next_wake prev inc)) (blocked ops core task (Made (DelayUntil prev inc)) (Some (ticks_to (ops.tick_count state.orders) (next_wake prev inc))) None state)) (outcome (Until false (next_wake prev inc)) (yielded ops core state))).1.control
+      at : (b : Bool) → KeepsAll state.control (cond b
+          (outcome (Until true (next_wake prev inc)) (blocked ops core task (Made (blocking.DelayUntil prev inc))
+          (Some (ticks_to (ops.tick_count state.orders) (next_wake prev inc))) None state))
+          (outcome (Until false (next_wake prev inc)) (yielded ops core state))).1.control
       at true = λ other. refl
       at false = λ other. refl
 
@@ -184,12 +200,14 @@ module _ {Orders : Type 0} (ops : QueueOps Orders) where
   unfolding called yielded blocked
   delay_kept core task ticks state = at (eqb ticks 0)
     where
-      at : (b : Bool) → KeepsAll state.control (cond b (outcome Done (yielded ops core state)) (outcome Blocked (blocked ops core task (Made (Delay ticks)) (Some ticks) None state))).1.control
+      at : (b : Bool) → KeepsAll state.control (cond b (outcome Done (yielded ops core state))
+          (outcome Blocked (blocked ops core task (Made (blocking.Delay ticks)) (Some ticks) None state))).1.control
       at true = λ other. refl
       at false = λ other. refl
 
   -- mutexes
-  inherited_others : (core holder priority : ℕ) (state : State Orders) → KeepsOthers (Some holder) state.control (inherited ops core holder priority state).control
+  inherited_others : (core holder priority : ℕ) (state : State Orders) → KeepsOthers (Some holder) state.control
+      (inherited ops core holder priority state).control
   unfolding inherited
   inherited_others core holder priority state = at (ltb (task_at state.control holder).in_use priority) (ops.is_ready holder state.orders)
     where
@@ -206,20 +224,27 @@ module _ {Orders : Type 0} (ops : QueueOps Orders) where
       at true false = in_use_others holder priority state
       at false d = λ other away. refl
 
-  waited_others : (core task mutex holder : ℕ) (ticks : Option ℕ) (state : State Orders) → KeepsOthers (Some holder) state.control (waited_at ops core task mutex holder ticks state).control
+  waited_others : (core task mutex holder : ℕ) (ticks : Option ℕ) (state : State Orders) → KeepsOthers (Some holder) state.control
+      (waited_at ops core task mutex holder ticks state).control
   unfolding waited_at blocked
   waited_others core task mutex holder ticks state = inherited_others core holder (task_at state.control task).in_use state
 
-  take_others : (core task mutex ticks : ℕ) (state : State Orders) → KeepsOthers (holder_at state.holders mutex) state.control (mutex_take ops core task mutex ticks state).1.control
+  take_others : (core task mutex ticks : ℕ) (state : State Orders) → KeepsOthers (holder_at state.holders mutex) state.control
+      (mutex_take ops core task mutex ticks state).1.control
   unfolding mutex_take taken
-  take_others core task mutex ticks state = at (holder_at state.holders mutex) (eqb ticks 0)
+  take_others core task mutex ticks state = at (holder_at state.holders mutex)
     where
-      at : (holder : Option ℕ) (b : Bool) → KeepsOthers holder state.control (option_map_or (λ holder. cond b (outcome (Flag false) state) (outcome Blocked (waited_at ops core task mutex holder (timeout_of ticks) state))) holder (outcome (Flag true) (taken task mutex state))).1.control
-      at None b = λ other away. refl
-      at (Some holder) true = λ other away. refl
-      at (Some holder) false = waited_others core task mutex holder (timeout_of ticks) state
+      held : (holder : ℕ) (b : Bool) → KeepsOthers (Some holder) state.control
+          (cond b (outcome (Flag false) state) (outcome Blocked (waited_at ops core task mutex holder (timeout_of ticks) state))).1.control
+      held holder true = λ other away. refl
+      held holder false = waited_others core task mutex holder (timeout_of ticks) state
 
-  disinherit_others : (core task priority : ℕ) (state : State Orders) → KeepsOthers (Some task) state.control (after_disinherit ops core task priority state).control
+      at : (holder : Option ℕ) → KeepsOthers holder state.control (take_from ops holder core task mutex ticks state).1.control
+      at None = λ other away. refl
+      at (Some holder) = held holder (eqb ticks 0)
+
+  disinherit_others : (core task priority : ℕ) (state : State Orders) → KeepsOthers (Some task) state.control
+      (after_disinherit ops core task priority state).control
   unfolding after_disinherit
   disinherit_others core task priority state = at (eqb (task_at state.control task).in_use priority)
     where
@@ -232,7 +257,8 @@ module _ {Orders : Type 0} (ops : QueueOps Orders) where
           kept_then (Some task) state.control later.control (ask_its_core core task later.control) (in_use_others task priority state)
           (same_tasks later.control (ask_its_core core task later.control) (its_core_more core task later.control).tasks)
 
-  timed_out_others : (core task mutex : ℕ) (mark : Bool) (holder : ℕ) (state : State Orders) → KeepsOthers (Some holder) state.control (timed_out ops core task mutex mark holder state).control
+  timed_out_others : (core task mutex : ℕ) (mark : Bool) (holder : ℕ) (state : State Orders) → KeepsOthers (Some holder) state.control
+      (timed_out ops core task mutex mark holder state).control
   unfolding timed_out
   timed_out_others core task mutex mark holder state = at (mark && not (eqb holder task) && eqb (held_by state.holders holder) 1)
     where
@@ -240,9 +266,10 @@ module _ {Orders : Type 0} (ops : QueueOps Orders) where
       at true = disinherit_others core holder (owed ops holder mutex state) state
       at false = λ other away. refl
 
-  take_end_others : (core task mutex : ℕ) (mark : Bool) (state : State Orders) → KeepsOthers (holder_at state.holders mutex) state.control (take_finished ops core task mutex mark state).1.control
+  take_end_others : (core task mutex : ℕ) (mark : Bool) (state : State Orders) → KeepsOthers (holder_at state.holders mutex) state.control
+      (take_finished ops core task mutex mark state).1.control
   unfolding take_finished taken
-  take_end_others core task mutex mark state = at (holder_at state.holders mutex) (option_map_or (λ ticks. eqb ticks 0) left false)
+  take_end_others core task mutex mark state = at (holder_at state.holders mutex)
     where
       left : Option ℕ
       left = ops.deadline_left task state.orders
@@ -250,21 +277,30 @@ module _ {Orders : Type 0} (ops : QueueOps Orders) where
       over : State Orders
       over = after_return ops task state
 
-      at : (holder : Option ℕ) (b : Bool) → KeepsOthers holder state.control (option_map_or (λ holder. cond b (outcome (Flag false) (timed_out ops core task mutex mark holder over)) (outcome Blocked (waited_at ops core task mutex holder left state))) holder (outcome (Flag true) (taken task mutex over))).1.control
-      at None b = λ other away. refl
-      at (Some holder) true = timed_out_others core task mutex mark holder over
-      at (Some holder) false = waited_others core task mutex holder left state
+      held : (holder : ℕ) (b : Bool) → KeepsOthers (Some holder) state.control
+          (cond b (outcome (Flag false) (timed_out ops core task mutex mark holder over))
+          (outcome Blocked (waited_at ops core task mutex holder left state))).1.control
+      held holder true = timed_out_others core task mutex mark holder over
+      held holder false = waited_others core task mutex holder left state
 
-  end_others : (core task : ℕ) (call : Unfinished) (state : State Orders) → KeepsOthers (raised_by_end state.holders (Some call)) state.control (after_finish ops core task call state).1.control
+      at : (holder : Option ℕ) → KeepsOthers holder state.control (finish_from ops holder core task mutex mark state).1.control
+      at None = λ other away. refl
+      at (Some holder) = held holder (option_map_or (λ ticks. eqb ticks 0) left false)
+
+  end_others : (core task : ℕ) (call : Unfinished) (state : State Orders) → KeepsOthers (raised_by_end state.holders (Some call)) state.control
+      (after_finish ops core task call state).1.control
   unfolding after_finish
-  end_others core task (Made call) state = all_kept None state.control (completed task call (after_return ops task state)).1.control (completed_kept task call (after_return ops task state))
+  end_others core task (Made call) state = all_kept None state.control (completed task call (after_return ops task state)).1.control
+      (completed_kept task call (after_return ops task state))
   end_others core task (Take mutex mark) state = take_end_others core task mutex mark state
 
-  finish_others : (core task : ℕ) (state : State Orders) → KeepsOthers (raised_by_end state.holders (call_at state.calls task)) state.control (called ops core task Finish state).1.control
+  finish_others : (core task : ℕ) (state : State Orders) → KeepsOthers (raised_by_end state.holders (call_at state.calls task)) state.control
+      (called ops core task Finish state).1.control
   unfolding called
   finish_others core task state = at (call_at state.calls task)
     where
-      at : (call : Option Unfinished) → KeepsOthers (raised_by_end state.holders call) state.control (option_map_or (λ call. after_finish ops core task call state) call (outcome Done state)).1.control
+      at : (call : Option Unfinished) → KeepsOthers (raised_by_end state.holders call) state.control
+          (option_map_or (λ call. after_finish ops core task call state) call (outcome Done state)).1.control
       at None = λ other away. refl
       at (Some call) = end_others core task call state
 
@@ -297,12 +333,14 @@ module _ {Orders : Type 0} (ops : QueueOps Orders) where
       left : State Orders
       left = disinherited ops core task free
 
-      at : (holder : Option ℕ) → KeepsOthers (Some task) state.control (option_map_or (λ holder. outcome (Flag true) (first_woken ops core mutex left)) holder (outcome (Flag false) state)).1.control
+      at : (holder : Option ℕ) → KeepsOthers (Some task) state.control (give_from ops holder core task mutex state).1.control
       at None = λ other away. refl
-      at (Some holder) = kept_then (Some task) state.control left.control (first_woken ops core mutex left).control (disinherited_others core task free) (first_kept core mutex left)
+      at (Some holder) = kept_then (Some task) state.control left.control (first_woken ops core mutex left).control (disinherited_others core task free)
+          (first_kept core mutex left)
 
   -- whole steps
-  called_others : (core task : ℕ) (call : Call) (state : State Orders) → KeepsOthers (raised_by_call state task call) state.control (called ops core task call state).1.control
+  called_others : (core task : ℕ) (call : Call) (state : State Orders) → KeepsOthers (raised_by_call state task call) state.control
+      (called ops core task call state).1.control
   unfolding called yielded state_forgotten bits_cleared hold_opened hold_closed
   called_others core task Yield state = λ other away. refl
   called_others core task (Delay ticks) state = λ other away. delay_kept core task ticks state other
@@ -313,8 +351,10 @@ module _ {Orders : Type 0} (ops : QueueOps Orders) where
   called_others core task (PreemptOff set) state = λ other away. off_kept set state other
   called_others core task (PreemptOn set) state = λ other away. on_kept core set state other
   called_others core task (Notify note) state = λ other away. notify_kept core note state other
-  called_others core task (NotifyWait entry exit ticks index) state = λ other away. awaited_kept core task (NotifyWait entry exit ticks index) ticks (of_slot (slot_of state.settings task index) (wait_begun entry) state.notes) state other
-  called_others core task (NotifyTake clear ticks index) state = λ other away. awaited_kept core task (NotifyTake clear ticks index) ticks (of_slot (slot_of state.settings task index) take_begun state.notes) state other
+  called_others core task (NotifyWait entry exit ticks index) state = λ other away. awaited_kept core task (blocking.NotifyWait entry exit ticks index) ticks
+      (of_slot (slot_of state.settings task index) (wait_entered entry) state.notes) state other
+  called_others core task (NotifyTake clear ticks index) state = λ other away. awaited_kept core task (blocking.NotifyTake clear ticks index) ticks
+      (of_slot (slot_of state.settings task index) take_entered state.notes) state other
   called_others core task (StateClear set index) state = λ other away. refl
   called_others core task (ValueClear set bits index) state = λ other away. refl
   called_others core task (MutexTake mutex ticks) state = take_others core task mutex ticks state
@@ -333,6 +373,7 @@ module _ {Orders : Type 0} (ops : QueueOps Orders) where
   unfolding after
   step_others step state = at (refusal ops step state)
     where
-      at : (why : Option Refusal) → KeepsOthers (raised_by state step) state.control (option_map_or (λ why. outcome (Refused why) state) why (performed ops step state)).1.control
+      at : (why : Option Refusal) → KeepsOthers (raised_by state step) state.control
+          (option_map_or (λ why. outcome (Refused why) state) why (performed ops step state)).1.control
       at None = performed_others step state
       at (Some why) = λ other away. refl

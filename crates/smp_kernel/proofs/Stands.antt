@@ -1,5 +1,6 @@
 -- What a kernel that stands for a sound table keeps, and what it stands for after a step.
-use Rattle.std.proofs.Common.{◌≡◌, ℕ, ◌<◌, ◌%◌, ◌^◌, Bool, true, false, cond, eqb, not, ltb, ◌&&◌, List, [], length, Option, Some, None, Ok, refl, sym, ap, subst, ◌∙◌, arith}
+use Rattle.std.proofs.Common.{◌≡◌, ℕ, ◌<◌, ◌%◌, ◌^◌, Bool, true, false, cond, eqb, not, ltb, ◌&&◌, List, [], length, Option, Some, None, Ok, refl, sym, ap}
+use Rattle.std.proofs.Common.{subst, ◌∙◌, arith}
 use Rattle.std.specs.Prelude.{slice_set}
 use Rattle.std.specs.Option.{option_map_or}
 use Rattle.std.proofs.lemmas.Bool.{true_from_ne_false}
@@ -11,10 +12,13 @@ use Rattle.bench_types.specs.declared.step.Step.{Step}
 use Rattle.bench_types.specs.declared.step.Step.TheVariants.{Tick, Switch, Interrupt}
 use Rattle.bench_types.specs.declared.step.Step.TheVariants as steps
 use Rattle.bench_types.specs.declared.step.Call.{Call}
+use Rattle.bench_types.specs.declared.step.BlockingCall.{BlockingCall}
+use Rattle.bench_types.specs.declared.step.BlockingCall.TheVariants as blocking
 use Rattle.bench_types.specs.declared.step.Unfinished.{Unfinished}
 use Rattle.bench_types.specs.declared.step.Unfinished.TheVariants.{Made, Take}
 use Rattle.bench_types.specs.declared.kernel_data.Waiter.{Waiter}
-use Rattle.bench_types.specs.declared.step.Call.TheVariants.{Yield, Delay, DelayUntil, Finish, PrioritySet, AffinitySet, PreemptOff, PreemptOn, Notify, NotifyWait, NotifyTake, StateClear, ValueClear, MutexTake, MutexGive, HoldOpen, HoldClose}
+use Rattle.bench_types.specs.declared.step.Call.TheVariants.{Yield, Delay, DelayUntil, Finish, PrioritySet, AffinitySet, PreemptOff, PreemptOn, Notify}
+use Rattle.bench_types.specs.declared.step.Call.TheVariants.{NotifyWait, NotifyTake, StateClear, ValueClear, MutexTake, MutexGive, HoldOpen, HoldClose}
 use Rattle.bench_types.specs.Step.{step_check, IsStepOfWords, IsCheckedStep}
 use Rattle.bench_model.specs.declared.row.TaskState.{TaskState}
 use Rattle.bench_model.specs.declared.row.TaskState.TheVariants as standing
@@ -25,9 +29,10 @@ use Rattle.bench_model.specs.Holds.{hold_opened, hold_closed}
 use Rattle.bench_model.specs.Refusals.{refusal}
 use Rattle.bench_model.specs.Until.{next_wake, is_ahead, ticks_to}
 use Rattle.bench_model.specs.Seek.{seek, wake}
-use Rattle.bench_model.specs.Notes.{wait_begun, take_begun, of_slot, slot_of}
+use Rattle.bench_model.specs.Notes.{wait_entered, take_entered, of_slot, slot_of}
 use Rattle.bench_model.specs.Notifying.{interrupted, state_forgotten, bits_cleared, completed, awaited, timeout_of}
-use Rattle.bench_model.specs.Mutexes.{held_by, taken, inherited, waited_at, mutex_take, owed, after_disinherit, timed_out, take_finished, disinherited, first_woken, mutex_give}
+use Rattle.bench_model.specs.Mutexes.{held_by, taken, inherited, waited_at, take_from, mutex_take, owed, after_disinherit, timed_out, finish_from}
+use Rattle.bench_model.specs.Mutexes.{take_finished, disinherited, first_woken, give_from, mutex_give}
 use Rattle.bench_model.specs.ControlFields.{with_base, in_use_set}
 use Rattle.bench_model.specs.PriorityAffinity.{capped, in_use_after, yields_after_priority_set, priority_set, affinity_set, preemption_off, preemption_on}
 use Rattle.bench_model.specs.Looks.{task_look, look_in}
@@ -60,11 +65,14 @@ none_due : (stamps : Stamps) → WakesInTime stamps → due stamps ≡ []
 unfolding due
 none_due stamps in_time =
     by_stamp_none (stamp_of stamps) (λ task. wakes_at stamps.tick (row_at stamps task).standing) (numbers (length stamps.rows)) stamps.next
-    (All-weaker (λ i. i < length stamps.rows) (λ i. wakes_at stamps.tick (row_at stamps i).standing ≡ false) (not_yet stamps in_time) (numbers (length stamps.rows)) (numbers_below (length stamps.rows)))
+    (All-weaker (λ i. i < length stamps.rows) (λ i. wakes_at stamps.tick (row_at stamps i).standing ≡ false) (not_yet stamps in_time)
+    (numbers (length stamps.rows)) (numbers_below (length stamps.rows)))
 
 -- the current task of a core stands in the ready lists where its row is ready
-current_ready_seen : (table : Table) → IsConsistent table → (core : ℕ) → core < length table.control.cores → has (current table.control core) (lists_of table.control table.orders).ready ≡ is_ready (current table.control core) table.orders
-current_ready_seen table kept core place = is_ready_seen table.control table.orders (current table.control core) kept.stamped.given (kept.in_place.is_task core place)
+current_ready_seen : (table : Table) → IsConsistent table → (core : ℕ) → core < length table.control.cores → has (current table.control core)
+    (lists_of table.control table.orders).ready ≡ is_ready (current table.control core) table.orders
+current_ready_seen table kept core place = is_ready_seen table.control table.orders (current table.control core) kept.stamped.given
+    (kept.in_place.is_task core place)
 
 view_settled : (table : Table) → IsSound table → IsSettled (view_of table)
 view_settled table sound = let kept = sound.consistent in record {
@@ -85,24 +93,28 @@ view_settled table sound = let kept = sound.consistent in record {
 pub settled_of : (view : View) → StandsForSome view → IsSettled view
 settled_of view stands = subst IsSettled stands.1.shows (view_settled stands.0 stands.1.sound)
 
-checked_of : (view : View) (table : Table) (step : Step) → StandsFor view table → step_check view.settings step ≡ Ok tt → IsStepOfWords step → IsCheckedStep table.settings step
+checked_of : (view : View) (table : Table) (step : Step) → StandsFor view table → step_check view.settings step ≡ Ok tt → IsStepOfWords step → IsCheckedStep
+    table.settings step
 checked_of view table step stands passes words = record {
   passes = ap (λ (v : View). step_check v.settings step) stands.shows ∙ passes;
   words = words;
 }
 
-after_stands : (view : View) (table : Table) (step : Step) → StandsFor view table → step_check view.settings step ≡ Ok tt → IsStepOfWords step → seen_of (step_of step table) ≡ after list_queues step view
+after_stands : (view : View) (table : Table) (step : Step) → StandsFor view table → step_check view.settings step ≡ Ok tt → IsStepOfWords step → seen_of
+    (step_of step table) ≡ after list_queues step view
 after_stands view table step stands passes words =
     after_seen step table stands.sound (checked_of view table step stands passes words) ∙ ap (after list_queues step) stands.shows
 
 abbrev outcome : Reply → View → Reply × View
 outcome reply view = (reply, view)
 
-pub reply_of : (view later : View) (step : Step) (reply : Reply) → step_check view.settings step ≡ Ok tt → IsStepOfWords step → outcome reply later ≡ after list_queues step view → (table : Table) → StandsFor view table → reply ≡ (step_of step table).0
+pub reply_of : (view later : View) (step : Step) (reply : Reply) → step_check view.settings step ≡ Ok tt → IsStepOfWords step → outcome reply later ≡ after
+    list_queues step view → (table : Table) → StandsFor view table → reply ≡ (step_of step table).0
 reply_of view later step reply passes words made table stands =
     ap (λ (r : Reply × View). r.0) (made ∙ sym (after_stands view table step stands passes words))
 
-pub stands_after : (view later : View) (step : Step) (reply : Reply) → step_check view.settings step ≡ Ok tt → IsStepOfWords step → outcome reply later ≡ after list_queues step view → (table : Table) → StandsFor view table → StandsFor later (step_of step table).1
+pub stands_after : (view later : View) (step : Step) (reply : Reply) → step_check view.settings step ≡ Ok tt → IsStepOfWords step → outcome reply later ≡ after
+    list_queues step view → (table : Table) → StandsFor view table → StandsFor later (step_of step table).1
 stands_after view later step reply passes words made table stands = record {
   sound = after_sound step table stands.sound (checked_of view table step stands passes words);
   shows = ap (λ (r : Reply × View). r.1) (after_stands view table step stands passes words ∙ sym made);
@@ -114,9 +126,11 @@ priority_settings core task priority view =
     let block = task_at view.control task in
     let new = capped view.settings.priorities priority in
     let later = in_use_set list_queues task (in_use_after block new) (record view { control = with_base task new view.control }) in
-    elim (eqb new block.base) as (λ b. (cond b view (record later { control = yields_after_priority_set core task block.base new (has task view.orders.ready) later.control })).settings ≡ view.settings) [ true ↦ refl | false ↦ refl ]
+    elim (eqb new block.base) as (λ b. (cond b view
+    (record later { control = yields_after_priority_set core task block.base new (has task view.orders.ready) later.control })).settings ≡ view.settings)
+    [ true ↦ refl | false ↦ refl ]
 
-completed_settings : (task : ℕ) (call : Call) (view : View) → (completed task call view).1.settings ≡ view.settings
+completed_settings : (task : ℕ) (call : BlockingCall) (view : View) → (completed task call view).1.settings ≡ view.settings
 completed_settings task call view = ap (λ (v : View). v.settings) (completed_notes task call view).1
 
 inherited_settings : (acting holder priority : ℕ) (view : View) → (inherited list_queues acting holder priority view).settings ≡ view.settings
@@ -138,22 +152,29 @@ after_disinherit_settings : (acting task priority : ℕ) (view : View) → (afte
 unfolding after_disinherit in_use_set
 after_disinherit_settings acting task priority view =
     let later = in_use_set list_queues task priority view in
-    elim (eqb (task_at view.control task).in_use priority) as (λ b. (cond b view (record later { control = ask_its_core acting task later.control })).settings ≡ view.settings) [ true ↦ refl | false ↦ refl ]
+    elim (eqb (task_at view.control task).in_use priority) as (λ b. (cond b view (record later { control = ask_its_core acting task later.control })).settings ≡
+    view.settings) [ true ↦ refl | false ↦ refl ]
 
-waited_settings : (core task mutex holder : ℕ) (ticks : Option ℕ) (view : View) → (waited_at list_queues core task mutex holder ticks view).settings ≡ view.settings
+waited_settings : (core task mutex holder : ℕ) (ticks : Option ℕ) (view : View) → (waited_at list_queues core task mutex holder ticks view).settings ≡
+    view.settings
 unfolding waited_at blocked
 waited_settings core task mutex holder ticks view = inherited_settings core holder (task_at view.control task).in_use view
 
 taken_settings : (core task mutex ticks : ℕ) (view : View) → (mutex_take list_queues core task mutex ticks view).1.settings ≡ view.settings
 unfolding mutex_take taken
-taken_settings core task mutex ticks view = at (holder_at view.holders mutex) (eqb ticks 0)
+taken_settings core task mutex ticks view = at (holder_at view.holders mutex)
   where
-    at : (holder : Option ℕ) (b : Bool) → (option_map_or (λ holder. cond b (outcome (Flag false) view) (outcome Blocked (waited_at list_queues core task mutex holder (timeout_of ticks) view))) holder (outcome (Flag true) (taken task mutex view))).1.settings ≡ view.settings
-    at None b = refl
-    at (Some holder) true = refl
-    at (Some holder) false = waited_settings core task mutex holder (timeout_of ticks) view
+    held : (holder : ℕ) (b : Bool) → (cond b (outcome (Flag false) view)
+        (outcome Blocked (waited_at list_queues core task mutex holder (timeout_of ticks) view))).1.settings ≡ view.settings
+    held holder true = refl
+    held holder false = waited_settings core task mutex holder (timeout_of ticks) view
 
-timed_out_settings : (core task mutex : ℕ) (mark : Bool) (holder : ℕ) (view : View) → (timed_out list_queues core task mutex mark holder view).settings ≡ view.settings
+    at : (holder : Option ℕ) → (take_from list_queues holder core task mutex ticks view).1.settings ≡ view.settings
+    at None = refl
+    at (Some holder) = held holder (eqb ticks 0)
+
+timed_out_settings : (core task mutex : ℕ) (mark : Bool) (holder : ℕ) (view : View) → (timed_out list_queues core task mutex mark holder view).settings ≡
+    view.settings
 unfolding timed_out
 timed_out_settings core task mutex mark holder view = at (mark && not (eqb holder task) && eqb (held_by view.holders holder) 1)
   where
@@ -163,7 +184,7 @@ timed_out_settings core task mutex mark holder view = at (mark && not (eqb holde
 
 take_finished_settings : (core task mutex : ℕ) (mark : Bool) (view : View) → (take_finished list_queues core task mutex mark view).1.settings ≡ view.settings
 unfolding take_finished taken
-take_finished_settings core task mutex mark view = at (holder_at view.holders mutex) (option_map_or (λ ticks. eqb ticks 0) left false)
+take_finished_settings core task mutex mark view = at (holder_at view.holders mutex)
   where
     left : Option ℕ
     left = seen.deadline_left task view.orders
@@ -171,18 +192,25 @@ take_finished_settings core task mutex mark view = at (holder_at view.holders mu
     over : View
     over = after_return list_queues task view
 
-    at : (holder : Option ℕ) (b : Bool) → (option_map_or (λ holder. cond b (outcome (Flag false) (timed_out list_queues core task mutex mark holder over)) (outcome Blocked (waited_at list_queues core task mutex holder left view))) holder (outcome (Flag true) (taken task mutex over))).1.settings ≡ view.settings
-    at None b = refl
-    at (Some holder) true = timed_out_settings core task mutex mark holder over
-    at (Some holder) false = waited_settings core task mutex holder left view
+    held : (holder : ℕ) (b : Bool) → (cond b (outcome (Flag false) (timed_out list_queues core task mutex mark holder over))
+        (outcome Blocked (waited_at list_queues core task mutex holder left view))).1.settings ≡ view.settings
+    held holder true = timed_out_settings core task mutex mark holder over
+    held holder false = waited_settings core task mutex holder left view
+
+    at : (holder : Option ℕ) → (finish_from list_queues holder core task mutex mark view).1.settings ≡ view.settings
+    at None = refl
+    at (Some holder) = held holder (option_map_or (λ ticks. eqb ticks 0) left false)
 
 finished_settings : (core task : ℕ) (call : Unfinished) (view : View) → (after_finish list_queues core task call view).1.settings ≡ view.settings
 unfolding after_finish
 finished_settings core task (Made call) view = completed_settings task call (after_return list_queues task view)
 finished_settings core task (Take mutex mark) view = take_finished_settings core task mutex mark view
 
-finish_settings : (core task : ℕ) (view : View) → (option_map_or (λ call. after_finish list_queues core task call view) (call_at view.calls task) (outcome Done view)).1.settings ≡ view.settings
-finish_settings core task view = elim (call_at view.calls task) as (λ call. (option_map_or (λ call. after_finish list_queues core task call view) call (outcome Done view)).1.settings ≡ view.settings) [ None ↦ refl | Some call ↦ finished_settings core task call view ]
+finish_settings : (core task : ℕ) (view : View) → (option_map_or (λ call. after_finish list_queues core task call view) (call_at view.calls task)
+    (outcome Done view)).1.settings ≡ view.settings
+finish_settings core task view = elim (call_at view.calls task) as (λ call.
+    (option_map_or (λ call. after_finish list_queues core task call view) call (outcome Done view)).1.settings ≡ view.settings)
+    [ None ↦ refl | Some call ↦ finished_settings core task call view ]
 
 disinherited_settings : (core task : ℕ) (view : View) → (disinherited list_queues core task view).settings ≡ view.settings
 unfolding disinherited
@@ -197,41 +225,52 @@ disinherited_settings core task view = at (eqb (held_by view.holders task) 0)
 
 given_settings : (core task mutex : ℕ) (view : View) → (mutex_give list_queues core task mutex view).1.settings ≡ view.settings
 unfolding mutex_give first_woken wake
-given_settings core task mutex view = at (holder_at view.holders mutex) (seen.first_waiter mutex left.orders)
+given_settings core task mutex view = at (holder_at view.holders mutex)
   where
     left : View
     left = disinherited list_queues core task (record view { holders = slice_set view.holders mutex None })
 
-    at : (holder : Option ℕ) (waiter : Option Waiter) → (option_map_or (λ holder. outcome (Flag true) (option_map_or (λ (waiter : Waiter). wake list_queues core waiter.task left) waiter left)) holder (outcome (Flag false) view)).1.settings ≡ view.settings
-    at None waiter = refl
-    at (Some holder) None = disinherited_settings core task (record view { holders = slice_set view.holders mutex None })
-    at (Some holder) (Some waiter) = disinherited_settings core task (record view { holders = slice_set view.holders mutex None })
+    woken : (waiter : Option Waiter) → (option_map_or (λ (waiter : Waiter). wake list_queues core waiter.task left) waiter left).settings ≡ view.settings
+    woken None = disinherited_settings core task (record view { holders = slice_set view.holders mutex None })
+    woken (Some waiter) = disinherited_settings core task (record view { holders = slice_set view.holders mutex None })
 
-timeout_settings : (core task : ℕ) (call : Call) (ticks : ℕ) (begun : Bool × List Notification) (view : View) → (awaited list_queues core task call ticks begun view).1.settings ≡ view.settings
+    at : (holder : Option ℕ) → (give_from list_queues holder core task mutex view).1.settings ≡ view.settings
+    at None = refl
+    at (Some holder) = woken (seen.first_waiter mutex left.orders)
+
+timeout_settings : (core task : ℕ) (call : BlockingCall) (ticks : ℕ) (entered : Bool × List Notification) (view : View) →
+    (awaited list_queues core task call ticks entered view).1.settings ≡ view.settings
 unfolding awaited blocked
-timeout_settings core task call ticks begun view =
-    let waiting = record view { notes = begun.1 } in
-    elim (begun.0 && ltb 0 ticks) as (λ b. (cond b (outcome Blocked (blocked list_queues core task (Made call) (timeout_of ticks) None waiting)) (completed task call waiting)).1.settings ≡ view.settings) [ true ↦ refl | false ↦ completed_settings task call waiting ]
+timeout_settings core task call ticks entered view =
+    let waiting = record view { notes = entered.1 } in
+    elim (entered.0 && ltb 0 ticks) as (λ b. (cond b (outcome Blocked (blocked list_queues core task (Made call) (timeout_of ticks) None waiting))
+    (completed task call waiting)).1.settings ≡ view.settings) [ true ↦ refl | false ↦ completed_settings task call waiting ]
 
 until_settings : (core task prev inc : ℕ) (view : View) → (delayed_until list_queues core task prev inc view).1.settings ≡ view.settings
 unfolding delayed_until yielded blocked
 until_settings core task prev inc view =
     let wake = next_wake prev inc in
-    let call = Made (DelayUntil prev inc) in
-    elim (is_ahead view.orders.tick prev wake) as (λ b. (cond b (outcome (Until true wake) (blocked list_queues core task call (Some (ticks_to view.orders.tick wake)) None view)) (outcome (Until false wake) (yielded list_queues core view))).1.settings ≡ view.settings) [ true ↦ refl | false ↦ refl ]
+    let call = Made (blocking.DelayUntil prev inc) in
+    elim (is_ahead view.orders.tick prev wake) as (λ b.
+    (cond b (outcome (Until true wake) (blocked list_queues core task call (Some (ticks_to view.orders.tick wake)) None view))
+    (outcome (Until false wake) (yielded list_queues core view))).1.settings ≡ view.settings) [ true ↦ refl | false ↦ refl ]
 
 called_settings : (core task : ℕ) (call : Call) (view : View) → (called list_queues core task call view).1.settings ≡ view.settings
 unfolding called yielded blocked affinity_set preemption_off preemption_on state_forgotten bits_cleared hold_opened hold_closed
 called_settings core task Yield view = refl
-called_settings core task (Delay ticks) view = elim (eqb ticks 0) as (λ b. (cond b (outcome Done (yielded list_queues core view)) (outcome Blocked (blocked list_queues core task (Made (Delay ticks)) (Some ticks) None view))).1.settings ≡ view.settings) [ true ↦ refl | false ↦ refl ]
+called_settings core task (Delay ticks) view = elim (eqb ticks 0) as (λ b.
+    (cond b (outcome Done (yielded list_queues core view)) (outcome Blocked
+    (blocked list_queues core task (Made (blocking.Delay ticks)) (Some ticks) None view))).1.settings ≡ view.settings) [ true ↦ refl | false ↦ refl ]
 called_settings core task Finish view = finish_settings core task view
 called_settings core task (PrioritySet other priority) view = priority_settings core other priority view
 called_settings core task (AffinitySet other mask) view = refl
 called_settings core task (PreemptOff other) view = refl
 called_settings core task (PreemptOn other) view = refl
 called_settings core task (Notify note) view = notify_settings core note view
-called_settings core task (NotifyWait entry exit ticks index) view = timeout_settings core task (NotifyWait entry exit ticks index) ticks (of_slot (slot_of view.settings task index) (wait_begun entry) view.notes) view
-called_settings core task (NotifyTake clear ticks index) view = timeout_settings core task (NotifyTake clear ticks index) ticks (of_slot (slot_of view.settings task index) take_begun view.notes) view
+called_settings core task (NotifyWait entry exit ticks index) view = timeout_settings core task (blocking.NotifyWait entry exit ticks index) ticks
+    (of_slot (slot_of view.settings task index) (wait_entered entry) view.notes) view
+called_settings core task (NotifyTake clear ticks index) view = timeout_settings core task (blocking.NotifyTake clear ticks index) ticks
+    (of_slot (slot_of view.settings task index) take_entered view.notes) view
 called_settings core task (StateClear other index) view = refl
 called_settings core task (ValueClear other bits index) view = refl
 called_settings core task (MutexTake mutex ticks) view = taken_settings core task mutex ticks view
@@ -251,7 +290,9 @@ performed_settings (Interrupt core note) view = notify_settings core note view
 
 after_settings : (step : Step) (view : View) → (after list_queues step view).1.settings ≡ view.settings
 unfolding after
-after_settings step view = elim (refusal list_queues step view) as (λ why. (option_map_or (λ why. outcome (Refused why) view) why (performed list_queues step view)).1.settings ≡ view.settings) [ None ↦ performed_settings step view | Some why ↦ refl ]
+after_settings step view = elim (refusal list_queues step view) as (λ why.
+    (option_map_or (λ why. outcome (Refused why) view) why (performed list_queues step view)).1.settings ≡ view.settings)
+    [ None ↦ performed_settings step view | Some why ↦ refl ]
 
 -- a step leaves the settings as they are
 pub settings_after : (view later : View) (step : Step) (reply : Reply) → outcome reply later ≡ after list_queues step view → later.settings ≡ view.settings

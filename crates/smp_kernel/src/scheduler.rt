@@ -35,7 +35,8 @@ mod sets;
 use self::first::{first_orders, no_ends, no_waits};
 use crate::deadlines::Deadlines;
 use bench_types::{
-    Call, CoreLook, Header, Hold, Note, Notification, Reply, Settings, Step, TaskLook, Unfinished,
+    BlockingCall, Call, CoreLook, Header, Hold, Note, Notification, Reply, Settings, Step,
+    TaskLook, Unfinished,
 };
 use mutex_inherit::Mutexes;
 use notify_core::Notes;
@@ -445,7 +446,7 @@ impl Scheduler {
             self.ask_itself(core);
             return Reply::Done;
         }
-        self.block(core, task, Call::Delay(ticks), Some(ticks));
+        self.block(core, task, BlockingCall::Delay(ticks), Some(ticks));
         Reply::Blocked
     }
 
@@ -460,7 +461,7 @@ impl Scheduler {
         let (delayed, wake) = self.delays.delay_until(task, prev, inc);
         self.cores.ask(core, core);
         if delayed {
-            let call = Call::DelayUntil { prev, inc };
+            let call = BlockingCall::DelayUntil { prev, inc };
             self.cores.unready(task);
             self.calls[task as usize] = Some(Unfinished::Made(call));
             self.deadlines.set(task, None);
@@ -480,7 +481,7 @@ impl Scheduler {
     // The task waits in its call, for so many ticks or without end, at no mutex, and its core asks
     // itself to switch.
     #[tactic(auto, unfolding(bench_model::specs::State::blocked, bench_model::specs::Lists::delay))]
-    fn block(&mut self, core: u32, task: u32, call: Call, ticks: Option<u32>)
+    fn block(&mut self, core: u32, task: u32, call: BlockingCall, ticks: Option<u32>)
         requires core { core < self.old.settings.cores }
         requires task { task < self.old.settings.tasks }
         requires ready { has task self.old.orders.ready ≡ true }

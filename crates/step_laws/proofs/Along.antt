@@ -21,19 +21,23 @@ settings_after table step sound =
     (after_near step table (omega (arith, sized.rows, sized.some_core, sized.idle_tasks))).2
 
 -- the steps after the first are checked under the settings after it
-pub checked_rest : (table : Table) (step : Step) (steps : List Step) → IsSound table → All (IsCheckedStep table.settings) (step ∷ steps) → All (IsCheckedStep (step_of step table).1.settings) steps
+pub checked_rest : (table : Table) (step : Step) (steps : List Step) → IsSound table → All (IsCheckedStep table.settings) (step ∷ steps) → All
+    (IsCheckedStep (step_of step table).1.settings) steps
 checked_rest table step steps sound all =
     subst (λ settings. All (IsCheckedStep settings) steps) (sym (settings_after table step sound)) (All-tail (IsCheckedStep table.settings) step steps all)
 
 pub sound_along : (steps : List Step) (table : Table) → IsSound table → All (IsCheckedStep table.settings) steps → IsSound (state_after table steps)
 sound_along [] table sound all = sound
 sound_along (step ∷ steps) table sound all =
-    sound_along steps (step_of step table).1 (after_sound step table sound (All-head (IsCheckedStep table.settings) step steps all)) (checked_rest table step steps sound all)
+    sound_along steps (step_of step table).1 (after_sound step table sound (All-head (IsCheckedStep table.settings) step steps all))
+    (checked_rest table step steps sound all)
 
-pub settings_along : (steps : List Step) (table : Table) → IsSound table → All (IsCheckedStep table.settings) steps → (state_after table steps).settings ≡ table.settings
+pub settings_along : (steps : List Step) (table : Table) → IsSound table → All (IsCheckedStep table.settings) steps → (state_after table steps).settings ≡
+    table.settings
 settings_along [] table sound all = refl
 settings_along (step ∷ steps) table sound all =
-    settings_along steps (step_of step table).1 (after_sound step table sound (All-head (IsCheckedStep table.settings) step steps all)) (checked_rest table step steps sound all)
+    settings_along steps (step_of step table).1 (after_sound step table sound (All-head (IsCheckedStep table.settings) step steps all))
+    (checked_rest table step steps sound all)
     ∙ settings_after table step sound
 
 switched_settings : (cores : List ℕ) (table : Table) → (fold (λ kernel core. after_switch stamp_queues core kernel) table cores).settings ≡ table.settings

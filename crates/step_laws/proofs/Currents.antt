@@ -12,10 +12,13 @@ use Rattle.bench_types.specs.declared.reply.Refusal.{Refusal}
 use Rattle.bench_types.specs.declared.reply.Reply.{Reply}
 use Rattle.bench_types.specs.declared.reply.Reply.TheVariants.{Done, Blocked, Flag, Until, Refused}
 use Rattle.bench_types.specs.declared.step.Call.{Call}
-use Rattle.bench_types.specs.declared.step.Call.TheVariants.{Yield, Delay, DelayUntil, Finish, PrioritySet, AffinitySet, PreemptOff, PreemptOn, Notify, NotifyWait, NotifyTake, StateClear, ValueClear, MutexTake, MutexGive, HoldOpen, HoldClose}
+use Rattle.bench_types.specs.declared.step.Call.TheVariants.{Yield, Delay, DelayUntil, Finish, PrioritySet, AffinitySet, PreemptOff, PreemptOn, Notify}
+use Rattle.bench_types.specs.declared.step.Call.TheVariants.{NotifyWait, NotifyTake, StateClear, ValueClear, MutexTake, MutexGive, HoldOpen, HoldClose}
 use Rattle.bench_types.specs.declared.step.Step.{Step}
 use Rattle.bench_types.specs.declared.step.Step.TheVariants.{Tick, Switch, Interrupt}
 use Rattle.bench_types.specs.declared.step.Step.TheVariants as steps
+use Rattle.bench_types.specs.declared.step.BlockingCall.{BlockingCall}
+use Rattle.bench_types.specs.declared.step.BlockingCall.TheVariants as blocking
 use Rattle.bench_types.specs.declared.step.Unfinished.{Unfinished}
 use Rattle.bench_types.specs.declared.step.Unfinished.TheVariants.{Made, Take}
 use Rattle.bench_types.proofs.Passes.{checked_task, noted_task}
@@ -23,8 +26,9 @@ use Rattle.bench_types.specs.Step.{core_of, IsCheckedCall, IsCheckedStep}
 use Rattle.bench_model.specs.Control.{Control, current, in_mask, running, task_at}
 use Rattle.bench_model.specs.ControlFields.{in_use_set}
 use Rattle.bench_model.specs.Holds.{hold_opened, hold_closed}
-use Rattle.bench_model.specs.Mutexes.{held_by, inherited, waited_at, mutex_take, owed, after_disinherit, timed_out, take_finished, taken, is_marked}
-use Rattle.bench_model.specs.Notes.{wait_begun, take_begun, of_slot, slot_of}
+use Rattle.bench_model.specs.Mutexes.{held_by, inherited, waited_at, take_from, mutex_take, owed, after_disinherit, timed_out, finish_from, take_finished}
+use Rattle.bench_model.specs.Mutexes.{taken, is_marked}
+use Rattle.bench_model.specs.Notes.{wait_entered, take_entered, of_slot, slot_of}
 use Rattle.bench_model.specs.Notifying.{awaited, completed, interrupted, notify, timeout_of}
 use Rattle.bench_model.specs.Refusals.{refusal}
 use Rattle.bench_model.specs.Seek.{after_eviction, after_switch, may_move, seek}
@@ -40,7 +44,8 @@ use Rattle.rule_laws.proofs.Seeks.{seek_more}
 use Rattle.step_laws.proofs.Along.{settings_after}
 use Rattle.step_laws.proofs.Holds.{checked_call, in_place}
 use Rattle.step_laws.proofs.Steps.{after_sound}
-use Rattle.step_laws.proofs.Undisturbed.{affinity_undisturbed, bits_undisturbed, completed_undisturbed, forgotten_undisturbed, give_undisturbed, notify_undisturbed, off_undisturbed, on_undisturbed, priority_undisturbed, ticked_undisturbed, yielded_undisturbed}
+use Rattle.step_laws.proofs.Undisturbed.{affinity_undisturbed, bits_undisturbed, completed_undisturbed, forgotten_undisturbed, give_undisturbed}
+use Rattle.step_laws.proofs.Undisturbed.{notify_undisturbed, off_undisturbed, on_undisturbed, priority_undisturbed, ticked_undisturbed, yielded_undisturbed}
 
 abbrev no_look : CoreLook
 no_look = record { current = 0; pend = false; asked = false }
@@ -55,7 +60,8 @@ either_has table one other false here there = there
 
 -- ---- the rules that let a task wait, and those of inherited priorities
 
-blocked_currents : (core task : ℕ) (call : Unfinished) (ticks : Option ℕ) (wait : Option MutexWait) (table : Table) → core < length table.control.cores → HasCurrents table (blocked stamp_queues core task call ticks wait table)
+blocked_currents : (core task : ℕ) (call : Unfinished) (ticks : Option ℕ) (wait : Option MutexWait) (table : Table) → core < length table.control.cores →
+    HasCurrents table (blocked stamp_queues core task call ticks wait table)
 unfolding blocked
 blocked_currents core task call ticks wait table low = (asked_more table.control core core low).currents
 
@@ -73,10 +79,12 @@ inherited_currents acting holder priority table =
     let later = in_use_set stamp_queues holder priority table in
     let first = in_use_currents holder priority table in
     either_has table _ table (ltb (task_at table.control holder).in_use priority)
-    (either_has table _ later (is_ready holder table.orders) (λ c. (seek_more acting holder (in_mask later.control holder) later.control).currents c ∙ first c) first)
+    (either_has table _ later (is_ready holder table.orders) (λ c. (seek_more acting holder (in_mask later.control holder) later.control).currents c ∙ first c)
+    first)
     (λ c. refl)
 
-inherited_cores : (acting holder priority : ℕ) (table : Table) → length (inherited stamp_queues acting holder priority table).control.cores ≡ length table.control.cores
+inherited_cores : (acting holder priority : ℕ) (table : Table) → length (inherited stamp_queues acting holder priority table).control.cores ≡ length
+    table.control.cores
 unfolding inherited
 inherited_cores acting holder priority table = at (ltb (task_at table.control holder).in_use priority) (is_ready holder table.orders)
   where
@@ -91,28 +99,34 @@ inherited_cores acting holder priority table = at (ltb (task_at table.control ho
     at true false = in_use_cores holder priority table
     at false d = refl
 
-waited_currents : (core task mutex holder : ℕ) (ticks : Option ℕ) (table : Table) → core < length table.control.cores → HasCurrents table (waited_at stamp_queues core task mutex holder ticks table)
+waited_currents : (core task mutex holder : ℕ) (ticks : Option ℕ) (table : Table) → core < length table.control.cores → HasCurrents table
+    (waited_at stamp_queues core task mutex holder ticks table)
 unfolding waited_at
 waited_currents core task mutex holder ticks table low =
     let priority = (task_at table.control task).in_use in
     let inheriting = inherited stamp_queues core holder priority table in
-    λ c. blocked_currents core task (Take mutex (is_marked table.control task holder)) ticks (Some (record { mutex = mutex; priority = priority })) inheriting (omega (arith, low, inherited_cores core holder priority table)) c
+    λ c. blocked_currents core task (Take mutex (is_marked table.control task holder)) ticks (Some (record { mutex = mutex; priority = priority })) inheriting
+    (omega (arith, low, inherited_cores core holder priority table)) c
     ∙ inherited_currents core holder priority table c
 
 disinherit_currents : (acting task priority : ℕ) (table : Table) → HasCurrents table (after_disinherit stamp_queues acting task priority table)
 unfolding after_disinherit
 disinherit_currents acting task priority table =
     let later = in_use_set stamp_queues task priority table in
-    either_has table table _ (eqb (task_at table.control task).in_use priority) (λ c. refl) (λ c. (its_core_more acting task later.control).currents c ∙ in_use_currents task priority table c)
+    either_has table table _ (eqb (task_at table.control task).in_use priority) (λ c. refl)
+    (λ c. (its_core_more acting task later.control).currents c ∙ in_use_currents task priority table c)
 
-timed_out_currents : (acting task mutex : ℕ) (mark : Bool) (holder : ℕ) (table : Table) → HasCurrents table (timed_out stamp_queues acting task mutex mark holder table)
+timed_out_currents : (acting task mutex : ℕ) (mark : Bool) (holder : ℕ) (table : Table) → HasCurrents table
+    (timed_out stamp_queues acting task mutex mark holder table)
 unfolding timed_out
 timed_out_currents acting task mutex mark holder table =
-    either_has table _ table (mark && not (eqb holder task) && eqb (held_by table.holders holder) 1) (disinherit_currents acting holder (owed stamp_queues holder mutex table) table) (λ c. refl)
+    either_has table _ table (mark && not (eqb holder task) && eqb (held_by table.holders holder) 1)
+    (disinherit_currents acting holder (owed stamp_queues holder mutex table) table) (λ c. refl)
 
 -- ---- the calls
 
-until_currents : (core task prev inc : ℕ) (table : Table) → core < length table.control.cores → HasCurrents table (delayed_until stamp_queues core task prev inc table).1
+until_currents : (core task prev inc : ℕ) (table : Table) → core < length table.control.cores → HasCurrents table
+    (delayed_until stamp_queues core task prev inc table).1
 unfolding delayed_until
 until_currents core task prev inc table low = at (is_ahead now prev wake)
   where
@@ -122,35 +136,42 @@ until_currents core task prev inc table low = at (is_ahead now prev wake)
     wake : ℕ
     wake = next_wake prev inc
 
-    at : (b : Bool) → HasCurrents table (cond {A = Reply × Table} b (Until true wake, blocked stamp_queues core task (Made (DelayUntil prev inc)) (Some (ticks_to now wake)) None table) (Until false wake, yielded stamp_queues core table)).1
-    at true = blocked_currents core task (Made (DelayUntil prev inc)) (Some (ticks_to now wake)) None table low
+    at : (b : Bool) → HasCurrents table (cond {A = Reply × Table} b
+        (Until true wake, blocked stamp_queues core task (Made (blocking.DelayUntil prev inc)) (Some (ticks_to now wake)) None table)
+        (Until false wake, yielded stamp_queues core table)).1
+    at true = blocked_currents core task (Made (blocking.DelayUntil prev inc)) (Some (ticks_to now wake)) None table low
     at false = (yielded_undisturbed core table low).currents
 
-awaited_currents : (core task : ℕ) (call : Call) (ticks : ℕ) (begun : Bool × List Notification) (table : Table) → core < length table.control.cores → HasCurrents table (awaited stamp_queues core task call ticks begun table).1
+awaited_currents : (core task : ℕ) (call : BlockingCall) (ticks : ℕ) (entered : Bool × List Notification) (table : Table) → core < length table.control.cores →
+    HasCurrents table (awaited stamp_queues core task call ticks entered table).1
 unfolding awaited
-awaited_currents core task call ticks begun table low = at (begun.0 && ltb 0 ticks)
+awaited_currents core task call ticks entered table low = at (entered.0 && ltb 0 ticks)
   where
     waiting : Table
-    waiting = record table { notes = begun.1 }
+    waiting = record table { notes = entered.1 }
 
-    at : (b : Bool) → HasCurrents table (cond {A = Reply × Table} b (Blocked, blocked stamp_queues core task (Made call) (timeout_of ticks) None waiting) (completed task call waiting)).1
+    at : (b : Bool) → HasCurrents table (cond {A = Reply × Table} b (Blocked, blocked stamp_queues core task (Made call) (timeout_of ticks) None waiting)
+        (completed task call waiting)).1
     at true = blocked_currents core task (Made call) (timeout_of ticks) None waiting low
     at false = (completed_undisturbed task call waiting).currents
 
-take_currents : (core task mutex ticks : ℕ) (table : Table) → core < length table.control.cores → HasCurrents table (mutex_take stamp_queues core task mutex ticks table).1
+take_currents : (core task mutex ticks : ℕ) (table : Table) → core < length table.control.cores → HasCurrents table
+    (mutex_take stamp_queues core task mutex ticks table).1
 unfolding mutex_take taken
 take_currents core task mutex ticks table low = at (holder_at table.holders mutex)
   where
-    held : (holder : ℕ) (b : Bool) → HasCurrents table (cond {A = Reply × Table} b (Flag false, table) (Blocked, waited_at stamp_queues core task mutex holder (timeout_of ticks) table)).1
+    held : (holder : ℕ) (b : Bool) → HasCurrents table (cond {A = Reply × Table} b (Flag false, table)
+        (Blocked, waited_at stamp_queues core task mutex holder (timeout_of ticks) table)).1
     held holder true = λ c. refl
     held holder false = waited_currents core task mutex holder (timeout_of ticks) table low
 
     at : (holder : Option ℕ)
-        → HasCurrents table (option_map_or {U = Reply × Table} (λ holder. cond (eqb ticks 0) (Flag false, table) (Blocked, waited_at stamp_queues core task mutex holder (timeout_of ticks) table)) holder (Flag true, taken task mutex table)).1
+        → HasCurrents table (take_from stamp_queues holder core task mutex ticks table).1
     at None = λ c. refl
     at (Some holder) = held holder (eqb ticks 0)
 
-take_finished_currents : (core task mutex : ℕ) (mark : Bool) (table : Table) → core < length table.control.cores → HasCurrents table (take_finished stamp_queues core task mutex mark table).1
+take_finished_currents : (core task mutex : ℕ) (mark : Bool) (table : Table) → core < length table.control.cores → HasCurrents table
+    (take_finished stamp_queues core task mutex mark table).1
 unfolding take_finished taken
 take_finished_currents core task mutex mark table low = at (holder_at table.holders mutex)
   where
@@ -163,41 +184,50 @@ take_finished_currents core task mutex mark table low = at (holder_at table.hold
     reached : Bool
     reached = option_map_or (λ ticks. eqb ticks 0) left false
 
-    held : (holder : ℕ) (b : Bool) → HasCurrents table (cond {A = Reply × Table} b (Flag false, timed_out stamp_queues core task mutex mark holder over) (Blocked, waited_at stamp_queues core task mutex holder left table)).1
+    held : (holder : ℕ) (b : Bool) → HasCurrents table (cond {A = Reply × Table} b (Flag false, timed_out stamp_queues core task mutex mark holder over)
+        (Blocked, waited_at stamp_queues core task mutex holder left table)).1
     held holder true = timed_out_currents core task mutex mark holder over
     held holder false = waited_currents core task mutex holder left table low
 
     at : (holder : Option ℕ)
-        → HasCurrents table (option_map_or {U = Reply × Table} (λ holder. cond reached (Flag false, timed_out stamp_queues core task mutex mark holder over) (Blocked, waited_at stamp_queues core task mutex holder left table)) holder (Flag true, taken task mutex over)).1
+        → HasCurrents table (finish_from stamp_queues holder core task mutex mark table).1
     at None = λ c. refl
     at (Some holder) = held holder reached
 
-finish_currents : (core task : ℕ) (call : Unfinished) (table : Table) → core < length table.control.cores → HasCurrents table (after_finish stamp_queues core task call table).1
+finish_currents : (core task : ℕ) (call : Unfinished) (table : Table) → core < length table.control.cores → HasCurrents table
+    (after_finish stamp_queues core task call table).1
 unfolding after_finish
 finish_currents core task (Made call) table low = (completed_undisturbed task call (after_return stamp_queues task table)).currents
 finish_currents core task (Take mutex mark) table low = take_finished_currents core task mutex mark table low
 
-called_currents : (core task : ℕ) (call : Call) (table : Table) → IsConsistent table → IsCaller table core task → IsCheckedCall table.settings call → HasCurrents table (called stamp_queues core task call table).1
+called_currents : (core task : ℕ) (call : Call) (table : Table) → IsConsistent table → IsCaller table core task → IsCheckedCall table.settings call →
+    HasCurrents table (called stamp_queues core task call table).1
 unfolding called hold_opened hold_closed
 called_currents core task Yield table sound place checked = (yielded_undisturbed core table place.0).currents
 called_currents core task (Delay ticks) table sound place checked = at (eqb ticks 0)
   where
-    at : (b : Bool) → HasCurrents table (cond {A = Reply × Table} b (Done, yielded stamp_queues core table) (Blocked, blocked stamp_queues core task (Made (Delay ticks)) (Some ticks) None table)).1
+    at : (b : Bool) → HasCurrents table (cond {A = Reply × Table} b (Done, yielded stamp_queues core table)
+        (Blocked, blocked stamp_queues core task (Made (blocking.Delay ticks)) (Some ticks) None table)).1
     at true = (yielded_undisturbed core table place.0).currents
-    at false = blocked_currents core task (Made (Delay ticks)) (Some ticks) None table place.0
+    at false = blocked_currents core task (Made (blocking.Delay ticks)) (Some ticks) None table place.0
 called_currents core task (DelayUntil prev inc) table sound place checked = until_currents core task prev inc table place.0
 called_currents core task Finish table sound place checked = at (call_at table.calls task)
   where
-    at : (unfinished : Option Unfinished) → HasCurrents table (option_map_or {U = Reply × Table} (λ call. after_finish stamp_queues core task call table) unfinished (Done, table)).1
+    at : (unfinished : Option Unfinished) → HasCurrents table (option_map_or {U = Reply × Table} (λ call. after_finish stamp_queues core task call table)
+        unfinished (Done, table)).1
     at None = λ c. refl
     at (Some call) = finish_currents core task call table place.0
-called_currents core task (PrioritySet other priority) table sound place checked = (priority_undisturbed core other priority table (omega (arith, sound.sized.rows, (checked_task table.settings other checked.passes).1))).currents
+called_currents core task (PrioritySet other priority) table sound place checked =
+    (priority_undisturbed core other priority table (omega (arith, sound.sized.rows, (checked_task table.settings other checked.passes).1))).currents
 called_currents core task (AffinitySet other mask) table sound place checked = (affinity_undisturbed core other mask table).currents
 called_currents core task (PreemptOff other) table sound place checked = (off_undisturbed other table).currents
 called_currents core task (PreemptOn other) table sound place checked = (on_undisturbed core other table).currents
-called_currents core task (Notify note) table sound place checked = (notify_undisturbed core note table (omega (arith, sound.sized.rows, (noted_task table.settings note checked.passes).1))).currents
-called_currents core task (NotifyWait entry exit ticks index) table sound place checked = awaited_currents core task (NotifyWait entry exit ticks index) ticks (of_slot (slot_of table.settings task index) (wait_begun entry) table.notes) table place.0
-called_currents core task (NotifyTake clear ticks index) table sound place checked = awaited_currents core task (NotifyTake clear ticks index) ticks (of_slot (slot_of table.settings task index) take_begun table.notes) table place.0
+called_currents core task (Notify note) table sound place checked = (notify_undisturbed core note table
+    (omega (arith, sound.sized.rows, (noted_task table.settings note checked.passes).1))).currents
+called_currents core task (NotifyWait entry exit ticks index) table sound place checked = awaited_currents core task
+    (blocking.NotifyWait entry exit ticks index) ticks (of_slot (slot_of table.settings task index) (wait_entered entry) table.notes) table place.0
+called_currents core task (NotifyTake clear ticks index) table sound place checked = awaited_currents core task (blocking.NotifyTake clear ticks index) ticks
+    (of_slot (slot_of table.settings task index) take_entered table.notes) table place.0
 called_currents core task (StateClear other index) table sound place checked = (forgotten_undisturbed other index table).currents
 called_currents core task (ValueClear other bits index) table sound place checked = (bits_undisturbed other bits index table).currents
 called_currents core task (MutexTake mutex ticks) table sound place checked = take_currents core task mutex ticks table place.0
@@ -211,10 +241,12 @@ called_currents core task HoldClose table sound place checked = λ c. refl
 abbrev IsSeated : Control → Control → ℕ → Type 0
 IsSeated before later core = running later ≡ slice_set (running before) core (current later core)
 
-kept_seated : (before later : Control) (core : ℕ) → length later.cores ≡ length before.cores → ((c : ℕ) → current later c ≡ current before c) → IsSeated before later core
+kept_seated : (before later : Control) (core : ℕ) → length later.cores ≡ length before.cores → ((c : ℕ) → current later c ≡ current before c) → IsSeated before
+    later core
 kept_seated before later core sized same =
     let runs = λ (look : CoreLook). look.current in
-    let row : running later ≡ running before = ext_get_or 0 (running later) (running before) (length-map later.cores runs ∙ sized ∙ sym (length-map before.cores runs))
+    let row : running later ≡ running before = ext_get_or 0 (running later) (running before)
+    (length-map later.cores runs ∙ sized ∙ sym (length-map before.cores runs))
     (λ i low. get_or-map runs later.cores i no_look ∙ same i ∙ sym (get_or-map runs before.cores i no_look)) in
     row ∙ sym (set-get_or (running before) core 0) ∙ ap (slice_set (running before) core) (get_or-map runs before.cores core no_look ∙ sym (same core))
 
@@ -222,7 +254,8 @@ evicted_currents : (core loser : ℕ) (table : Table) → HasCurrents table (aft
 unfolding after_eviction
 evicted_currents core loser table =
     let winner = current table.control core in
-    either_has table _ table (not (eqb winner loser) && is_ready loser table.orders) (seek_more core loser (may_move table.control loser winner core) table.control).currents (λ c. refl)
+    either_has table _ table (not (eqb winner loser) && is_ready loser table.orders)
+    (seek_more core loser (may_move table.control loser winner core) table.control).currents (λ c. refl)
 
 evicted_cores : (core loser : ℕ) (table : Table) → length (after_eviction stamp_queues core loser table).control.cores ≡ length table.control.cores
 unfolding after_eviction
@@ -231,7 +264,8 @@ evicted_cores core loser table = at (not (eqb winner loser) && is_ready loser ta
     winner : ℕ
     winner = current table.control core
 
-    at : (b : Bool) → length (cond b (record table { control = seek core loser (may_move table.control loser winner core) table.control }) table).control.cores ≡ length table.control.cores
+    at : (b : Bool) → length (cond b (record table { control = seek core loser (may_move table.control loser winner core) table.control }) table).control.cores
+        ≡ length table.control.cores
     at true = (seek_more core loser (may_move table.control loser winner core) table.control).cores
     at false = refl
 
@@ -239,7 +273,8 @@ selected_seated : (core : ℕ) (table : Table) → core < length table.control.c
 unfolding after_select
 selected_seated core table low =
     let runs = λ (look : CoreLook). look.current in
-    map-set runs table.control.cores core _ ∙ ap (slice_set (running table.control) core) (sym (ap runs (get_or-set_same table.control.cores core _ no_look low)))
+    map-set runs table.control.cores core _ ∙ ap (slice_set (running table.control) core)
+    (sym (ap runs (get_or-set_same table.control.cores core _ no_look low)))
 
 switched_seated : (core : ℕ) (table : Table) → core < length table.control.cores → IsSeated table.control (after_switch stamp_queues core table).control core
 unfolding after_switch
@@ -248,30 +283,39 @@ switched_seated core table low =
     let chosen = after_select stamp_queues core table in
     let last = after_eviction stamp_queues core left chosen in
     let runs = λ (look : CoreLook). look.current in
-    let row : running last.control ≡ running chosen.control = ext_get_or 0 (running last.control) (running chosen.control) (length-map last.control.cores runs ∙ evicted_cores core left chosen ∙ sym (length-map chosen.control.cores runs))
+    let row : running last.control ≡ running chosen.control = ext_get_or 0 (running last.control) (running chosen.control)
+    (length-map last.control.cores runs ∙ evicted_cores core left chosen ∙ sym (length-map chosen.control.cores runs))
     (λ i below. get_or-map runs last.control.cores i no_look ∙ evicted_currents core left chosen i ∙ sym (get_or-map runs chosen.control.cores i no_look)) in
     row ∙ selected_seated core table low ∙ ap (slice_set (running table.control) core) (sym (evicted_currents core left chosen core))
 
-performed_seated : (step : Step) (table : Table) → IsConsistent table → IsCheckedStep table.settings step → StepFits table step → length (performed stamp_queues step table).1.control.cores ≡ length table.control.cores
+performed_seated : (step : Step) (table : Table) → IsConsistent table → IsCheckedStep table.settings step → StepFits table step → length
+    (performed stamp_queues step table).1.control.cores ≡ length table.control.cores
     → IsSeated table.control (performed stamp_queues step table).1.control (core_of step)
 unfolding performed interrupted
-performed_seated Tick table sound checked place sized = kept_seated table.control (ticked stamp_queues table).control 0 sized (ticked_undisturbed table).currents
+performed_seated Tick table sound checked place sized = kept_seated table.control (ticked stamp_queues table).control 0 sized
+    (ticked_undisturbed table).currents
 performed_seated (Switch core) table sound checked place sized = switched_seated core table place
-performed_seated (Interrupt core note) table sound checked place sized = kept_seated table.control (notify stamp_queues core note table).control core sized (notify_undisturbed core note table (omega (arith, sound.sized.rows, place.1))).currents
+performed_seated (Interrupt core note) table sound checked place sized = kept_seated table.control (notify stamp_queues core note table).control core sized
+    (notify_undisturbed core note table (omega (arith, sound.sized.rows, place.1))).currents
 performed_seated (steps.Call core task call) table sound checked place sized =
-    kept_seated table.control (called stamp_queues core task call table).1.control core sized (called_currents core task call table sound place (checked_call table.settings core task call checked).0)
+    kept_seated table.control (called stamp_queues core task call table).1.control core sized
+    (called_currents core task call table sound place (checked_call table.settings core task call checked).0)
 
-step_cores : (table : Table) (step : Step) → IsSound table → IsCheckedStep table.settings step → length (step_of step table).1.control.cores ≡ length table.control.cores
+step_cores : (table : Table) (step : Step) → IsSound table → IsCheckedStep table.settings step → length (step_of step table).1.control.cores ≡ length
+    table.control.cores
 step_cores table step sound checked =
-    (after_sound step table sound checked).consistent.sized.cores ∙ ap (λ (s : Settings). s.cores) (settings_after table step sound) ∙ sym sound.consistent.sized.cores
+    (after_sound step table sound checked).consistent.sized.cores ∙ ap (λ (s : Settings). s.cores) (settings_after table step sound) ∙ sym
+    sound.consistent.sized.cores
 
-pub step_seats : (table : Table) (step : Step) → IsSound table → IsCheckedStep table.settings step → IsSeated table.control (step_of step table).1.control (core_of step)
+pub step_seats : (table : Table) (step : Step) → IsSound table → IsCheckedStep table.settings step → IsSeated table.control (step_of step table).1.control
+    (core_of step)
 unfolding after
 step_seats table step sound checked = from (refusal stamp_queues step table) refl (step_cores table step sound checked)
   where
     outcome : Option Refusal → Reply × Table
     outcome why = option_map_or (λ why. (Refused why, table)) why (performed stamp_queues step table)
 
-    from : (why : Option Refusal) → refusal stamp_queues step table ≡ why → length (outcome why).1.control.cores ≡ length table.control.cores → IsSeated table.control (outcome why).1.control (core_of step)
+    from : (why : Option Refusal) → refusal stamp_queues step table ≡ why → length (outcome why).1.control.cores ≡ length table.control.cores → IsSeated
+        table.control (outcome why).1.control (core_of step)
     from None accepted sized = performed_seated step table sound.consistent checked (in_place step table sound checked.passes accepted) sized
     from (Some why) refused sized = kept_seated table.control table.control (core_of step) refl (λ c. refl)

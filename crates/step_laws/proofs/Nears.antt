@@ -1,5 +1,6 @@
 -- How far stamps and the tick count go in one step, and what else stays.
-use Rattle.std.proofs.Common.{◌≡◌, ℕ, suc, ◌+◌, ◌<◌, ◌≤◌, Bool, true, false, cond, not, eqb, ltb, ◌&&◌, List, [], ◌∷◌, length, Option, Some, None, refl, ap, ◌∙◌, arith}
+use Rattle.std.proofs.Common.{◌≡◌, ℕ, suc, ◌+◌, ◌<◌, ◌≤◌, Bool, true, false, cond, not, eqb, ltb, ◌&&◌, List, [], ◌∷◌, length, Option, Some, None, refl, ap}
+use Rattle.std.proofs.Common.{◌∙◌, arith}
 use Rattle.std.specs.Prelude.{slice_set}
 use Rattle.std.specs.Option.{option_map_or}
 use Rattle.bench_types.specs.declared.note.Note.{Note}
@@ -12,7 +13,10 @@ use Rattle.bench_types.specs.declared.step.Step.{Step}
 use Rattle.bench_types.specs.declared.step.Step.TheVariants.{Tick, Switch, Interrupt}
 use Rattle.bench_types.specs.declared.step.Step.TheVariants as steps
 use Rattle.bench_types.specs.declared.step.Call.{Call}
-use Rattle.bench_types.specs.declared.step.Call.TheVariants.{Yield, Delay, Finish, PrioritySet, AffinitySet, PreemptOff, PreemptOn, Notify, NotifyWait, NotifyTake, StateClear, ValueClear, MutexTake, MutexGive, DelayUntil, HoldOpen, HoldClose}
+use Rattle.bench_types.specs.declared.step.Call.TheVariants.{Yield, Delay, Finish, PrioritySet, AffinitySet, PreemptOff, PreemptOn, Notify, NotifyWait}
+use Rattle.bench_types.specs.declared.step.Call.TheVariants.{NotifyTake, StateClear, ValueClear, MutexTake, MutexGive, DelayUntil, HoldOpen, HoldClose}
+use Rattle.bench_types.specs.declared.step.BlockingCall.{BlockingCall}
+use Rattle.bench_types.specs.declared.step.BlockingCall.TheVariants as blocking
 use Rattle.bench_types.specs.declared.step.Unfinished.{Unfinished}
 use Rattle.bench_types.specs.declared.step.Unfinished.TheVariants.{Made, Take}
 use Rattle.bench_types.specs.declared.kernel_data.MutexWait.{MutexWait}
@@ -21,15 +25,17 @@ use Rattle.bench_model.specs.Holds.{hold_opened, hold_closed}
 use Rattle.bench_model.specs.Until.{next_wake, is_ahead, ticks_to}
 use Rattle.bench_model.specs.ControlFields.{with_base, in_use_set}
 use Rattle.bench_model.specs.Control.{task_at, current, ask_each}
-use Rattle.bench_model.specs.Notes.{note_at, is_waiting, notified, wait_begun, take_begun, of_slot, slot_of}
+use Rattle.bench_model.specs.Notes.{note_at, is_waiting, notified, wait_entered, take_entered, of_slot, slot_of}
 use Rattle.bench_model.specs.Notifying.{timeout_of, notify, interrupted, state_forgotten, bits_cleared, completed, awaited}
-use Rattle.bench_model.specs.Mutexes.{is_marked, held_by, taken, inherited, waited_at, mutex_take, owed, after_disinherit, timed_out, take_finished, disinherited, first_woken, mutex_give}
+use Rattle.bench_model.specs.Mutexes.{is_marked, held_by, taken, inherited, waited_at, take_from, mutex_take, owed, after_disinherit, timed_out, finish_from}
+use Rattle.bench_model.specs.Mutexes.{take_finished, disinherited, first_woken, give_from, mutex_give}
 use Rattle.bench_model.specs.Refusals.{refusal}
 use Rattle.bench_model.specs.State.{call_at, holder_at, after_select, yielded, blocked, after_return}
 use Rattle.bench_model.specs.Steps.{woken, ticked, called, performed, after, delayed_until, after_finish}
 use Rattle.bench_model.specs.Seek.{seek, may_move, wake, after_eviction, after_switch, shares_its_time, sliced}
 use Rattle.bench_model.specs.PriorityAffinity.{capped, in_use_after, priority_set, affinity_set, preemption_off, preemption_on}
-use Rattle.bench_model.specs.Table.{Stamps, Table, stamp_queues, is_ready, add_to_ready_list, delay, advance, due, deadline_left, forget_deadline, first_waiter, tick_count}
+use Rattle.bench_model.specs.Table.{Stamps, Table, stamp_queues, is_ready, add_to_ready_list, delay, advance, due, deadline_left, forget_deadline, first_waiter}
+use Rattle.bench_model.specs.Table.{tick_count}
 use Rattle.rule_laws.proofs.Awaiting.{completed_notes}
 use Rattle.order_laws.proofs.SoundSteps.{add_to_ready_tick, readied_tick, advanced_tick}
 use Rattle.rule_laws.proofs.Ticks.{with_orders, after_wakes, woken_parts}
@@ -59,7 +65,8 @@ after_eviction_beside : (core loser : ℕ) (table : Table) → IsSameBeside tabl
 unfolding after_eviction
 after_eviction_beside core loser table = at (not (eqb (current table.control core) loser) && is_ready loser table.orders)
   where
-    at : (b : Bool) → IsSameBeside table (cond b (record table { control = seek core loser (may_move table.control loser (current table.control core) core) table.control }) table)
+    at : (b : Bool) → IsSameBeside table (cond b
+        (record table { control = seek core loser (may_move table.control loser (current table.control core) core) table.control }) table)
     at true = (refl, refl, refl)
     at false = (refl, refl, refl)
 
@@ -73,11 +80,17 @@ sliced_beside table = at table.settings.slicing
 
 pub turned_next : (core : ℕ) (table : Table) → (after_switch stamp_queues core table).orders.next ≤ suc table.orders.next
 unfolding after_switch
-turned_next core table = omega (arith, ap (λ (o : Stamps). o.next) (after_eviction_beside core (current table.control core) (after_select stamp_queues core table)).0, after_select_next core table)
+turned_next core table = omega (
+  arith,
+  ap (λ (o : Stamps). o.next) (after_eviction_beside core (current table.control core)
+      (after_select stamp_queues core table)).0,
+  after_select_next core table,
+)
 
 pub turned_tick : (core : ℕ) (table : Table) → (after_switch stamp_queues core table).orders.tick ≡ table.orders.tick
 unfolding after_switch
-turned_tick core table = ap (λ (o : Stamps). o.tick) (after_eviction_beside core (current table.control core) (after_select stamp_queues core table)).0 ∙ after_select_tick core table
+turned_tick core table = ap (λ (o : Stamps). o.tick) (after_eviction_beside core (current table.control core) (after_select stamp_queues core table)).0 ∙
+    after_select_tick core table
 
 pub turned_settings : (core : ℕ) (table : Table) → (after_switch stamp_queues core table).settings ≡ table.settings
 unfolding after_switch after_select
@@ -89,11 +102,13 @@ turned_hold core table = (after_eviction_beside core (current table.control core
 
 -- how far stamps and the tick count go in one step, whose settings stay
 abbrev pub IsNear : Table → Table → Type 0
-IsNear table next = (next.orders.next ≤ table.orders.next + length table.orders.rows + 1) × (next.orders.tick ≤ table.orders.tick + 1) × (next.settings ≡ table.settings)
+IsNear table next = (next.orders.next ≤ table.orders.next + length table.orders.rows + 1) × (next.orders.tick ≤ table.orders.tick + 1) ×
+    (next.settings ≡ table.settings)
 
 -- and whose hold stays
 abbrev pub IsNearer : Table → Table → Type 0
-IsNearer table next = (next.orders.next ≤ table.orders.next + length table.orders.rows + 1) × (next.orders.tick ≤ table.orders.tick + 1) × (next.settings ≡ table.settings) × (next.hold ≡ table.hold)
+IsNearer table next = (next.orders.next ≤ table.orders.next + length table.orders.rows + 1) × (next.orders.tick ≤ table.orders.tick + 1) ×
+    (next.settings ≡ table.settings) × (next.hold ≡ table.hold)
 
 beside_near : (table next : Table) → IsSameBeside table next → IsNearer table next
 beside_near table next same = (omega (arith, ap (λ (o : Stamps). o.next) same.0), omega (arith, ap (λ (o : Stamps). o.tick) same.0), same.1, same.2)
@@ -119,7 +134,13 @@ ticked_near table =
     )
 
 after_select_near : (core : ℕ) (table : Table) → 0 < length table.orders.rows → IsNearer table (after_switch stamp_queues core table)
-after_select_near core table some = (omega (arith, turned_next core table), omega (arith, turned_tick core table), turned_settings core table, turned_hold core table)
+after_select_near core table some = (
+  omega (arith, turned_next core table),
+  omega (arith, turned_tick core table),
+  turned_settings core table,
+  turned_hold core
+      table,
+)
 
 in_use_near : (task priority : ℕ) (table : Table) → 0 < length table.orders.rows → IsNearer table (in_use_set stamp_queues task priority table)
 unfolding in_use_set add_to_ready_list
@@ -139,20 +160,22 @@ based task priority table = record table { control = with_base task (capped tabl
 abbrev in_use : ℕ → ℕ → Table → ℕ
 in_use task priority table = in_use_after (task_at table.control task) (capped table.settings.priorities priority)
 
-priority_near : (acting task priority : ℕ) (table : Table) → 0 < length table.orders.rows → IsNearer table (priority_set stamp_queues acting task priority table)
+priority_near : (acting task priority : ℕ) (table : Table) → 0 < length table.orders.rows → IsNearer table
+    (priority_set stamp_queues acting task priority table)
 unfolding priority_set
 priority_near acting task priority table some =
     either_near table table _ (eqb (capped table.settings.priorities priority) (task_at table.control task).base) (omega arith, omega arith, refl, refl)
     (in_use_near task (in_use task priority table) (based task priority table) some)
 
-completed_beside : (task : ℕ) (call : Call) (table : Table) → IsSameBeside table (completed task call table).1
+completed_beside : (task : ℕ) (call : BlockingCall) (table : Table) → IsSameBeside table (completed task call table).1
 completed_beside task call table =
     let same = (completed_notes task call table).1 in
     (ap (λ (t : Table). t.orders) same, ap (λ (t : Table). t.settings) same, ap (λ (t : Table). t.hold) same)
 
 -- at most so many stamps are given, at one tick count and with the same settings and hold
 abbrev IsGiving : ℕ → Table → Table → Type 0
-IsGiving stamps table next = (next.orders.next ≤ table.orders.next + stamps) × (next.orders.tick ≡ table.orders.tick) × (next.settings ≡ table.settings) × (next.hold ≡ table.hold)
+IsGiving stamps table next = (next.orders.next ≤ table.orders.next + stamps) × (next.orders.tick ≡ table.orders.tick) × (next.settings ≡ table.settings) ×
+    (next.hold ≡ table.hold)
 
 giving_near : (table next : Table) → 0 < length table.orders.rows → IsGiving 2 table next → IsNearer table next
 giving_near table next some gives = (omega (arith, gives.0), omega (arith, gives.1), gives.2, gives.3)
@@ -180,9 +203,11 @@ unfolding inherited
 inherited_gives acting holder priority table =
     let later = in_use_set stamp_queues holder priority table in
     let gives = in_use_gives holder priority table in
-    either_gives 1 table _ table (ltb (task_at table.control holder).in_use priority) (either_gives 1 table _ later (is_ready holder table.orders) gives gives) (giving_none 1 table)
+    either_gives 1 table _ table (ltb (task_at table.control holder).in_use priority) (either_gives 1 table _ later (is_ready holder table.orders) gives gives)
+    (giving_none 1 table)
 
-blocked_gives : (core task : ℕ) (call : Unfinished) (ticks : Option ℕ) (wait : Option MutexWait) (table : Table) → IsGiving 1 table (blocked stamp_queues core task call ticks wait table)
+blocked_gives : (core task : ℕ) (call : Unfinished) (ticks : Option ℕ) (wait : Option MutexWait) (table : Table) → IsGiving 1 table
+    (blocked stamp_queues core task call ticks wait table)
 unfolding blocked delay
 blocked_gives core task call ticks wait table = (omega arith, refl, refl, refl)
 
@@ -191,21 +216,25 @@ unfolding waited_at
 waited_gives core task mutex holder ticks table =
     let priority = (task_at table.control task).in_use in
     let inheriting = inherited stamp_queues core holder priority table in
-    giving_then 1 1 table inheriting (blocked stamp_queues core task (Take mutex (is_marked table.control task holder)) ticks (Some (record { mutex = mutex; priority = priority })) inheriting) (inherited_gives core holder priority table)
+    giving_then 1 1 table inheriting (blocked stamp_queues core task (Take mutex (is_marked table.control task holder)) ticks
+    (Some (record { mutex = mutex; priority = priority })) inheriting) (inherited_gives core holder priority table)
     (blocked_gives core task (Take mutex (is_marked table.control task holder)) ticks (Some (record { mutex = mutex; priority = priority })) inheriting)
 
 after_disinherit_gives : (acting task priority : ℕ) (table : Table) → IsGiving 1 table (after_disinherit stamp_queues acting task priority table)
 unfolding after_disinherit
-after_disinherit_gives acting task priority table = either_gives 1 table table _ (eqb (task_at table.control task).in_use priority) (giving_none 1 table) (in_use_gives task priority table)
+after_disinherit_gives acting task priority table = either_gives 1 table table _ (eqb (task_at table.control task).in_use priority) (giving_none 1 table)
+    (in_use_gives task priority table)
 
 ended_gives : (task : ℕ) (table : Table) → IsGiving 0 table (after_return stamp_queues task table)
 unfolding forget_deadline
 ended_gives task table = giving_none 0 table
 
-timed_out_gives : (acting task mutex : ℕ) (mark : Bool) (holder : ℕ) (table : Table) → IsGiving 1 table (timed_out stamp_queues acting task mutex mark holder table)
+timed_out_gives : (acting task mutex : ℕ) (mark : Bool) (holder : ℕ) (table : Table) → IsGiving 1 table
+    (timed_out stamp_queues acting task mutex mark holder table)
 unfolding timed_out
 timed_out_gives acting task mutex mark holder table =
-    either_gives 1 table _ table (mark && not (eqb holder task) && eqb (held_by table.holders holder) 1) (after_disinherit_gives acting holder (owed stamp_queues holder mutex table) table) (giving_none 1 table)
+    either_gives 1 table _ table (mark && not (eqb holder task) && eqb (held_by table.holders holder) 1)
+    (after_disinherit_gives acting holder (owed stamp_queues holder mutex table) table) (giving_none 1 table)
 
 taken_gives : (task mutex : ℕ) (table : Table) → IsGiving 0 table (taken task mutex table)
 unfolding taken
@@ -222,7 +251,7 @@ take_near core task mutex ticks table = at (holder_at table.holders mutex)
     some holder true = giving_none 2 table
     some holder false = waited_gives core task mutex holder (timeout_of ticks) table
 
-    at : (holder : Option ℕ) → IsGiving 2 table (option_map_or {U = Reply × Table} (λ holder. cond (eqb ticks 0) (Flag false, table) (reply.Blocked, waits holder)) holder (Flag true, taken task mutex table)).1
+    at : (holder : Option ℕ) → IsGiving 2 table (take_from stamp_queues holder core task mutex ticks table).1
     at None = giving_then 0 2 table (taken task mutex table) (taken task mutex table) (taken_gives task mutex table) (giving_none 2 (taken task mutex table))
     at (Some holder) = some holder (eqb ticks 0)
 
@@ -248,32 +277,37 @@ take_finished_near core task mutex mark table = at (holder_at table.holders mute
         (omega (arith, gives.0), gives.1, gives.2, gives.3)
     some holder false = waited_gives core task mutex holder left table
 
-    at : (holder : Option ℕ) → IsGiving 2 table (option_map_or {U = Reply × Table} (λ holder. cond (option_map_or (λ ticks. eqb ticks 0) left false) (Flag false, out holder) (reply.Blocked, waits holder)) holder (Flag true, taken task mutex over)).1
+    at : (holder : Option ℕ) → IsGiving 2 table (finish_from stamp_queues holder core task mutex mark table).1
     at None =
         let gives = giving_then 0 0 table over (taken task mutex over) (ended_gives task table) (taken_gives task mutex over) in
         (omega (arith, gives.0), gives.1, gives.2, gives.3)
     at (Some holder) = some holder (option_map_or (λ ticks. eqb ticks 0) left false)
 
-finished_near : (core task : ℕ) (call : Unfinished) (table : Table) → 0 < length table.orders.rows → IsNearer table (after_finish stamp_queues core task call table).1
+finished_near : (core task : ℕ) (call : Unfinished) (table : Table) → 0 < length table.orders.rows → IsNearer table
+    (after_finish stamp_queues core task call table).1
 unfolding after_finish
 finished_near core task (Made call) table some =
     let over = after_return stamp_queues task table in
     let gives = ended_gives task table in
     let same = completed_beside task call over in
     (omega (arith, gives.0, ap (λ (o : Stamps). o.next) same.0), omega (arith, gives.1, ap (λ (o : Stamps). o.tick) same.0), same.1 ∙ gives.2, same.2 ∙ gives.3)
-finished_near core task (Take mutex mark) table some = giving_near table (take_finished stamp_queues core task mutex mark table).1 some (take_finished_near core task mutex mark table)
+finished_near core task (Take mutex mark) table some = giving_near table (take_finished stamp_queues core task mutex mark table).1 some
+    (take_finished_near core task mutex mark table)
 
-call_finished_near : (core task : ℕ) (table : Table) → 0 < length table.orders.rows → IsNearer table (option_map_or {U = Reply × Table} (λ call. after_finish stamp_queues core task call table) (call_at table.calls task) (Done, table)).1
+call_finished_near : (core task : ℕ) (table : Table) → 0 < length table.orders.rows → IsNearer table
+    (option_map_or {U = Reply × Table} (λ call. after_finish stamp_queues core task call table) (call_at table.calls task) (Done, table)).1
 call_finished_near core task table some = at (call_at table.calls task)
   where
-    at : (unfinished : Option Unfinished) → IsNearer table (option_map_or {U = Reply × Table} (λ call. after_finish stamp_queues core task call table) unfinished (Done, table)).1
+    at : (unfinished : Option Unfinished) → IsNearer table (option_map_or {U = Reply × Table} (λ call. after_finish stamp_queues core task call table)
+        unfinished (Done, table)).1
     at None = (omega arith, omega arith, refl, refl)
     at (Some call) = finished_near core task call table some
 
 disinherited_gives : (core task : ℕ) (table : Table) → IsGiving 1 table (disinherited stamp_queues core task table)
 unfolding disinherited
 disinherited_gives core task table =
-    either_gives 1 table _ table (eqb (held_by table.holders task) 0) (after_disinherit_gives core task (task_at table.control task).base table) (giving_none 1 table)
+    either_gives 1 table _ table (eqb (held_by table.holders task) 0) (after_disinherit_gives core task (task_at table.control task).base table)
+    (giving_none 1 table)
 
 first_woken_gives : (acting mutex : ℕ) (table : Table) → IsGiving 1 table (first_woken stamp_queues acting mutex table)
 unfolding first_woken wake add_to_ready_list
@@ -293,9 +327,10 @@ give_near core task mutex table = at (holder_at table.holders mutex)
     lower : Table
     lower = disinherited stamp_queues core task freed
 
-    at : (holder : Option ℕ) → IsGiving 2 table (option_map_or {U = Reply × Table} (λ holder. (Flag true, first_woken stamp_queues core mutex lower)) holder (Flag false, table)).1
+    at : (holder : Option ℕ) → IsGiving 2 table (give_from stamp_queues holder core task mutex table).1
     at None = giving_none 2 table
-    at (Some holder) = giving_then 1 1 table lower (first_woken stamp_queues core mutex lower) (giving_then 0 1 table freed lower (giving_none 0 table) (disinherited_gives core task freed)) (first_woken_gives core mutex lower)
+    at (Some holder) = giving_then 1 1 table lower (first_woken stamp_queues core mutex lower)
+        (giving_then 0 1 table freed lower (giving_none 0 table) (disinherited_gives core task freed)) (first_woken_gives core mutex lower)
 
 notify_near : (acting : ℕ) (note : Note) (table : Table) → 0 < length table.orders.rows → IsNearer table (notify stamp_queues acting note table)
 unfolding notify wake add_to_ready_list
@@ -304,21 +339,23 @@ notify_near acting note table some = at (is_waiting old.state)
     old : Notification
     old = note_at table.notes (slot_of table.settings note.task note.index)
 
-    told : Table
-    told = record table { notes = slice_set table.notes (slot_of table.settings note.task note.index) (notified note.action old) }
+    known : Table
+    known = record table { notes = slice_set table.notes (slot_of table.settings note.task note.index) (notified note.action old) }
 
-    at : (b : Bool) → IsNearer table (cond b (wake stamp_queues acting note.task told) told)
+    at : (b : Bool) → IsNearer table (cond b (wake stamp_queues acting note.task known) known)
     at true = (omega arith, omega arith, refl, refl)
     at false = (omega arith, omega arith, refl, refl)
 
-timeout_near : (core task : ℕ) (call : Call) (ticks : ℕ) (begun : Bool × List Notification) (table : Table) → 0 < length table.orders.rows → IsNearer table (awaited stamp_queues core task call ticks begun table).1
+timeout_near : (core task : ℕ) (call : BlockingCall) (ticks : ℕ) (entered : Bool × List Notification) (table : Table) → 0 < length table.orders.rows → IsNearer
+    table (awaited stamp_queues core task call ticks entered table).1
 unfolding awaited blocked delay
-timeout_near core task call ticks begun table some = at (begun.0 && ltb 0 ticks)
+timeout_near core task call ticks entered table some = at (entered.0 && ltb 0 ticks)
   where
     waiting : Table
-    waiting = record table { notes = begun.1 }
+    waiting = record table { notes = entered.1 }
 
-    at : (b : Bool) → IsNearer table (cond {A = Reply × Table} b (reply.Blocked, blocked stamp_queues core task (Made call) (timeout_of ticks) None waiting) (completed task call waiting)).1
+    at : (b : Bool) → IsNearer table (cond {A = Reply × Table} b (reply.Blocked, blocked stamp_queues core task (Made call) (timeout_of ticks) None waiting)
+        (completed task call waiting)).1
     at true = (omega arith, omega arith, refl, refl)
     at false = beside_near table (completed task call waiting).1 (completed_beside task call waiting)
 
@@ -338,37 +375,49 @@ until_near core task prev inc table some = at (is_ahead now prev wake)
     wake : ℕ
     wake = next_wake prev inc
 
-    at : (b : Bool) → IsNearer table (cond {A = Reply × Table} b (Until true wake, blocked stamp_queues core task (Made (DelayUntil prev inc)) (Some (ticks_to now wake)) None table) (Until false wake, yielded stamp_queues core table)).1
+    at : (b : Bool) → IsNearer table (cond {A = Reply × Table} b (
+      Until true wake,
+      blocked stamp_queues core task (Made (blocking.DelayUntil prev inc))
+          (Some (ticks_to now wake)) None table,
+    ) (Until false wake, yielded stamp_queues core table)).1
     at true = (omega arith, omega arith, refl, refl)
     at false = (omega arith, omega arith, refl, refl)
 
 -- and whose hold stays, unless the step is for it
 abbrev pub IsNearBut : Bool → Table → Table → Type 0
-IsNearBut keeps table next = (next.orders.next ≤ table.orders.next + length table.orders.rows + 1) × (next.orders.tick ≤ table.orders.tick + 1) × (next.settings ≡ table.settings) × (keeps ≡ true → next.hold ≡ table.hold)
+IsNearBut keeps table next = (next.orders.next ≤ table.orders.next + length table.orders.rows + 1) × (next.orders.tick ≤ table.orders.tick + 1) ×
+    (next.settings ≡ table.settings) × (keeps ≡ true → next.hold ≡ table.hold)
 
-pub called_near : (core task : ℕ) (call : Call) (table : Table) → 0 < length table.orders.rows → IsNearBut (keeps_hold call) table (called stamp_queues core task call table).1
+pub called_near : (core task : ℕ) (call : Call) (table : Table) → 0 < length table.orders.rows → IsNearBut (keeps_hold call) table
+    (called stamp_queues core task call table).1
 unfolding called yielded blocked delay affinity_set preemption_off preemption_on state_forgotten bits_cleared hold_opened hold_closed
 called_near core task Yield table some = (omega arith, omega arith, refl, λ keeps. refl)
 called_near core task (Delay ticks) table some = let near = at (eqb ticks 0) in (near.0, near.1, near.2, λ keeps. near.3)
   where
-    at : (b : Bool) → IsNearer table (cond {A = Reply × Table} b (Done, yielded stamp_queues core table) (reply.Blocked, blocked stamp_queues core task (Made (Delay ticks)) (Some ticks) None table)).1
+    at : (b : Bool) → IsNearer table (cond {A = Reply × Table} b (Done, yielded stamp_queues core table)
+        (reply.Blocked, blocked stamp_queues core task (Made (blocking.Delay ticks)) (Some ticks) None table)).1
     at true = (omega arith, omega arith, refl, refl)
     at false = (omega arith, omega arith, refl, refl)
 called_near core task (DelayUntil prev inc) table some = let near = until_near core task prev inc table some in (near.0, near.1, near.2, λ keeps. near.3)
 called_near core task HoldOpen table some = (omega arith, omega arith, refl, λ keeps. absurd (cc (keeps)))
 called_near core task HoldClose table some = (omega arith, omega arith, refl, λ keeps. absurd (cc (keeps)))
 called_near core task Finish table some = let near = call_finished_near core task table some in (near.0, near.1, near.2, λ keeps. near.3)
-called_near core task (PrioritySet other priority) table some = let near = priority_near core other priority table some in (near.0, near.1, near.2, λ keeps. near.3)
+called_near core task (PrioritySet other priority) table some = let near = priority_near core other priority table some in
+    (near.0, near.1, near.2, λ keeps. near.3)
 called_near core task (AffinitySet other mask) table some = (omega arith, omega arith, refl, λ keeps. refl)
 called_near core task (PreemptOff other) table some = (omega arith, omega arith, refl, λ keeps. refl)
 called_near core task (PreemptOn other) table some = (omega arith, omega arith, refl, λ keeps. refl)
 called_near core task (Notify note) table some = let near = notify_near core note table some in (near.0, near.1, near.2, λ keeps. near.3)
-called_near core task (NotifyWait entry exit ticks index) table some = let near = timeout_near core task (NotifyWait entry exit ticks index) ticks (of_slot (slot_of table.settings task index) (wait_begun entry) table.notes) table some in (near.0, near.1, near.2, λ keeps. near.3)
-called_near core task (NotifyTake clear ticks index) table some = let near = timeout_near core task (NotifyTake clear ticks index) ticks (of_slot (slot_of table.settings task index) take_begun table.notes) table some in (near.0, near.1, near.2, λ keeps. near.3)
+called_near core task (NotifyWait entry exit ticks index) table some = let near = timeout_near core task (blocking.NotifyWait entry exit ticks index) ticks
+    (of_slot (slot_of table.settings task index) (wait_entered entry) table.notes) table some in (near.0, near.1, near.2, λ keeps. near.3)
+called_near core task (NotifyTake clear ticks index) table some = let near = timeout_near core task (blocking.NotifyTake clear ticks index) ticks
+    (of_slot (slot_of table.settings task index) take_entered table.notes) table some in (near.0, near.1, near.2, λ keeps. near.3)
 called_near core task (StateClear other index) table some = (omega arith, omega arith, refl, λ keeps. refl)
 called_near core task (ValueClear other bits index) table some = (omega arith, omega arith, refl, λ keeps. refl)
-called_near core task (MutexTake mutex ticks) table some = let near = giving_near table (mutex_take stamp_queues core task mutex ticks table).1 some (take_near core task mutex ticks table) in (near.0, near.1, near.2, λ keeps. near.3)
-called_near core task (MutexGive mutex) table some = let near = giving_near table (mutex_give stamp_queues core task mutex table).1 some (give_near core task mutex table) in (near.0, near.1, near.2, λ keeps. near.3)
+called_near core task (MutexTake mutex ticks) table some = let near = giving_near table (mutex_take stamp_queues core task mutex ticks table).1 some
+    (take_near core task mutex ticks table) in (near.0, near.1, near.2, λ keeps. near.3)
+called_near core task (MutexGive mutex) table some = let near = giving_near table (mutex_give stamp_queues core task mutex table).1 some
+    (give_near core task mutex table) in (near.0, near.1, near.2, λ keeps. near.3)
 
 abbrev pub keeps_step : Step → Bool
 keeps_step (steps.Call core task call) = keeps_hold call

@@ -1,5 +1,6 @@
 -- No flag is set at the start: each core gives up its idle task, for which no core is sought.
-use Rattle.std.proofs.Common.{◌≡◌, ℕ, zero, suc, ◌+◌, ◌<◌, ◌≤◌, Bool, true, false, cond, not, eqb, ◌&&◌, ◌||◌, length, Option, Some, None, refl, ap, subst, sym, ◌∙◌, arith, inl, inr}
+use Rattle.std.proofs.Common.{◌≡◌, ℕ, zero, suc, ◌+◌, ◌<◌, ◌≤◌, Bool, true, false, cond, not, eqb, ◌&&◌, ◌||◌, length, Option, Some, None, refl, ap, subst, sym}
+use Rattle.std.proofs.Common.{◌∙◌, arith, inl, inr}
 use Rattle.std.specs.Prelude.{unwrap_or}
 use Rattle.std.specs.Option.{option_map_or}
 use Rattle.std.specs.List.{fold, range_with_len}
@@ -31,7 +32,8 @@ abbrev chosen : ℕ → Table → ℕ
 chosen core table = unwrap_or (selected stamp_queues core table) (current table.control core)
 
 -- a core that gives up its own idle task seeks none
-idle_leaves : (core : ℕ) (table : Table) → core < length table.control.cores → current table.control core ≡ core → (after_switch stamp_queues core table).control ≡ run_on core (chosen core table) table.control
+idle_leaves : (core : ℕ) (table : Table) → core < length table.control.cores → current table.control core ≡ core →
+    (after_switch stamp_queues core table).control ≡ run_on core (chosen core table) table.control
 unfolding after_switch after_eviction after_select
 idle_leaves core table below here = at (not (eqb (current later.control core) loser) && is_ready loser later.orders)
   where
@@ -44,7 +46,8 @@ idle_leaves core table below here = at (not (eqb (current later.control core) lo
     idle : is_idle later.control loser ≡ true
     idle = grind (arith, nat_tests, here, below, cores_length table.control core (record { current = chosen core table; pend = false; asked = false }))
 
-    at : (b : Bool) → (cond b (record later { control = seek core loser (may_move later.control loser (current later.control core) core) later.control }) later).control ≡ run_on core (chosen core table) table.control
+    at : (b : Bool) → (cond b (record later { control = seek core loser (may_move later.control loser (current later.control core) core) later.control })
+        later).control ≡ run_on core (chosen core table) table.control
     at true = seek_idle later.control core loser (may_move later.control loser (current later.control core) core) idle
     at false = refl
 
@@ -59,19 +62,23 @@ turn_fresh core task control below fresh = record {
     | inl here ↦ ap (is_due (run_on core task control)) here ∙ ap (λ (l : CoreLook). l.pend || l.asked) (look_same control core look below)
     | inr away ↦ ap (λ (l : CoreLook). l.pend || l.asked) (look_other control core look c away) ∙ fresh.quiet c (omega (arith, cores_length control core look))
   ];
-  idle = λ c past low. ap (λ (l : CoreLook). l.current) (look_other control core look c (λ same. absurd (omega arith))) ∙ fresh.idle c (omega arith) (omega (arith, cores_length control core look));
+  idle = λ c past low. ap (λ (l : CoreLook). l.current) (look_other control core look c (λ same. absurd (omega arith))) ∙ fresh.idle c (omega arith)
+      (omega (arith, cores_length control core look));
 }
   where
     look : CoreLook
     look = record { current = task; pend = false; asked = false }
 
-turns_fresh : (n core : ℕ) (table : Table) → core + n ≤ length table.control.cores → IsFresh core table.control → (c : ℕ) → c < length table.control.cores → is_due (fold (λ table core. after_switch stamp_queues core table) table (range_with_len core n)).control c ≡ false
+turns_fresh : (n core : ℕ) (table : Table) → core + n ≤ length table.control.cores → IsFresh core table.control → (c : ℕ) → c < length table.control.cores →
+    is_due (fold (λ table core. after_switch stamp_queues core table) table (range_with_len core n)).control c ≡ false
 turns_fresh zero core table fits fresh c low = fresh.quiet c low
 turns_fresh (suc n) core table fits fresh c low =
     let next = after_switch stamp_queues core table in
     let goes = idle_leaves core table (omega arith) (fresh.idle core (omega arith) (omega arith)) in
-    let same = ap (λ (control : Control). length control.cores) goes ∙ cores_length table.control core (record { current = chosen core table; pend = false; asked = false }) in
-    turns_fresh n (core + 1) next (omega (arith, same)) (subst (IsFresh (core + 1)) (sym goes) (turn_fresh core (chosen core table) table.control (omega arith) fresh)) c (omega (arith, same))
+    let same = ap (λ (control : Control). length control.cores) goes ∙ cores_length table.control core
+    (record { current = chosen core table; pend = false; asked = false }) in
+    turns_fresh n (core + 1) next (omega (arith, same)) (subst (IsFresh (core + 1)) (sym goes)
+    (turn_fresh core (chosen core table) table.control (omega arith) fresh)) c (omega (arith, same))
 
 first_fresh : (header : Header) → IsFresh 0 (first_control header)
 first_fresh header = record {
@@ -81,4 +88,5 @@ first_fresh header = record {
 
 pub start_flags : (header : Header) (core : ℕ) → core < header.config.cores → is_due (start header).control core ≡ false
 unfolding started unstarted
-start_flags header core low = turns_fresh header.config.cores 0 (unstarted (first_stamps header) header) (omega (arith, first_cores header)) (first_fresh header) core (omega (arith, first_cores header))
+start_flags header core low = turns_fresh header.config.cores 0 (unstarted (first_stamps header) header) (omega (arith, first_cores header))
+    (first_fresh header) core (omega (arith, first_cores header))

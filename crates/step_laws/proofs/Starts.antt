@@ -1,6 +1,7 @@
 -- The start of a checked header is sound, and seen as lists it is the start over lists.
 use Rattle.order_laws.proofs.FirstBlocks.{first_tasks, first_blocks}
-use Rattle.std.proofs.Common.{◌≡◌, ℕ, ◌*◌, zero, suc, ◌+◌, ◌-◌, ◌<◌, ◌≤◌, true, false, cond, ltb, List, [], ◌∷◌, ◌++◌, length, map, replicate, Bool, Option, Some, None, Ok, refl, ap, ◌∙◌, add-zero, arith, inl, inr}
+use Rattle.std.proofs.Common.{◌≡◌, ℕ, ◌*◌, zero, suc, ◌+◌, ◌-◌, ◌<◌, ◌≤◌, true, false, cond, ltb, List, [], ◌∷◌, ◌++◌, length, map, replicate, Bool, Option}
+use Rattle.std.proofs.Common.{Some, None, Ok, refl, ap, ◌∙◌, add-zero, arith, inl, inr}
 use Rattle.std.specs.Prelude.{slice_index_or}
 use Rattle.std.specs.List.{fold, range_with_len, AllByRecursion}
 use Rattle.std.proofs.lemmas.Bool.Decides.{nat_tests}
@@ -65,13 +66,15 @@ module _ (header : Header) where
   idle_row : (i : ℕ) → i < cores → row_at first i ≡ ready_row (users + i)
   unfolding first_stamps
   idle_row i low =
-      get_or_append_left (map (λ core. ready_row (users + core)) (numbers cores)) (map ready_row (numbers users)) (ready_row 0) i (omega (arith, length-map-range_with_len (λ core. ready_row (users + core)) 0 cores))
+      get_or_append_left (map (λ core. ready_row (users + core)) (numbers cores)) (map ready_row (numbers users)) (ready_row 0) i
+      (omega (arith, length-map-range_with_len (λ core. ready_row (users + core)) 0 cores))
       ∙ get_or-map-range_with_len (λ core. ready_row (users + core)) 0 cores i i (ready_row 0) low (omega arith)
 
   user_row : (i : ℕ) → cores ≤ i → i < cores + users → row_at first i ≡ ready_row (i - cores)
   unfolding first_stamps
   user_row i high low =
-      get_or-append_right (map (λ core. ready_row (users + core)) (numbers cores)) (map ready_row (numbers users)) cores i (ready_row 0) (length-map-range_with_len (λ core. ready_row (users + core)) 0 cores) high
+      get_or-append_right (map (λ core. ready_row (users + core)) (numbers cores)) (map ready_row (numbers users)) cores i (ready_row 0)
+      (length-map-range_with_len (λ core. ready_row (users + core)) 0 cores) high
       ∙ get_or-map-range_with_len ready_row 0 users (i - cores) (i - cores) (ready_row 0) (omega arith) (omega arith)
 
   -- the stamp of each task, and whose stamp each is
@@ -116,14 +119,16 @@ module _ (header : Header) where
   holders_low a (suc n) fits =
       let here : holder a ≡ cores + a = grind (arith, nat_tests, fits) in
       let shifted : cores + (a + 1) ≡ (cores + a) + 1 = omega arith in
-      ap (λ i. i ∷ map holder (range_with_len (a + 1) n)) here ∙ ap (λ rest. (cores + a) ∷ rest) (holders_low (a + 1) n (omega arith) ∙ ap (λ k. range_with_len k n) shifted)
+      ap (λ i. i ∷ map holder (range_with_len (a + 1) n)) here ∙ ap (λ rest. (cores + a) ∷ rest)
+      (holders_low (a + 1) n (omega arith) ∙ ap (λ k. range_with_len k n) shifted)
 
   holders_high : (a n : ℕ) → users ≤ a → map holder (range_with_len a n) ≡ range_with_len (a - users) n
   holders_high a zero high = refl
   holders_high a (suc n) high =
       let here : holder a ≡ a - users = grind (arith, nat_tests, high) in
       let shifted : (a + 1) - users ≡ (a - users) + 1 = omega arith in
-      ap (λ i. i ∷ map holder (range_with_len (a + 1) n)) here ∙ ap (λ rest. (a - users) ∷ rest) (holders_high (a + 1) n (omega arith) ∙ ap (λ k. range_with_len k n) shifted)
+      ap (λ i. i ∷ map holder (range_with_len (a + 1) n)) here ∙ ap (λ rest. (a - users) ∷ rest)
+      (holders_high (a + 1) n (omega arith) ∙ ap (λ k. range_with_len k n) shifted)
 
   -- the user tasks in header order, then the idle tasks
   holders_all : map holder (numbers (cores + users)) ≡ range_with_len cores users ++ numbers cores
@@ -133,18 +138,22 @@ module _ (header : Header) where
       let from : 0 + users ≡ users = omega arith in
       let none : users - users ≡ 0 = omega arith in
       let high = ap (λ k. map holder (range_with_len k cores)) from ∙ holders_high users cores (omega arith) ∙ ap (λ k. range_with_len k cores) none in
-      ap (λ n. map holder (numbers n)) sum ∙ ap (map holder) (range_parts 0 users cores) ∙ map-append holder (range_with_len 0 users) (range_with_len (0 + users) cores) ∙ ap (λ xs. xs ++ map holder (range_with_len (0 + users) cores)) low ∙ ap (λ ys. range_with_len cores users ++ ys) high
+      ap (λ n. map holder (numbers n)) sum ∙ ap (map holder) (range_parts 0 users cores) ∙ map-append holder (range_with_len 0 users)
+      (range_with_len (0 + users) cores) ∙ ap (λ xs. xs ++ map holder (range_with_len (0 + users) cores)) low ∙ ap (λ ys. range_with_len cores users ++ ys)
+      high
 
   ready_first : standing_so stands_ready first ≡ range_with_len cores users ++ numbers cores
   ready_first =
       ap (λ n. by_stamp (stamp_of first) (λ i. stands_ready (row_at first i).standing) (numbers n) first.next) first_length
       ∙ ap (λ bound. by_stamp (stamp_of first) (λ i. stands_ready (row_at first i).standing) (numbers (cores + users)) bound) first_next
-      ∙ by_stamp_listed (stamp_of first) holder (λ i. stands_ready (row_at first i).standing) (cores + users) (cores + users) (λ i low. ap stands_ready (standing_first i low)) holders first_once
+      ∙ by_stamp_listed (stamp_of first) holder (λ i. stands_ready (row_at first i).standing) (cores + users) (cores + users)
+      (λ i low. ap stands_ready (standing_first i low)) holders first_once
       ∙ holders_all
 
   none_first : (test : TaskState → Bool) → test Ready ≡ false → standing_so test first ≡ []
   none_first test fails = by_stamp_none (stamp_of first) (λ i. test (row_at first i).standing) (numbers (length first.rows)) first.next
-      (All-weaker (λ i. i < length first.rows) (λ i. test (row_at first i).standing ≡ false) (λ i low. ap test (standing_first i (omega (arith, first_length))) ∙ fails) (numbers (length first.rows)) (numbers_below (length first.rows)))
+      (All-weaker (λ i. i < length first.rows) (λ i. test (row_at first i).standing ≡ false)
+      (λ i low. ap test (standing_first i (omega (arith, first_length))) ∙ fails) (numbers (length first.rows)) (numbers_below (length first.rows)))
 
   -- seen as lists, before any core has selected
   first_seen : lists_of (first_control header) first ≡ first_lists header
@@ -172,7 +181,8 @@ module _ (header : Header) where
   first_placed = record {
     is_task = λ c low. omega (arith, first_cores, first_length, first_current c (omega (arith, first_cores)));
     on_one_core = λ c d low high same. omega (arith, first_current c (omega (arith, first_cores)), first_current d (omega (arith, first_cores)), same);
-    blocked_is_due = λ c low waits. absurd (cc (first_ready (current (first_control header) c) (omega (arith, first_cores, first_current c (omega (arith, first_cores)))), waits));
+    blocked_is_due = λ c low waits. absurd (cc
+        (first_ready (current (first_control header) c) (omega (arith, first_cores, first_current c (omega (arith, first_cores)))), waits));
     idle_is_ready = λ i low. first_ready i (omega (arith, first_cores));
   }
 
@@ -199,7 +209,8 @@ module _ (header : Header) where
 
   first_words : HasWords (replicate ((cores + users) * header.config.notes) no_note)
   first_words i low =
-      let at = get_or-replicate ((cores + users) * header.config.notes) i no_note no_note (omega (arith, low, length-replicate ((cores + users) * header.config.notes) no_note)) in
+      let at = get_or-replicate ((cores + users) * header.config.notes) i no_note no_note
+      (omega (arith, low, length-replicate ((cores + users) * header.config.notes) no_note)) in
       omega (arith, ap (λ (n : Notification). n.value) at)
 
   pub first_sound : IsWithinLimits header → IsConsistent (unstarted first header)
@@ -227,15 +238,20 @@ module _ (header : Header) where
   }
 
 -- cores that switch in turn, from a sound table
-in_turn_rest : (core : ℕ) (cores : List ℕ) (table : Table) → AllByRecursion (λ c. c < length table.control.cores) cores → AllByRecursion (λ c. c < length (after_switch stamp_queues core table).control.cores) cores
-in_turn_rest core cores table all = All-weaker (λ c. c < length table.control.cores) (λ c. c < length (after_switch stamp_queues core table).control.cores) (λ c h. omega (arith, after_switch_length core table)) cores all
+in_turn_rest : (core : ℕ) (cores : List ℕ) (table : Table) → AllByRecursion (λ c. c < length table.control.cores) cores → AllByRecursion
+    (λ c. c < length (after_switch stamp_queues core table).control.cores) cores
+in_turn_rest core cores table all = All-weaker (λ c. c < length table.control.cores) (λ c. c < length (after_switch stamp_queues core table).control.cores)
+    (λ c h. omega (arith, after_switch_length core table)) cores all
 
-in_turn_sound : (cores : List ℕ) (table : Table) → AllByRecursion (λ c. c < length table.control.cores) cores → IsConsistent table → IsConsistent (fold (λ table core. after_switch stamp_queues core table) table cores)
+in_turn_sound : (cores : List ℕ) (table : Table) → AllByRecursion (λ c. c < length table.control.cores) cores → IsConsistent table → IsConsistent
+    (fold (λ table core. after_switch stamp_queues core table) table cores)
 in_turn_sound [] table all sound = sound
 in_turn_sound (core ∷ cores) table all sound =
-    in_turn_sound cores (after_switch stamp_queues core table) (in_turn_rest core cores table all.1) (after_switch_sound table core sound (omega (arith, sound.sized.cores, all.0)))
+    in_turn_sound cores (after_switch stamp_queues core table) (in_turn_rest core cores table all.1)
+    (after_switch_sound table core sound (omega (arith, sound.sized.cores, all.0)))
 
-in_turn_seen : (cores : List ℕ) (table : Table) → AllByRecursion (λ c. c < length table.control.cores) cores → IsConsistent table → view_of (fold (λ table core. after_switch stamp_queues core table) table cores) ≡ fold (λ view core. after_switch list_queues core view) (view_of table) cores
+in_turn_seen : (cores : List ℕ) (table : Table) → AllByRecursion (λ c. c < length table.control.cores) cores → IsConsistent table → view_of
+    (fold (λ table core. after_switch stamp_queues core table) table cores) ≡ fold (λ view core. after_switch list_queues core view) (view_of table) cores
 in_turn_seen [] table all sound = refl
 in_turn_seen (core ∷ cores) table all sound =
     let low : core < table.settings.cores = omega (arith, sound.sized.cores, all.0) in
@@ -248,15 +264,19 @@ unstarted_cores header = first_cores header
 
 first_turns : (header : Header) → AllByRecursion (λ c. c < length (unstarted (first_stamps header) header).control.cores) (numbers header.config.cores)
 unfolding unstarted
-first_turns header = All-weaker (λ c. c < header.config.cores) (λ c. c < length (first_control header).cores) (λ c h. omega (arith, first_cores header)) (numbers header.config.cores) (numbers_below header.config.cores)
+first_turns header = All-weaker (λ c. c < header.config.cores) (λ c. c < length (first_control header).cores) (λ c h. omega (arith, first_cores header))
+    (numbers header.config.cores) (numbers_below header.config.cores)
 
 pub start_consistent : (header : Header) → header_check header ≡ Ok tt → IsConsistent (start header)
 unfolding started
-start_consistent header passes = in_turn_sound (numbers header.config.cores) (unstarted (first_stamps header) header) (first_turns header) (first_sound header (checked_header header passes))
+start_consistent header passes = in_turn_sound (numbers header.config.cores) (unstarted (first_stamps header) header) (first_turns header)
+    (first_sound header (checked_header header passes))
 
 unstarted_seen : (header : Header) → view_of (unstarted (first_stamps header) header) ≡ unstarted (first_lists header) header
 unfolding unstarted
-unstarted_seen header = same_state (settings_of header) (first_control header) (first_control header) (replicate (header.config.cores + length header.tasks) None) (replicate ((header.config.cores + length header.tasks) * header.config.notes) no_note) (replicate header.config.mutexes None) None _ _ refl (first_seen header)
+unstarted_seen header = same_state (settings_of header) (first_control header) (first_control header)
+    (replicate (header.config.cores + length header.tasks) None) (replicate ((header.config.cores + length header.tasks) * header.config.notes) no_note)
+    (replicate header.config.mutexes None) None _ _ refl (first_seen header)
 
 pub start_seen_lem : (header : Header) → header_check header ≡ Ok tt → view_of (start header) ≡ start_seen header
 unfolding started

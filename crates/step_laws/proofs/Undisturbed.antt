@@ -12,13 +12,14 @@ use Rattle.bench_types.specs.declared.note.Note.{Note}
 use Rattle.bench_types.specs.declared.note.Notification.{Notification}
 use Rattle.bench_types.specs.declared.reply.Reply.{Reply}
 use Rattle.bench_types.specs.declared.reply.Reply.TheVariants.{Blocked, Flag, Until}
-use Rattle.bench_types.specs.declared.step.Call.{Call}
-use Rattle.bench_types.specs.declared.step.Call.TheVariants.{DelayUntil}
+use Rattle.bench_types.specs.declared.step.BlockingCall.{BlockingCall}
+use Rattle.bench_types.specs.declared.step.BlockingCall.TheVariants as blocking
 use Rattle.bench_types.specs.declared.step.Unfinished.{Unfinished}
 use Rattle.bench_types.specs.declared.step.Unfinished.TheVariants.{Made}
 use Rattle.bench_model.specs.ControlFields.{with_task, with_base, with_in_use, in_use_set}
 use Rattle.bench_model.specs.Control.{Control, current, task_at, in_mask}
-use Rattle.bench_model.specs.Mutexes.{held_by, taken, inherited, waited_at, mutex_take, after_disinherit, disinherited, first_woken, mutex_give}
+use Rattle.bench_model.specs.Mutexes.{held_by, taken, inherited, waited_at, take_from, mutex_take, after_disinherit, disinherited, first_woken, give_from}
+use Rattle.bench_model.specs.Mutexes.{mutex_give}
 use Rattle.bench_model.specs.Notes.{note_at, is_waiting, notified, slot_of}
 use Rattle.bench_model.specs.Notifying.{timeout_of, notify, completed, awaited, state_forgotten, bits_cleared}
 use Rattle.bench_model.specs.Seek.{seek, wake, shares_its_time, sliced}
@@ -80,7 +81,8 @@ unfolding taken
 taken_undisturbed task mutex table = holders_undisturbed table _
 
 -- making a task ready
-readied_undisturbed : (table : Table) (task : ℕ) → task < length table.orders.rows → IsUndisturbed table (record table { orders = add_to_ready_list task table.orders })
+readied_undisturbed : (table : Table) (task : ℕ) → task < length table.orders.rows → IsUndisturbed table
+    (record table { orders = add_to_ready_list task table.orders })
 readied_undisturbed table task below = record {
   settings = refl;
   currents = λ c. refl;
@@ -94,15 +96,18 @@ pub wake_undisturbed : (acting task : ℕ) (table : Table) → task < length tab
 unfolding wake
 wake_undisturbed acting task table below =
     let other = seek acting task (in_mask table.control task) table.control in
-    undisturbed_then table (record table { control = other }) _ (asked_undisturbed table other (seek_more acting task (in_mask table.control task) table.control))
+    undisturbed_then table (record table { control = other }) _ (asked_undisturbed table other
+    (seek_more acting task (in_mask table.control task) table.control))
     (readied_undisturbed (record table { control = other }) task below)
 
-woken_undisturbed : (tasks : List ℕ) (table : Table) → AllByRecursion (λ task. task < length table.orders.rows) tasks → IsUndisturbed table (woken stamp_queues tasks table)
+woken_undisturbed : (tasks : List ℕ) (table : Table) → AllByRecursion (λ task. task < length table.orders.rows) tasks → IsUndisturbed table
+    (woken stamp_queues tasks table)
 woken_undisturbed [] table all = undisturbed table
 woken_undisturbed (task ∷ tasks) table all =
     let first = wake_undisturbed 0 task table all.0 in
     let later = wake stamp_queues 0 task table in
-    undisturbed_then table later _ first (woken_undisturbed tasks later (All-weaker (λ i. i < length table.orders.rows) (λ i. i < length later.orders.rows) (λ i low. subst (λ n. i < n) (sym first.rows) low) tasks all.1))
+    undisturbed_then table later _ first (woken_undisturbed tasks later
+    (All-weaker (λ i. i < length table.orders.rows) (λ i. i < length later.orders.rows) (λ i low. subst (λ n. i < n) (sym first.rows) low) tasks all.1))
 
 advanced_undisturbed : (table : Table) → IsUndisturbed table (record table { orders = advance table.orders })
 unfolding advance
@@ -110,7 +115,8 @@ advanced_undisturbed table = record { settings = refl; currents = λ c. refl; ro
 
 sliced_undisturbed : (table : Table) → IsUndisturbed table (sliced stamp_queues table)
 unfolding sliced
-sliced_undisturbed table = either_undisturbed table _ table table.settings.slicing (asked_undisturbed table _ (each_more 0 (shares_its_time stamp_queues table) table.control)) (undisturbed table)
+sliced_undisturbed table = either_undisturbed table _ table table.settings.slicing
+    (asked_undisturbed table _ (each_more 0 (shares_its_time stamp_queues table) table.control)) (undisturbed table)
 
 pub ticked_undisturbed : (table : Table) → IsUndisturbed table (ticked stamp_queues table)
 unfolding ticked
@@ -121,14 +127,16 @@ ticked_undisturbed table =
     (undisturbed_then table later woke (advanced_undisturbed table) (woken_undisturbed (due later.orders) later (due_below later.orders)))
     (sliced_undisturbed woke)
 
-pub notify_undisturbed : (acting : ℕ) (note : Note) (table : Table) → note.task < length table.orders.rows → IsUndisturbed table (notify stamp_queues acting note table)
+pub notify_undisturbed : (acting : ℕ) (note : Note) (table : Table) → note.task < length table.orders.rows → IsUndisturbed table
+    (notify stamp_queues acting note table)
 unfolding notify
 notify_undisturbed acting note table below =
     let slot = slot_of table.settings note.task note.index in
     let old = note_at table.notes slot in
-    let told = record table { notes = slice_set table.notes slot (notified note.action old) } in
+    let known = record table { notes = slice_set table.notes slot (notified note.action old) } in
     let first = notes_undisturbed table (slice_set table.notes slot (notified note.action old)) in
-    either_undisturbed table (wake stamp_queues acting note.task told) told (is_waiting old.state) (undisturbed_then table told _ first (wake_undisturbed acting note.task told below)) first
+    either_undisturbed table (wake stamp_queues acting note.task known) known (is_waiting old.state)
+    (undisturbed_then table known _ first (wake_undisturbed acting note.task known below)) first
 
 -- calls that set something
 in_use_undisturbed : (task priority : ℕ) (table : Table) → task < length table.orders.rows → IsUndisturbed table (in_use_set stamp_queues task priority table)
@@ -138,12 +146,19 @@ in_use_undisturbed task priority table below =
     let changed = record table { control = with_task task block table.control } in
     at (is_ready task table.orders) (block_undisturbed table task block) (readied_undisturbed changed task below)
   where
-    at : (b : Bool) → IsUndisturbed table (record table { control = with_in_use task priority table.control }) → IsUndisturbed (record table { control = with_in_use task priority table.control }) (record table { control = with_in_use task priority table.control; orders = add_to_ready_list task table.orders })
-        → IsUndisturbed table (record table { control = with_in_use task priority table.control; orders = cond b (add_to_ready_list task table.orders) table.orders })
+    at : (b : Bool) → IsUndisturbed table (record table { control = with_in_use task priority table.control }) → IsUndisturbed
+        (record table { control = with_in_use task priority table.control })
+        (record table { control = with_in_use task priority table.control; orders = add_to_ready_list task table.orders })
+        → IsUndisturbed table (record table {
+          control = with_in_use task priority table.control;
+          orders = cond b (add_to_ready_list task table.orders)
+              table.orders;
+        })
     at true first second = undisturbed_then table (record table { control = with_in_use task priority table.control }) _ first second
     at false first second = first
 
-pub priority_undisturbed : (acting task priority : ℕ) (table : Table) → task < length table.orders.rows → IsUndisturbed table (priority_set stamp_queues acting task priority table)
+pub priority_undisturbed : (acting task priority : ℕ) (table : Table) → task < length table.orders.rows → IsUndisturbed table
+    (priority_set stamp_queues acting task priority table)
 unfolding priority_set
 priority_undisturbed acting task priority table below =
     let block = task_at table.control task in
@@ -153,14 +168,17 @@ priority_undisturbed acting task priority table below =
     let ready = is_ready task table.orders in
     either_undisturbed table table _ (eqb new block.base) (undisturbed table)
     (undisturbed_then table later _
-    (undisturbed_then table based later (block_undisturbed table task (record block { base = new })) (in_use_undisturbed task (in_use_after block new) based below))
-    (asked_undisturbed later (yields_after_priority_set acting task block.base new ready later.control) (after_priority_set_more acting task block.base new ready later.control)))
+    (undisturbed_then table based later (block_undisturbed table task (record block { base = new }))
+    (in_use_undisturbed task (in_use_after block new) based below))
+    (asked_undisturbed later (yields_after_priority_set acting task block.base new ready later.control)
+    (after_priority_set_more acting task block.base new ready later.control)))
 
 pub affinity_undisturbed : (acting task mask : ℕ) (table : Table) → IsUndisturbed table (affinity_set stamp_queues acting task mask table)
 unfolding affinity_set
 affinity_undisturbed acting task mask table =
     let changed = record table { control = with_task task _ table.control } in
-    undisturbed_then table changed _ (block_undisturbed table task _) (asked_undisturbed changed _ (after_affinity_set_more acting task (is_ready task table.orders) changed.control))
+    undisturbed_then table changed _ (block_undisturbed table task _) (asked_undisturbed changed _
+    (after_affinity_set_more acting task (is_ready task table.orders) changed.control))
 
 pub off_undisturbed : (task : ℕ) (table : Table) → IsUndisturbed table (preemption_off stamp_queues task table)
 unfolding preemption_off
@@ -173,36 +191,42 @@ on_undisturbed acting task table =
     undisturbed_then table changed _ (block_undisturbed table task _) (asked_undisturbed changed _ (its_core_more acting task changed.control))
 
 -- giving a mutex
-after_disinherit_undisturbed : (acting task priority : ℕ) (table : Table) → task < length table.orders.rows → IsUndisturbed table (after_disinherit stamp_queues acting task priority table)
+after_disinherit_undisturbed : (acting task priority : ℕ) (table : Table) → task < length table.orders.rows → IsUndisturbed table
+    (after_disinherit stamp_queues acting task priority table)
 unfolding after_disinherit
 after_disinherit_undisturbed acting task priority table below =
     let later = in_use_set stamp_queues task priority table in
     either_undisturbed table table _ (eqb (task_at table.control task).in_use priority) (undisturbed table)
     (undisturbed_then table later _ (in_use_undisturbed task priority table below) (asked_undisturbed later _ (its_core_more acting task later.control)))
 
-pub inherited_undisturbed : (acting holder priority : ℕ) (table : Table) → holder < length table.orders.rows → IsUndisturbed table (inherited stamp_queues acting holder priority table)
+pub inherited_undisturbed : (acting holder priority : ℕ) (table : Table) → holder < length table.orders.rows → IsUndisturbed table
+    (inherited stamp_queues acting holder priority table)
 unfolding inherited
 inherited_undisturbed acting holder priority table below =
     let later = in_use_set stamp_queues holder priority table in
     let first = in_use_undisturbed holder priority table below in
     either_undisturbed table _ table (ltb (task_at table.control holder).in_use priority)
-    (either_undisturbed table _ later (is_ready holder table.orders) (undisturbed_then table later _ first (asked_undisturbed later _ (seek_more acting holder (in_mask later.control holder) later.control))) first)
+    (either_undisturbed table _ later (is_ready holder table.orders) (undisturbed_then table later _ first
+    (asked_undisturbed later _ (seek_more acting holder (in_mask later.control holder) later.control))) first)
     (undisturbed table)
 
 disinherited_undisturbed : (core task : ℕ) (table : Table) → task < length table.orders.rows → IsUndisturbed table (disinherited stamp_queues core task table)
 unfolding disinherited
 disinherited_undisturbed core task table below =
-    either_undisturbed table _ table (eqb (held_by table.holders task) 0) (after_disinherit_undisturbed core task (task_at table.control task).base table below) (undisturbed table)
+    either_undisturbed table _ table (eqb (held_by table.holders task) 0) (after_disinherit_undisturbed core task (task_at table.control task).base table below)
+    (undisturbed table)
 
 first_woken_undisturbed : (acting mutex : ℕ) (table : Table) → IsUndisturbed table (first_woken stamp_queues acting mutex table)
 unfolding first_woken
 first_woken_undisturbed acting mutex table = at (first_waiter mutex table.orders) refl
   where
-    at : (first : Option Waiter) → first_waiter mutex table.orders ≡ first → IsUndisturbed table (option_map_or (λ (waiter : Waiter). wake stamp_queues acting waiter.task table) first table)
+    at : (first : Option Waiter) → first_waiter mutex table.orders ≡ first → IsUndisturbed table
+        (option_map_or (λ (waiter : Waiter). wake stamp_queues acting waiter.task table) first table)
     at None same = undisturbed table
     at (Some waiter) same = wake_undisturbed acting waiter.task table (first_waiter_waits mutex table.orders waiter same).0
 
-pub give_undisturbed : (core task mutex : ℕ) (table : Table) → task < length table.orders.rows → IsUndisturbed table (mutex_give stamp_queues core task mutex table).1
+pub give_undisturbed : (core task mutex : ℕ) (table : Table) → task < length table.orders.rows → IsUndisturbed table
+    (mutex_give stamp_queues core task mutex table).1
 unfolding mutex_give
 give_undisturbed core task mutex table below = at (holder_at table.holders mutex)
   where
@@ -212,7 +236,7 @@ give_undisturbed core task mutex table below = at (holder_at table.holders mutex
     lower : Table
     lower = disinherited stamp_queues core task freed
 
-    at : (holder : Option ℕ) → IsUndisturbed table (option_map_or {U = Reply × Table} (λ holder. (Flag true, first_woken stamp_queues core mutex lower)) holder (Flag false, table)).1
+    at : (holder : Option ℕ) → IsUndisturbed table (give_from stamp_queues holder core task mutex table).1
     at None = undisturbed table
     at (Some holder) =
         undisturbed_then table lower _
@@ -224,14 +248,17 @@ pub yielded_undisturbed : (core : ℕ) (table : Table) → core < length table.c
 unfolding yielded
 yielded_undisturbed core table low = asked_undisturbed table _ (asked_more table.control core core low)
 
-pub until_undisturbed : (core task prev inc : ℕ) (table : Table) → core < length table.control.cores → is_ahead (tick_count table.orders) prev (next_wake prev inc) ≡ false → IsUndisturbed table (delayed_until stamp_queues core task prev inc table).1
+pub until_undisturbed : (core task prev inc : ℕ) (table : Table) → core < length table.control.cores → is_ahead (tick_count table.orders) prev
+    (next_wake prev inc) ≡ false → IsUndisturbed table (delayed_until stamp_queues core task prev inc table).1
 unfolding delayed_until
 until_undisturbed core task prev inc table low later = at (is_ahead (tick_count table.orders) prev wake) later
   where
     wake : ℕ
     wake = next_wake prev inc
 
-    at : (b : Bool) → b ≡ false → IsUndisturbed table (cond {A = Reply × Table} b (Until true wake, blocked stamp_queues core task (Made (DelayUntil prev inc)) (Some (ticks_to (tick_count table.orders) wake)) None table) (Until false wake, yielded stamp_queues core table)).1
+    at : (b : Bool) → b ≡ false → IsUndisturbed table (cond {A = Reply × Table} b
+        (Until true wake, blocked stamp_queues core task (Made (blocking.DelayUntil prev inc)) (Some (ticks_to (tick_count table.orders) wake)) None table)
+        (Until false wake, yielded stamp_queues core table)).1
     at true ahead = absurd (cc (ahead))
     at false ahead = yielded_undisturbed core table low
 
@@ -243,32 +270,36 @@ pub bits_undisturbed : (task bits index : ℕ) (table : Table) → IsUndisturbed
 unfolding bits_cleared
 bits_undisturbed task bits index table = notes_undisturbed table _
 
-pub completed_undisturbed : (task : ℕ) (call : Call) (table : Table) → IsUndisturbed table (completed task call table).1
+pub completed_undisturbed : (task : ℕ) (call : BlockingCall) (table : Table) → IsUndisturbed table (completed task call table).1
 completed_undisturbed task call table = let made = completed_notes task call table in subst (IsUndisturbed table) (sym made.1) (notes_undisturbed table made.0)
 
-pub timeout_undisturbed : (core task : ℕ) (call : Call) (ticks : ℕ) (begun : Bool × List Notification) (table : Table) → (begun.0 && ltb 0 ticks) ≡ false → IsUndisturbed table (awaited stamp_queues core task call ticks begun table).1
+pub timeout_undisturbed : (core task : ℕ) (call : BlockingCall) (ticks : ℕ) (entered : Bool × List Notification) (table : Table) → (entered.0 && ltb 0 ticks) ≡
+    false → IsUndisturbed table (awaited stamp_queues core task call ticks entered table).1
 unfolding awaited
-timeout_undisturbed core task call ticks begun table goes = at (begun.0 && ltb 0 ticks) goes
+timeout_undisturbed core task call ticks entered table goes = at (entered.0 && ltb 0 ticks) goes
   where
     waiting : Table
-    waiting = record table { notes = begun.1 }
+    waiting = record table { notes = entered.1 }
 
-    at : (b : Bool) → b ≡ false → IsUndisturbed table (cond {A = Reply × Table} b (Blocked, blocked stamp_queues core task (Made call) (timeout_of ticks) None waiting) (completed task call waiting)).1
+    at : (b : Bool) → b ≡ false → IsUndisturbed table (cond {A = Reply × Table} b
+        (Blocked, blocked stamp_queues core task (Made call) (timeout_of ticks) None waiting) (completed task call waiting)).1
     at true waits = absurd (cc (waits))
-    at false ends = undisturbed_then table waiting _ (notes_undisturbed table begun.1) (completed_undisturbed task call waiting)
+    at false ends = undisturbed_then table waiting _ (notes_undisturbed table entered.1) (completed_undisturbed task call waiting)
 
-pub take_undisturbed : (core task mutex ticks : ℕ) (table : Table) → (is_some (holder_at table.holders mutex) && ltb 0 ticks) ≡ false → IsUndisturbed table (mutex_take stamp_queues core task mutex ticks table).1
+pub take_undisturbed : (core task mutex ticks : ℕ) (table : Table) → (is_some (holder_at table.holders mutex) && ltb 0 ticks) ≡ false → IsUndisturbed table
+    (mutex_take stamp_queues core task mutex ticks table).1
 unfolding mutex_take
 take_undisturbed core task mutex ticks table goes = at (holder_at table.holders mutex) goes
   where
     waits : ℕ → Table
     waits holder = waited_at stamp_queues core task mutex holder (timeout_of ticks) table
 
-    held : (holder : ℕ) (b : Bool) → eqb ticks 0 ≡ b → ltb 0 ticks ≡ false → IsUndisturbed table (cond {A = Reply × Table} b (Flag false, table) (Blocked, waits holder)).1
+    held : (holder : ℕ) (b : Bool) → eqb ticks 0 ≡ b → ltb 0 ticks ≡ false → IsUndisturbed table
+        (cond {A = Reply × Table} b (Flag false, table) (Blocked, waits holder)).1
     held holder true none no_ticks = undisturbed table
     held holder false some no_ticks = absurd (grind (arith, nat_tests, some, no_ticks))
 
-    at : (holder : Option ℕ) → (is_some holder && ltb 0 ticks) ≡ false → IsUndisturbed table (option_map_or {U = Reply × Table} (λ holder. cond (eqb ticks 0) (Flag false, table) (Blocked, waits holder)) holder (Flag true, taken task mutex table)).1
+    at : (holder : Option ℕ) → (is_some holder && ltb 0 ticks) ≡ false → IsUndisturbed table (take_from stamp_queues holder core task mutex ticks table).1
     at None none = taken_undisturbed task mutex table
     at (Some holder) no_ticks = held holder (eqb ticks 0) refl no_ticks
 
@@ -279,7 +310,8 @@ held_well table later hold kept well = record {
   depth = well.depth;
   user = omega (arith, well.user, kept.currents hold.core, ap (λ (s : Settings). s.cores) kept.settings);
   ready = ap (λ i. is_ready i later.orders) (kept.currents hold.core) ∙ kept.ready (current table.control hold.core) well.ready;
-  no_call = ap (call_at later.calls) (kept.currents hold.core) ∙ ap (λ (calls : List (Option Unfinished)). call_at calls (current table.control hold.core)) kept.calls ∙ well.no_call;
+  no_call = ap (call_at later.calls) (kept.currents hold.core) ∙ ap (λ (calls : List (Option Unfinished)). call_at calls (current table.control hold.core))
+      kept.calls ∙ well.no_call;
 }
 
 pub hold_kept : (table later : Table) → IsUndisturbed table later → ForSome table.hold (IsHeldWell table) → ForSome later.hold (IsHeldWell later)

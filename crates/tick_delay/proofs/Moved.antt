@@ -1,5 +1,6 @@
 -- Tasks that wake later, one after the other: which list each stands in, and what the two lists stand for.
-use Rattle.std.proofs.Common.{◌≡◌, ◌≢◌, ℕ, zero, suc, ◌+◌, ◌-◌, ◌<◌, ◌≤◌, ◌%◌, ◌^◌, Bool, true, false, cond, not, ltb, leb, ◌||◌, List, [], ◌∷◌, ◌++◌, length, map, refl, sym, ap, subst, ◌∙◌, inl, inr, append_assoc, get_or-set_other, get_or-set_same, length-set, arith}
+use Rattle.std.proofs.Common.{◌≡◌, ◌≢◌, ℕ, zero, suc, ◌+◌, ◌-◌, ◌<◌, ◌≤◌, ◌%◌, ◌^◌, Bool, true, false, cond, not, ltb, leb, ◌||◌, List, [], ◌∷◌, ◌++◌, length}
+use Rattle.std.proofs.Common.{map, refl, sym, ap, subst, ◌∙◌, inl, inr, append_assoc, get_or-set_other, get_or-set_same, length-set, arith}
 use Rattle.std.specs.List.{filter, AllByRecursion}
 use Rattle.std.proofs.lemmas.List.{map-append, append-nil}
 use Rattle.std.proofs.lemmas.List.Elements.{filter-append}
@@ -416,7 +417,8 @@ module _ (by tasks tick turn : ℕ) (lists : ListsView) (shape : IsDelayShape ta
   in_order : IsOrdered wakes_first waits
   in_order = seen_ordered tasks tick (list_at lists turn) (list_at lists (1 - turn)) shape.tick_low shape.turns
 
-  this_made : list_at (all_later by (later_tick by tick) turn lists) turn ≡ map (listed_at (later_tick by tick)) (filter (wakes_this_turn (later_tick by tick)) waits)
+  this_made : list_at (all_later by (later_tick by tick) turn lists) turn ≡ map (listed_at (later_tick by tick))
+      (filter (wakes_this_turn (later_tick by tick)) waits)
   this_made = this_later by tick turn lists shape.tick_low shape.turn_low shape.both this_low next_low
 
   next_made : list_at (all_later by (later_tick by tick) turn lists) (1 - turn) ≡ map (listed_at (later_tick by tick))
@@ -439,7 +441,8 @@ module _ (by tasks tick turn : ℕ) (lists : ListsView) (shape : IsDelayShape ta
     turns = rw (this_made, next_made) (turns_of tasks (later_tick by tick) waits then_low still_waiting some_left in_order);
   }
 
-  pub seen_later : seen_delays tasks (later_tick by tick) turn (all_later by (later_tick by tick) turn lists) ≡ shifted_delays by (seen_delays tasks tick turn lists)
+  pub seen_later : seen_delays tasks (later_tick by tick) turn (all_later by (later_tick by tick) turn lists) ≡ shifted_delays by
+      (seen_delays tasks tick turn lists)
   seen_later =
       ap (λ ds. record { tasks = tasks; tick = later_tick by tick; turn = turn; delayed = ds })
       (ap (λ es. map (delayed_at (later_tick by tick)) (es ++ list_at (all_later by (later_tick by tick) turn lists) (1 - turn))) this_made

@@ -1,5 +1,6 @@
 -- Wakes that grow where no task has to go to the other list.
-use Rattle.std.proofs.Common.{◌≡◌, ℕ, zero, suc, ◌+◌, ◌-◌, ◌<◌, ◌≤◌, ◌%◌, ◌^◌, Bool, true, false, cond, not, ltb, leb, ◌&&◌, List, [], ◌∷◌, ◌++◌, length, map, get_or, Option, Some, None, refl, sym, ap, subst, ◌∙◌, inl, inr, arith}
+use Rattle.std.proofs.Common.{◌≡◌, ℕ, zero, suc, ◌+◌, ◌-◌, ◌<◌, ◌≤◌, ◌%◌, ◌^◌, Bool, true, false, cond, not, ltb, leb, ◌&&◌, List, [], ◌∷◌, ◌++◌, length, map}
+use Rattle.std.proofs.Common.{get_or, Option, Some, None, refl, sym, ap, subst, ◌∙◌, inl, inr, arith}
 use Rattle.std.specs.Prelude.{reverse}
 use Rattle.std.specs.List.{filter, AllByRecursion}
 use Rattle.std.specs.Option.{option_map_or}
@@ -60,100 +61,107 @@ module _ (p : ℕ → Bool) (P Q : Listed → Type 0) where
       )
 
 -- ---- both lists
-module _ (by tasks tick turn : ℕ) (lists : ListsView) (shape : IsDelayShape tasks tick turn lists) (stay : turns_stay by (later_tick by tick) turn lists ≡ true) where
-  abbrev then : ℕ
-  then = later_tick by tick
+module _ (by tasks tick turn : ℕ) (lists : ListsView) (shape : IsDelayShape tasks tick turn lists) (stay : turns_stay by (later_tick by tick) turn lists ≡ true)
+  where
+    abbrev then : ℕ
+    then = later_tick by tick
 
-  abbrev this : List Listed
-  this = list_at lists turn
+    abbrev this : List Listed
+    this = list_at lists turn
 
-  abbrev next : List Listed
-  next = list_at lists (1 - turn)
+    abbrev next : List Listed
+    next = list_at lists (1 - turn)
 
-  abbrev passed : Listed → Bool
-  passed e = ltb e.key then
+    abbrev passed : Listed → Bool
+    passed e = ltb e.key then
 
-  abbrev IsThis : Listed → Type 0
-  IsThis e = (tick ≤ e.key) × (e.key < 2 ^ 32)
+    abbrev IsThis : Listed → Type 0
+    IsThis e = (tick ≤ e.key) × (e.key < 2 ^ 32)
 
-  abbrev IsNext : Listed → Type 0
-  IsNext e = e.key < tick
+    abbrev IsNext : Listed → Type 0
+    IsNext e = e.key < tick
 
-  this_stays : (e x : Listed) → IsThis e → IsThis x → e.key ≤ x.key → leb then (later_tick by x.key) ≡ true → passed (later_wake by e) ≡ false
-  this_stays e x here last low passes =
-      let ends : then ≤ later_tick by x.key = grind (arith, nat_tests, passes) in
-      let h = here.0 in
-      let k = last.1 in
-      let is : then ≤ later_tick by e.key = omega (arith, h, k, low, ends) in
-      grind (arith, nat_tests, is)
+    this_stays : (e x : Listed) → IsThis e → IsThis x → e.key ≤ x.key → leb then (later_tick by x.key) ≡ true → passed (later_wake by e) ≡ false
+    this_stays e x here last low passes =
+        let ends : then ≤ later_tick by x.key = grind (arith, nat_tests, passes) in
+        let h = here.0 in
+        let k = last.1 in
+        let is : then ≤ later_tick by e.key = omega (arith, h, k, low, ends) in
+        grind (arith, nat_tests, is)
 
-  next_stays : (e x : Listed) → IsNext e → IsNext x → x.key ≤ e.key → ltb (later_tick by x.key) then ≡ true → passed (later_wake by e) ≡ true
-  next_stays e x here first low passes =
-      let ends : later_tick by x.key < then = grind (arith, nat_tests, passes) in
-      let tick_low = shape.tick_low in
-      let is : later_tick by e.key < then = omega (arith, here, tick_low, low, ends) in
-      grind (arith, nat_tests, is)
+    next_stays : (e x : Listed) → IsNext e → IsNext x → x.key ≤ e.key → ltb (later_tick by x.key) then ≡ true → passed (later_wake by e) ≡ true
+    next_stays e x here first low passes =
+        let ends : later_tick by x.key < then = grind (arith, nat_tests, passes) in
+        let tick_low = shape.tick_low in
+        let is : later_tick by e.key < then = omega (arith, here, tick_low, low, ends) in
+        grind (arith, nat_tests, is)
 
-  both_pass : (option_map_or (λ entry. leb then (later_tick by entry.1)) (last_entry this) true ≡ true)
-      × (option_map_or (λ entry. ltb (later_tick by entry.1) then) (first_entry next) true ≡ true)
-  both_pass = (grind (arith, stay), grind (arith, stay))
+    both_pass : (option_map_or (λ entry. leb then (later_tick by entry.1)) (last_entry this) true ≡ true)
+        × (option_map_or (λ entry. ltb (later_tick by entry.1) then) (first_entry next) true ≡ true)
+    both_pass = (grind (arith, stay), grind (arith, stay))
 
-  this_all : AllByRecursion (λ e. passed (later_wake by e) ≡ false) this
-  this_all = by_last (λ k. leb then (later_tick by k)) IsThis (λ e. passed (later_wake by e) ≡ false) this_stays this shape.turns.this_turn shape.turns.this_order both_pass.0
+    this_all : AllByRecursion (λ e. passed (later_wake by e) ≡ false) this
+    this_all = by_last (λ k. leb then (later_tick by k)) IsThis (λ e. passed (later_wake by e) ≡ false) this_stays this shape.turns.this_turn
+        shape.turns.this_order both_pass.0
 
-  next_all : AllByRecursion (λ e. passed (later_wake by e) ≡ true) next
-  next_all = by_first (λ k. ltb (later_tick by k) then) IsNext (λ e. passed (later_wake by e) ≡ true) next_stays next shape.turns.next_turn shape.turns.next_order both_pass.1
+    next_all : AllByRecursion (λ e. passed (later_wake by e) ≡ true) next
+    next_all = by_first (λ k. ltb (later_tick by k) then) IsNext (λ e. passed (later_wake by e) ≡ true) next_stays next shape.turns.next_turn
+        shape.turns.next_order both_pass.1
 
-  this_low : AllByRecursion (λ e. e.key < 2 ^ 32) this
-  this_low = All-weaker IsThis (λ e. e.key < 2 ^ 32) (λ e h. h.1) this shape.turns.this_turn
+    this_low : AllByRecursion (λ e. e.key < 2 ^ 32) this
+    this_low = All-weaker IsThis (λ e. e.key < 2 ^ 32) (λ e h. h.1) this shape.turns.this_turn
 
-  next_low : AllByRecursion (λ e. e.key < 2 ^ 32) next
-  next_low = let tick_low = shape.tick_low in All-weaker IsNext (λ e. e.key < 2 ^ 32) (λ e h. omega (arith, h, tick_low)) next shape.turns.next_turn
+    next_low : AllByRecursion (λ e. e.key < 2 ^ 32) next
+    next_low = let tick_low = shape.tick_low in All-weaker IsNext (λ e. e.key < 2 ^ 32) (λ e h. omega (arith, h, tick_low)) next shape.turns.next_turn
 
-  halves : (list_at (all_later by then turn lists) (1 - turn) ≡ later_of by passed this ++ later_of by passed next)
-      × (list_at (all_later by then turn lists) turn ≡ later_of by (λ e. not (passed e)) this ++ later_of by (λ e. not (passed e)) next)
-  halves = second_half by tick turn lists shape.tick_low shape.turn_low shape.both this_low next_low
+    halves : (list_at (all_later by then turn lists) (1 - turn) ≡ later_of by passed this ++ later_of by passed next)
+        × (list_at (all_later by then turn lists) turn ≡ later_of by (λ e. not (passed e)) this ++ later_of by (λ e. not (passed e)) next)
+    halves = second_half by tick turn lists shape.tick_low shape.turn_low shape.both this_low next_low
 
-  abbrev all_of : (Listed → Bool) → List Listed → List Listed
-  all_of p xs = filter (λ e. p (later_wake by e)) xs
+    abbrev all_of : (Listed → Bool) → List Listed → List Listed
+    all_of p xs = filter (λ e. p (later_wake by e)) xs
 
-  this_kept : list_at (all_later by then turn lists) turn ≡ map (later_wake by) this
-  this_kept =
-      halves.1
-      ∙ ap (λ es. map (later_wake by) es ++ later_of by (λ e. not (passed e)) next)
-      (filter_all (λ e. not (passed (later_wake by e))) this (All-weaker (λ e. passed (later_wake by e) ≡ false) (λ e. not (passed (later_wake by e)) ≡ true) (λ e h. ap not h) this this_all))
-      ∙ ap (λ es. map (later_wake by) this ++ map (later_wake by) es)
-      (filter_none (λ e. not (passed (later_wake by e))) next (All-weaker (λ e. passed (later_wake by e) ≡ true) (λ e. not (passed (later_wake by e)) ≡ false) (λ e h. ap not h) next next_all))
-      ∙ append-nil (map (later_wake by) this)
+    this_kept : list_at (all_later by then turn lists) turn ≡ map (later_wake by) this
+    this_kept =
+        halves.1
+        ∙ ap (λ es. map (later_wake by) es ++ later_of by (λ e. not (passed e)) next)
+        (filter_all (λ e. not (passed (later_wake by e))) this (All-weaker (λ e. passed (later_wake by e) ≡ false) (λ e. not (passed (later_wake by e)) ≡ true)
+        (λ e h. ap not h) this this_all))
+        ∙ ap (λ es. map (later_wake by) this ++ map (later_wake by) es)
+        (filter_none (λ e. not (passed (later_wake by e))) next (All-weaker (λ e. passed (later_wake by e) ≡ true) (λ e. not (passed (later_wake by e)) ≡ false)
+        (λ e h. ap not h) next next_all))
+        ∙ append-nil (map (later_wake by) this)
 
-  next_kept : list_at (all_later by then turn lists) (1 - turn) ≡ map (later_wake by) next
-  next_kept =
-      halves.0
-      ∙ ap (λ es. map (later_wake by) es ++ later_of by passed next) (filter_none (λ e. passed (later_wake by e)) this this_all)
-      ∙ ap (λ es. map (later_wake by) es) (filter_all (λ e. passed (later_wake by e)) next next_all)
+    next_kept : list_at (all_later by then turn lists) (1 - turn) ≡ map (later_wake by) next
+    next_kept =
+        halves.0
+        ∙ ap (λ es. map (later_wake by) es ++ later_of by passed next) (filter_none (λ e. passed (later_wake by e)) this this_all)
+        ∙ ap (λ es. map (later_wake by) es) (filter_all (λ e. passed (later_wake by e)) next next_all)
 
-  abbrev raised_all : List (List Listed)
-  raised_all = map (map (raised by)) lists.lists
+    abbrev raised_all : List (List Listed)
+    raised_all = map (map (raised by)) lists.lists
 
-  at_each : (l : ℕ) → l < 2 → list_at (all_later by then turn lists) l ≡ get_or raised_all l []
-  at_each l low = elim (cases_eq l turn) [
-    | inl same ↦ ap (list_at (all_later by then turn lists)) same ∙ this_kept ∙ sym (get_or-map (map (raised by)) lists.lists turn []) ∙ ap (λ n. get_or raised_all n []) (sym same)
-    | inr apart ↦ let other : l ≡ 1 - turn = (let turn_low = shape.turn_low in omega (arith, low, turn_low, apart)) in
-        ap (list_at (all_later by then turn lists)) other ∙ next_kept ∙ sym (get_or-map (map (raised by)) lists.lists (1 - turn) []) ∙ ap (λ n. get_or raised_all n []) (sym other)
-  ]
+    at_each : (l : ℕ) → l < 2 → list_at (all_later by then turn lists) l ≡ get_or raised_all l []
+    at_each l low = elim (cases_eq l turn) [
+      | inl same ↦ ap (list_at (all_later by then turn lists)) same ∙ this_kept ∙ sym (get_or-map (map (raised by)) lists.lists turn []) ∙ ap
+          (λ n. get_or raised_all n []) (sym same)
+      | inr apart ↦ let other : l ≡ 1 - turn = (let turn_low = shape.turn_low in omega (arith, low, turn_low, apart)) in
+          ap (list_at (all_later by then turn lists)) other ∙ next_kept ∙ sym (get_or-map (map (raised by)) lists.lists (1 - turn) []) ∙ ap
+          (λ n. get_or raised_all n []) (sym other)
+    ]
 
-  two_later : length (all_later by then turn lists).lists ≡ length lists.lists
-  two_later = some_two by then turn (1 - turn) (length next) (first_ones_later by then turn turn (length this) lists)
-      ∙ some_two by then turn turn (length this) lists
+    two_later : length (all_later by then turn lists).lists ≡ length lists.lists
+    two_later = some_two by then turn (1 - turn) (length next) (first_ones_later by then turn turn (length this) lists)
+        ∙ some_two by then turn turn (length this) lists
 
-  items_later : (all_later by then turn lists).items ≡ lists.items
-  items_later = some_items by then turn (1 - turn) (length next) (first_ones_later by then turn turn (length this) lists)
-      ∙ some_items by then turn turn (length this) lists
+    items_later : (all_later by then turn lists).items ≡ lists.items
+    items_later = some_items by then turn (1 - turn) (length next) (first_ones_later by then turn turn (length this) lists)
+        ∙ some_items by then turn turn (length this) lists
 
-  -- each task stands where it stood, with its later wake
-  pub raised_where_they_stand : record lists { lists = raised_all } ≡ all_later by then turn lists
-  raised_where_they_stand =
-      let rows : raised_all ≡ (all_later by then turn lists).lists =
-      sym (ext_get_or [] (all_later by then turn lists).lists raised_all (two_later ∙ sym (length-map lists.lists (map (raised by))))
-      (λ l low. at_each l (omega (arith, low, two_later, shape.both)))) in
-      ap (λ rs. record lists { lists = rs }) rows ∙ ap (λ n. record { items = n; lists = (all_later by then turn lists).lists }) (sym items_later)
+    -- each task stands where it stood, with its later wake
+    pub raised_where_they_stand : record lists { lists = raised_all } ≡ all_later by then turn lists
+    raised_where_they_stand =
+        let rows : raised_all ≡ (all_later by then turn lists).lists =
+        sym (ext_get_or [] (all_later by then turn lists).lists raised_all (two_later ∙ sym (length-map lists.lists (map (raised by))))
+        (λ l low. at_each l (omega (arith, low, two_later, shape.both)))) in
+        ap (λ rs. record lists { lists = rs }) rows ∙ ap (λ n. record { items = n; lists = (all_later by then turn lists).lists }) (sym items_later)

@@ -1,5 +1,6 @@
 -- What two lists by wakes keep, this turn's and the next one's, and the delays that they stand for.
-use Rattle.std.proofs.Common.{◌≡◌, ◌≢◌, ℕ, ◌+◌, ◌-◌, ◌<◌, ◌≤◌, ◌%◌, ◌^◌, ◌||◌, Bool, true, false, cond, not, eqb, ltb, leb, List, [], ◌∷◌, ◌++◌, map, Some, None, option_map, refl, sym, ap, subst, ◌∙◌, append_assoc, arith}
+use Rattle.std.proofs.Common.{◌≡◌, ◌≢◌, ℕ, ◌+◌, ◌-◌, ◌<◌, ◌≤◌, ◌%◌, ◌^◌, ◌||◌, Bool, true, false, cond, not, eqb, ltb, leb, List, [], ◌∷◌, ◌++◌, map, Some}
+use Rattle.std.proofs.Common.{None, option_map, refl, sym, ap, subst, ◌∙◌, append_assoc, arith}
 use Rattle.std.specs.List.{filter, find, insert, prefix_len, AllByRecursion, IsDistinct}
 use Rattle.std.proofs.lemmas.List.{map-append, append-nil}
 use Rattle.std.proofs.lemmas.List.Elements.{filter-append}
@@ -54,14 +55,16 @@ this_order_kept tick a b h k =
     let other = this_left tick b.key k.0 k.1 in
     ap (λ n. leb n (ticks_to tick b.key)) left ∙ ap (leb (a.key - tick)) other ∙ grind (arith, nat_tests, h.0, k.0)
 
-pub next_order_kept : (tick : ℕ) → tick < 2 ^ 32 → (a b : Listed) → InNext tick a → InNext tick b → wakes_first (delayed_at tick a) (delayed_at tick b) ≡ lowest_first a b
+pub next_order_kept : (tick : ℕ) → tick < 2 ^ 32 → (a b : Listed) → InNext tick a → InNext tick b → wakes_first (delayed_at tick a) (delayed_at tick b) ≡
+    lowest_first a b
 next_order_kept tick tick_low a b h k =
     let left = next_left tick a.key tick_low h in
     let other = next_left tick b.key tick_low k in
     ap (λ n. leb n (ticks_to tick b.key)) left ∙ ap (leb (a.key + 2 ^ 32 - tick)) other ∙ grind (arith, nat_tests, h, k, tick_low)
 
 -- an item goes to its place by its wake where it goes by its ticks left
-map-placed_in_order : (tick : ℕ) (P : Listed → Type 0) → ((a b : Listed) → P a → P b → wakes_first (delayed_at tick a) (delayed_at tick b) ≡ lowest_first a b) → (entry : Listed) (xs : List Listed) → P entry → AllByRecursion P xs → ranked lowest_first xs ≡ xs
+map-placed_in_order : (tick : ℕ) (P : Listed → Type 0) → ((a b : Listed) → P a → P b → wakes_first (delayed_at tick a) (delayed_at tick b) ≡ lowest_first a b) →
+    (entry : Listed) (xs : List Listed) → P entry → AllByRecursion P xs → ranked lowest_first xs ≡ xs
     → map (delayed_at tick) (placed lowest_first entry xs) ≡ placed wakes_first (delayed_at tick entry) (map (delayed_at tick) xs)
 map-placed_in_order tick P keeps entry xs here all order =
     let f = delayed_at tick in
@@ -73,40 +76,49 @@ map-placed_in_order tick P keeps entry xs here all order =
     ∙ ap (placed wakes_first (f entry)) (sym (map-ranked lowest_first wakes_first f P keeps xs all) ∙ ap (map f) order)
 
 -- an item is placed among the first of two lists where all of the second stay after it, and among the second where all of the first stay in front of it
-placed_left : (x : Delayed) (xs ys : List Delayed) → AllByRecursion (λ y. wakes_first y x ≡ false) ys → placed wakes_first x (xs ++ ys) ≡ placed wakes_first x xs ++ ys
+placed_left : (x : Delayed) (xs ys : List Delayed) → AllByRecursion (λ y. wakes_first y x ≡ false) ys → placed wakes_first x (xs ++ ys) ≡ placed wakes_first x
+    xs ++ ys
 unfolding placed
 placed_left x xs ys later =
     let p = λ (y : Delayed). wakes_first y x in
     let q = λ (y : Delayed). not (wakes_first y x) in
     let before : filter p (xs ++ ys) ≡ filter p xs = filter-append p xs ys ∙ ap (λ zs. filter p xs ++ zs) (filter_none p ys later) ∙ append-nil (filter p xs) in
-    let after : filter q (xs ++ ys) ≡ filter q xs ++ ys = filter-append q xs ys ∙ ap (λ zs. filter q xs ++ zs) (filter_all q ys (All-weaker (λ y. wakes_first y x ≡ false) (λ y. q y ≡ true) (λ y h. ap not h) ys later)) in
+    let after : filter q (xs ++ ys) ≡ filter q xs ++ ys = filter-append q xs ys ∙ ap (λ zs. filter q xs ++ zs)
+    (filter_all q ys (All-weaker (λ y. wakes_first y x ≡ false) (λ y. q y ≡ true) (λ y h. ap not h) ys later)) in
     ap (λ zs. zs ++ x ∷ filter q (xs ++ ys)) before ∙ ap (λ zs. filter p xs ++ x ∷ zs) after ∙ sym (append_assoc (filter p xs) (x ∷ filter q xs) ys)
 
-placed_right : (x : Delayed) (xs ys : List Delayed) → AllByRecursion (λ y. wakes_first y x ≡ true) xs → placed wakes_first x (xs ++ ys) ≡ xs ++ placed wakes_first x ys
+placed_right : (x : Delayed) (xs ys : List Delayed) → AllByRecursion (λ y. wakes_first y x ≡ true) xs → placed wakes_first x (xs ++ ys) ≡ xs ++ placed
+    wakes_first x ys
 unfolding placed
 placed_right x xs ys sooner =
     let p = λ (y : Delayed). wakes_first y x in
     let q = λ (y : Delayed). not (wakes_first y x) in
     let before : filter p (xs ++ ys) ≡ xs ++ filter p ys = filter-append p xs ys ∙ ap (λ zs. zs ++ filter p ys) (filter_all p xs sooner) in
-    let after : filter q (xs ++ ys) ≡ filter q ys = filter-append q xs ys ∙ ap (λ zs. zs ++ filter q ys) (filter_none q xs (All-weaker (λ y. wakes_first y x ≡ true) (λ y. q y ≡ false) (λ y h. ap not h) xs sooner)) in
+    let after : filter q (xs ++ ys) ≡ filter q ys = filter-append q xs ys ∙ ap (λ zs. zs ++ filter q ys)
+    (filter_none q xs (All-weaker (λ y. wakes_first y x ≡ true) (λ y. q y ≡ false) (λ y h. ap not h) xs sooner)) in
     ap (λ zs. zs ++ x ∷ filter q (xs ++ ys)) before ∙ ap (λ zs. (xs ++ filter p ys) ++ x ∷ zs) after ∙ append_assoc xs (filter p ys) (x ∷ filter q ys)
 
 -- one more task in the first of two lists, or in the second
-listing_came : (n : ℕ) (entry : Listed) (xs ys : List Listed) → IsListing n (items_of (xs ++ ys)) → ranked lowest_first xs ≡ xs → entry.item < n → has entry.item (items_of (xs ++ ys)) ≡ false → IsListing n (items_of (placed lowest_first entry xs ++ ys))
+listing_came : (n : ℕ) (entry : Listed) (xs ys : List Listed) → IsListing n (items_of (xs ++ ys)) → ranked lowest_first xs ≡ xs → entry.item < n → has
+    entry.item (items_of (xs ++ ys)) ≡ false → IsListing n (items_of (placed lowest_first entry xs ++ ys))
 listing_came n entry xs ys listing order low free =
     let item = λ (e : Listed). e.item in
     let index = prefix_len (λ other. lowest_first other entry) xs in
-    let moved = IsPermutation-map item (entry ∷ (xs ++ ys)) (insert xs index entry ++ ys) (IsPermutation-append_left ys (entry ∷ xs) (insert xs index entry) (IsPermutation-insert xs index entry)) in
+    let moved = IsPermutation-map item (entry ∷ (xs ++ ys)) (insert xs index entry ++ ys)
+    (IsPermutation-append_left ys (entry ∷ xs) (insert xs index entry) (IsPermutation-insert xs index entry)) in
     subst (λ entries. IsListing n (items_of (entries ++ ys))) (sym (placed_at lowest_first lowest_first-IsRank entry xs order))
-    (listing_permuted n (entry.item ∷ items_of (xs ++ ys)) (items_of (insert xs index entry ++ ys)) moved (listing_more n entry.item (items_of (xs ++ ys)) listing low free))
+    (listing_permuted n (entry.item ∷ items_of (xs ++ ys)) (items_of (insert xs index entry ++ ys)) moved
+    (listing_more n entry.item (items_of (xs ++ ys)) listing low free))
 
 listing_turned : (n : ℕ) (xs ys : List Listed) → IsListing n (items_of (xs ++ ys)) → IsListing n (items_of (ys ++ xs))
-listing_turned n xs ys listing = listing_permuted n (items_of (xs ++ ys)) (items_of (ys ++ xs)) (IsPermutation-map (λ (e : Listed). e.item) (xs ++ ys) (ys ++ xs) (IsPermutation-append_comm xs ys)) listing
+listing_turned n xs ys listing = listing_permuted n (items_of (xs ++ ys)) (items_of (ys ++ xs))
+    (IsPermutation-map (λ (e : Listed). e.item) (xs ++ ys) (ys ++ xs) (IsPermutation-append_comm xs ys)) listing
 
 has_turned : (task : ℕ) (xs ys : List Listed) → has task (items_of (xs ++ ys)) ≡ false → has task (items_of (ys ++ xs)) ≡ false
 has_turned task xs ys free =
     ap (has task) (map-append (λ (e : Listed). e.item) ys xs) ∙ list_any-append (λ m. eqb m task) (items_of ys) (items_of xs)
-    ∙ turned (has task (items_of xs)) (has task (items_of ys)) (sym (ap (has task) (map-append (λ (e : Listed). e.item) xs ys) ∙ list_any-append (λ m. eqb m task) (items_of xs) (items_of ys)) ∙ free)
+    ∙ turned (has task (items_of xs)) (has task (items_of ys)) (sym
+    (ap (has task) (map-append (λ (e : Listed). e.item) xs ys) ∙ list_any-append (λ m. eqb m task) (items_of xs) (items_of ys)) ∙ free)
   where
     turned : (a b : Bool) → (a || b) ≡ false → (b || a) ≡ false
     turned a b none = grind (arith, none)
@@ -125,7 +137,8 @@ module _ (tasks tick : ℕ) (this next : List Listed) (tick_low : tick < 2 ^ 32)
   seen = map (delayed_at tick) (this ++ next)
 
   pub all_low : AllByRecursion IsLow (this ++ next)
-  all_low = All-append IsLow this next (All-weaker (InThis tick) IsLow (λ e h. h.1) this turns.this_turn) (All-weaker (InNext tick) IsLow (λ e h. omega (arith, h, tick_low)) next turns.next_turn)
+  all_low = All-append IsLow this next (All-weaker (InThis tick) IsLow (λ e h. h.1) this turns.this_turn)
+      (All-weaker (InNext tick) IsLow (λ e h. omega (arith, h, tick_low)) next turns.next_turn)
 
   seen_parts : seen ≡ map (delayed_at tick) this ++ map (delayed_at tick) next
   seen_parts = map-append (delayed_at tick) this next
@@ -134,7 +147,8 @@ module _ (tasks tick : ℕ) (this next : List Listed) (tick_low : tick < 2 ^ 32)
   free_item : (task : ℕ) → is_waiting task seen ≡ false → has task (items_of (this ++ next)) ≡ false
   free_item task free = ap (has task) (sym (tasks_seen tick (this ++ next))) ∙ not_among task seen free
 
-  pub came_this : (task ticks : ℕ) → task < tasks → is_waiting task seen ≡ false → tick + ticks < 2 ^ 32 → IsTwoTurns tasks tick (placed lowest_first (record { item = task; key = tick + ticks }) this) next
+  pub came_this : (task ticks : ℕ) → task < tasks → is_waiting task seen ≡ false → tick + ticks < 2 ^ 32 → IsTwoTurns tasks tick
+      (placed lowest_first (record { item = task; key = tick + ticks }) this) next
   came_this task ticks low free soon =
       let entry : Listed = record { item = task; key = tick + ticks } in record {
         waiting_tasks = listing_came tasks entry this next turns.waiting_tasks turns.this_order low (free_item task free);
@@ -144,38 +158,47 @@ module _ (tasks tick : ℕ) (this next : List Listed) (tick_low : tick < 2 ^ 32)
         next_order = turns.next_order;
       }
 
-  pub seen_this : (task ticks : ℕ) → tick + ticks < 2 ^ 32 → map (delayed_at tick) (placed lowest_first (record { item = task; key = tick + ticks }) this ++ next) ≡ placed wakes_first (record { task = task; left = ticks }) seen
+  pub seen_this : (task ticks : ℕ) → tick + ticks < 2 ^ 32 → map (delayed_at tick)
+      (placed lowest_first (record { item = task; key = tick + ticks }) this ++ next) ≡ placed wakes_first (record { task = task; left = ticks }) seen
   seen_this task ticks soon =
       let entry : Listed = record { item = task; key = tick + ticks } in
       let left : ticks_to tick (tick + ticks) ≡ ticks = omega (arith, soon) in
       let later : AllByRecursion (λ y. wakes_first y (record { task = task; left = ticks }) ≡ false) (map (delayed_at tick) next) =
       All-map (λ y. wakes_first y (record { task = task; left = ticks }) ≡ false) (delayed_at tick) next
-      (All-weaker (InNext tick) (λ e. wakes_first (delayed_at tick e) (record { task = task; left = ticks }) ≡ false) (λ e h. ap (λ n. leb n ticks) (next_left tick e.key tick_low h) ∙ grind (arith, nat_tests, soon, h, tick_low)) next turns.next_turn) in
+      (All-weaker (InNext tick) (λ e. wakes_first (delayed_at tick e) (record { task = task; left = ticks }) ≡ false)
+      (λ e h. ap (λ n. leb n ticks) (next_left tick e.key tick_low h) ∙ grind (arith, nat_tests, soon, h, tick_low)) next turns.next_turn) in
       map-append (delayed_at tick) (placed lowest_first entry this) next
-      ∙ ap (λ xs. xs ++ map (delayed_at tick) next) (map-placed_in_order tick (InThis tick) (this_order_kept tick) entry this (omega arith, soon) turns.this_turn turns.this_order)
+      ∙ ap (λ xs. xs ++ map (delayed_at tick) next) (map-placed_in_order tick (InThis tick) (this_order_kept tick) entry this (omega arith, soon)
+      turns.this_turn turns.this_order)
       ∙ ap (λ n. placed wakes_first (record { task = task; left = n }) (map (delayed_at tick) this) ++ map (delayed_at tick) next) left
       ∙ sym (placed_left (record { task = task; left = ticks }) (map (delayed_at tick) this) (map (delayed_at tick) next) later)
       ∙ ap (placed wakes_first (record { task = task; left = ticks })) (sym seen_parts)
 
-  pub came_next : (task ticks : ℕ) → task < tasks → is_waiting task seen ≡ false → ticks < 2 ^ 32 → 2 ^ 32 ≤ tick + ticks → IsTwoTurns tasks tick this (placed lowest_first (record { item = task; key = tick + ticks - 2 ^ 32 }) next)
+  pub came_next : (task ticks : ℕ) → task < tasks → is_waiting task seen ≡ false → ticks < 2 ^ 32 → 2 ^ 32 ≤ tick + ticks → IsTwoTurns tasks tick this
+      (placed lowest_first (record { item = task; key = tick + ticks - 2 ^ 32 }) next)
   came_next task ticks low free few late =
       let entry : Listed = record { item = task; key = tick + ticks - 2 ^ 32 } in record {
-        waiting_tasks = listing_turned tasks (placed lowest_first entry next) this (listing_came tasks entry next this (listing_turned tasks this next turns.waiting_tasks) turns.next_order low (has_turned task this next (free_item task free)));
+        waiting_tasks = listing_turned tasks (placed lowest_first entry next) this
+            (listing_came tasks entry next this (listing_turned tasks this next turns.waiting_tasks) turns.next_order low
+            (has_turned task this next (free_item task free)));
         this_turn = turns.this_turn;
         next_turn = All-placed lowest_first (InNext tick) entry next (omega (arith, few, late)) turns.next_turn;
         this_order = turns.this_order;
         next_order = ranked-placed lowest_first lowest_first-IsRank entry next turns.next_order;
       }
 
-  pub seen_next : (task ticks : ℕ) → ticks < 2 ^ 32 → 2 ^ 32 ≤ tick + ticks → map (delayed_at tick) (this ++ placed lowest_first (record { item = task; key = tick + ticks - 2 ^ 32 }) next) ≡ placed wakes_first (record { task = task; left = ticks }) seen
+  pub seen_next : (task ticks : ℕ) → ticks < 2 ^ 32 → 2 ^ 32 ≤ tick + ticks → map (delayed_at tick)
+      (this ++ placed lowest_first (record { item = task; key = tick + ticks - 2 ^ 32 }) next) ≡ placed wakes_first (record { task = task; left = ticks }) seen
   seen_next task ticks few late =
       let entry : Listed = record { item = task; key = tick + ticks - 2 ^ 32 } in
       let left : ticks_to tick (tick + ticks - 2 ^ 32) ≡ ticks = omega (arith, few, late, tick_low) in
       let sooner : AllByRecursion (λ y. wakes_first y (record { task = task; left = ticks }) ≡ true) (map (delayed_at tick) this) =
       All-map (λ y. wakes_first y (record { task = task; left = ticks }) ≡ true) (delayed_at tick) this
-      (All-weaker (InThis tick) (λ e. wakes_first (delayed_at tick e) (record { task = task; left = ticks }) ≡ true) (λ e h. ap (λ n. leb n ticks) (this_left tick e.key h.0 h.1) ∙ grind (arith, nat_tests, late, h.0, h.1)) this turns.this_turn) in
+      (All-weaker (InThis tick) (λ e. wakes_first (delayed_at tick e) (record { task = task; left = ticks }) ≡ true)
+      (λ e h. ap (λ n. leb n ticks) (this_left tick e.key h.0 h.1) ∙ grind (arith, nat_tests, late, h.0, h.1)) this turns.this_turn) in
       map-append (delayed_at tick) this (placed lowest_first entry next)
-      ∙ ap (λ xs. map (delayed_at tick) this ++ xs) (map-placed_in_order tick (InNext tick) (next_order_kept tick tick_low) entry next (omega (arith, few, late)) turns.next_turn turns.next_order)
+      ∙ ap (λ xs. map (delayed_at tick) this ++ xs) (map-placed_in_order tick (InNext tick) (next_order_kept tick tick_low) entry next
+      (omega (arith, few, late)) turns.next_turn turns.next_order)
       ∙ ap (λ n. map (delayed_at tick) this ++ placed wakes_first (record { task = task; left = n }) (map (delayed_at tick) next)) left
       ∙ sym (placed_right (record { task = task; left = ticks }) (map (delayed_at tick) this) (map (delayed_at tick) next) sooner)
       ∙ ap (placed wakes_first (record { task = task; left = ticks })) (sym seen_parts)
@@ -184,7 +207,8 @@ module _ (tasks tick : ℕ) (this next : List Listed) (tick_low : tick < 2 ^ 32)
   pub turns_without : (task : ℕ) → IsTwoTurns tasks tick (without_item task this) (without_item task next)
   turns_without task =
       let kept = λ (e : Listed). not (eqb e.item task) in record {
-        waiting_tasks = subst (λ ns. IsListing tasks ns) (filter-map (λ m. not (eqb m task)) (λ (e : Listed). e.item) (this ++ next) ∙ ap items_of (filter-append kept this next)) (listing_without tasks task (items_of (this ++ next)) turns.waiting_tasks);
+        waiting_tasks = subst (λ ns. IsListing tasks ns) (filter-map (λ m. not (eqb m task)) (λ (e : Listed). e.item) (this ++ next) ∙ ap items_of
+            (filter-append kept this next)) (listing_without tasks task (items_of (this ++ next)) turns.waiting_tasks);
         this_turn = All-filter (InThis tick) kept this turns.this_turn;
         next_turn = All-filter (InNext tick) kept next turns.next_turn;
         this_order = sym (filter-ranked lowest_first lowest_first-IsRank kept this) ∙ ap (without_item task) turns.this_order;
@@ -194,10 +218,12 @@ module _ (tasks tick : ℕ) (this next : List Listed) (tick_low : tick < 2 ^ 32)
   pub seen_without : (task : ℕ) → map (delayed_at tick) (without_item task this ++ without_item task next) ≡ without_delay task seen
   seen_without task =
       let kept = λ (e : Listed). not (eqb e.item task) in
-      ap (map (delayed_at tick)) (sym (filter-append kept this next)) ∙ sym (filter-map (λ (e : Delayed). not (eqb e.task task)) (delayed_at tick) (this ++ next))
+      ap (map (delayed_at tick)) (sym (filter-append kept this next)) ∙ sym
+      (filter-map (λ (e : Delayed). not (eqb e.task task)) (delayed_at tick) (this ++ next))
 
   -- ---- a tick
-  aged : (xs : List Listed) → AllByRecursion IsLow xs → AllByRecursion (λ (e : Delayed). 0 < e.left) (map (delayed_at tick) xs) → map one_tick_less (map (delayed_at tick) xs) ≡ map (delayed_at ((tick + 1) % 2 ^ 32)) xs
+  aged : (xs : List Listed) → AllByRecursion IsLow xs → AllByRecursion (λ (e : Delayed). 0 < e.left) (map (delayed_at tick) xs) → map one_tick_less
+      (map (delayed_at tick) xs) ≡ map (delayed_at ((tick + 1) % 2 ^ 32)) xs
   aged [] low some = refl
   aged (e ∷ xs) low some =
       ap (λ n. record { task = e.item; left = n } ∷ map one_tick_less (map (delayed_at tick) xs)) (one_less tick e.key tick_low low.0 some.0)
@@ -207,7 +233,8 @@ module _ (tasks tick : ℕ) (this next : List Listed) (tick_low : tick < 2 ^ 32)
   seen_aged none = aged (this ++ next) all_low (none_elapsed seen none)
 
   -- none of this turn is due now
-  none_now : (xs ys : List Listed) → AllByRecursion (InThis tick) xs → AllByRecursion (λ (e : Delayed). 0 < e.left) (map (delayed_at tick) (xs ++ ys)) → AllByRecursion (InThis (tick + 1)) xs
+  none_now : (xs ys : List Listed) → AllByRecursion (InThis tick) xs → AllByRecursion (λ (e : Delayed). 0 < e.left) (map (delayed_at tick) (xs ++ ys)) →
+      AllByRecursion (InThis (tick + 1)) xs
   none_now [] ys here some = tt
   none_now (e ∷ xs) ys here some =
       let left = this_left tick e.key here.0.0 here.0.1 in
@@ -239,41 +266,52 @@ module _ (tasks tick : ℕ) (this next : List Listed) (tick_low : tick < 2 ^ 32)
   }
 
   pub seen_wrap : (now : ℕ) → due_tasks seen ≡ [] → tick + 1 ≡ 2 ^ 32 → map (delayed_at now) (next ++ this) ≡ map (delayed_at now) (this ++ next)
-  seen_wrap now none wraps = ap (λ xs. map (delayed_at now) (next ++ xs)) (this_over none wraps) ∙ ap (map (delayed_at now)) (append-nil next) ∙ ap (λ xs. map (delayed_at now) (xs ++ next)) (sym (this_over none wraps))
+  seen_wrap now none wraps = ap (λ xs. map (delayed_at now) (next ++ xs)) (this_over none wraps) ∙ ap (map (delayed_at now)) (append-nil next) ∙ ap
+      (λ xs. map (delayed_at now) (xs ++ next)) (sym (this_over none wraps))
 
   -- ---- the lists by what they stand for
   back : (xs : List Listed) → AllByRecursion IsLow xs → map (listed_at tick) (map (delayed_at tick) xs) ≡ xs
   back [] low = refl
-  back (e ∷ xs) low = ap (λ n. record { item = e.item; key = n } ∷ map (listed_at tick) (map (delayed_at tick) xs)) (wake_back tick e.key tick_low low.0) ∙ ap (λ es. e ∷ es) (back xs low.1)
+  back (e ∷ xs) low = ap (λ n. record { item = e.item; key = n } ∷ map (listed_at tick) (map (delayed_at tick) xs)) (wake_back tick e.key tick_low low.0) ∙ ap
+      (λ es. e ∷ es) (back xs low.1)
 
   pub listed_back : map (listed_at tick) seen ≡ this ++ next
   listed_back = back (this ++ next) all_low
 
   this_wakes : AllByRecursion (λ e. wakes_this_turn tick (delayed_at tick e) ≡ true) this
-  this_wakes = All-weaker (InThis tick) (λ e. wakes_this_turn tick (delayed_at tick e) ≡ true) (λ e h. ap (λ n. ltb (tick + n) (2 ^ 32)) (this_left tick e.key h.0 h.1) ∙ grind (arith, nat_tests, h.0, h.1)) this turns.this_turn
+  this_wakes = All-weaker (InThis tick) (λ e. wakes_this_turn tick (delayed_at tick e) ≡ true)
+      (λ e h. ap (λ n. ltb (tick + n) (2 ^ 32)) (this_left tick e.key h.0 h.1) ∙ grind (arith, nat_tests, h.0, h.1)) this turns.this_turn
 
   next_wakes : AllByRecursion (λ e. wakes_this_turn tick (delayed_at tick e) ≡ false) next
-  next_wakes = All-weaker (InNext tick) (λ e. wakes_this_turn tick (delayed_at tick e) ≡ false) (λ e h. ap (λ n. ltb (tick + n) (2 ^ 32)) (next_left tick e.key tick_low h) ∙ grind (arith, nat_tests, h, tick_low)) next turns.next_turn
+  next_wakes = All-weaker (InNext tick) (λ e. wakes_this_turn tick (delayed_at tick e) ≡ false)
+      (λ e h. ap (λ n. ltb (tick + n) (2 ^ 32)) (next_left tick e.key tick_low h) ∙ grind (arith, nat_tests, h, tick_low)) next turns.next_turn
 
   pub this_is : map (listed_at tick) (filter (wakes_this_turn tick) seen) ≡ this
   this_is =
       let p = λ (e : Listed). wakes_this_turn tick (delayed_at tick e) in
-      ap (map (listed_at tick)) (filter-map (wakes_this_turn tick) (delayed_at tick) (this ++ next) ∙ ap (map (delayed_at tick)) (filter-append p this next ∙ ap (λ xs. xs ++ filter p next) (filter_all p this this_wakes) ∙ ap (λ xs. this ++ xs) (filter_none p next next_wakes) ∙ append-nil this))
+      ap (map (listed_at tick)) (filter-map (wakes_this_turn tick) (delayed_at tick) (this ++ next) ∙ ap (map (delayed_at tick))
+      (filter-append p this next ∙ ap (λ xs. xs ++ filter p next) (filter_all p this this_wakes) ∙ ap (λ xs. this ++ xs) (filter_none p next next_wakes) ∙
+      append-nil this))
       ∙ back this (All-weaker (InThis tick) IsLow (λ e h. h.1) this turns.this_turn)
 
   pub next_is : map (listed_at tick) (filter (λ d. not (wakes_this_turn tick d)) seen) ≡ next
   next_is =
       let p = λ (e : Listed). not (wakes_this_turn tick (delayed_at tick e)) in
-      ap (map (listed_at tick)) (filter-map (λ d. not (wakes_this_turn tick d)) (delayed_at tick) (this ++ next) ∙ ap (map (delayed_at tick)) (filter-append p this next ∙ ap (λ xs. xs ++ filter p next) (filter_none p this (All-weaker (λ e. wakes_this_turn tick (delayed_at tick e) ≡ true) (λ e. p e ≡ false) (λ e h. ap not h) this this_wakes)) ∙ filter_all p next (All-weaker (λ e. wakes_this_turn tick (delayed_at tick e) ≡ false) (λ e. p e ≡ true) (λ e h. ap not h) next next_wakes)))
+      ap (map (listed_at tick)) (filter-map (λ d. not (wakes_this_turn tick d)) (delayed_at tick) (this ++ next) ∙ ap (map (delayed_at tick))
+      (filter-append p this next ∙ ap (λ xs. xs ++ filter p next) (filter_none p this
+      (All-weaker (λ e. wakes_this_turn tick (delayed_at tick e) ≡ true) (λ e. p e ≡ false) (λ e h. ap not h) this this_wakes)) ∙ filter_all p next
+      (All-weaker (λ e. wakes_this_turn tick (delayed_at tick e) ≡ false) (λ e. p e ≡ true) (λ e h. ap not h) next next_wakes)))
       ∙ back next (All-weaker (InNext tick) IsLow (λ e h. omega (arith, h, tick_low)) next turns.next_turn)
 
   -- ---- who is due
   some_left_next : AllByRecursion (λ (e : Listed). eqb (ticks_to tick e.key) 0 ≡ false) next
-  some_left_next = All-weaker (InNext tick) (λ e. eqb (ticks_to tick e.key) 0 ≡ false) (λ e h. ap (λ n. eqb n 0) (next_left tick e.key tick_low h) ∙ grind (arith, nat_tests, h, tick_low)) next turns.next_turn
+  some_left_next = All-weaker (InNext tick) (λ e. eqb (ticks_to tick e.key) 0 ≡ false)
+      (λ e h. ap (λ n. eqb n 0) (next_left tick e.key tick_low h) ∙ grind (arith, nat_tests, h, tick_low)) next turns.next_turn
 
   none_due_of : (xs : List Listed) → AllByRecursion (λ (e : Listed). eqb (ticks_to tick e.key) 0 ≡ false) xs → due_tasks (map (delayed_at tick) xs) ≡ []
   unfolding due_tasks
-  none_due_of xs left = ap (map (λ (e : Delayed). e.task)) (filter_none (λ (e : Delayed). eqb e.left 0) (map (delayed_at tick) xs) (All-map (λ (e : Delayed). eqb e.left 0 ≡ false) (delayed_at tick) xs left))
+  none_due_of xs left = ap (map (λ (e : Delayed). e.task)) (filter_none (λ (e : Delayed). eqb e.left 0) (map (delayed_at tick) xs)
+      (All-map (λ (e : Delayed). eqb e.left 0 ≡ false) (delayed_at tick) xs left))
 
   pub due_empty : first_of this ≡ None → due_tasks seen ≡ []
   due_empty none = at this refl none
@@ -293,11 +331,14 @@ module _ (tasks tick : ℕ) (this next : List Listed) (tick_low : tick < 2 ^ 32)
       at (e ∷ xs) is first =
           let whole : seen ≡ delayed_at tick e ∷ map (delayed_at tick) (xs ++ next) = ap (λ ys. map (delayed_at tick) (ys ++ next)) is in
           let same : e.item ≡ task = same_Some e.item task first in
-          let found : left_in e.item (delayed_at tick e ∷ map (delayed_at tick) (xs ++ next)) ≡ Some (ticks_to tick e.key) = head_left tick e (map (delayed_at tick) (xs ++ next)) in
-          let none_left : ticks_to tick e.key ≡ 0 = same_Some (ticks_to tick e.key) 0 (sym found ∙ ap (left_in e.item) (sym whole) ∙ ap (λ t. left_in t seen) same ∙ ends) in
+          let found : left_in e.item (delayed_at tick e ∷ map (delayed_at tick) (xs ++ next)) ≡ Some (ticks_to tick e.key) = head_left tick e
+          (map (delayed_at tick) (xs ++ next)) in
+          let none_left : ticks_to tick e.key ≡ 0 = same_Some (ticks_to tick e.key) 0
+          (sym found ∙ ap (left_in e.item) (sym whole) ∙ ap (λ t. left_in t seen) same ∙ ends) in
           subst (λ t. due_tasks seen ≡ t ∷ due_tasks (without_delay t seen)) same
           (subst (λ ds. due_tasks ds ≡ e.item ∷ due_tasks (without_delay e.item ds)) (sym whole)
-          (first_is_due (delayed_at tick e) (map (delayed_at tick) (xs ++ next)) (subst (λ ds. IsDistinct eqb (map (λ (d : Delayed). d.task) ds)) whole once_seen) (ap (λ n. eqb n 0) none_left)))
+          (first_is_due (delayed_at tick e) (map (delayed_at tick) (xs ++ next))
+          (subst (λ ds. IsDistinct eqb (map (λ (d : Delayed). d.task) ds)) whole once_seen) (ap (λ n. eqb n 0) none_left)))
 
   pub due_later : (task : ℕ) → first_of this ≡ Some task → left_in task seen ≢ Some 0 → due_tasks seen ≡ []
   due_later task first left = at this refl first
@@ -307,17 +348,27 @@ module _ (tasks tick : ℕ) (this next : List Listed) (tick_low : tick < 2 ^ 32)
       at (e ∷ xs) is first =
           let whole : seen ≡ delayed_at tick e ∷ map (delayed_at tick) (xs ++ next) = ap (λ ys. map (delayed_at tick) (ys ++ next)) is in
           let same : e.item ≡ task = same_Some e.item task first in
-          let found : left_in e.item (delayed_at tick e ∷ map (delayed_at tick) (xs ++ next)) ≡ Some (ticks_to tick e.key) = head_left tick e (map (delayed_at tick) (xs ++ next)) in
+          let found : left_in e.item (delayed_at tick e ∷ map (delayed_at tick) (xs ++ next)) ≡ Some (ticks_to tick e.key) = head_left tick e
+          (map (delayed_at tick) (xs ++ next)) in
           let some : ticks_to tick e.key ≢ 0 = λ none. left (ap (λ t. left_in t seen) (sym same) ∙ ap (left_in e.item) whole ∙ found ∙ ap Some none) in
           let here = subst (AllByRecursion (InThis tick)) is turns.this_turn in
           let later = first_in_order lowest_first lowest_first-IsRank e xs (ap (ranked lowest_first) (sym is) ∙ turns.this_order ∙ is) in
           let ahead : tick < e.key = let is_left = this_left tick e.key here.0.0 here.0.1 in omega (arith, here.0.0, some, is_left) in
-          let others = All-weaker (λ y. InThis tick y × (lowest_first e y ≡ true)) (λ (y : Listed). eqb (ticks_to tick y.key) 0 ≡ false) (λ y h. ap (λ n. eqb n 0) (this_left tick y.key h.0.0 h.0.1) ∙ grind (arith, nat_tests, h.1, ahead)) xs (All-both (InThis tick) (λ y. lowest_first e y ≡ true) xs here.1 later) in
-          ap due_tasks whole ∙ none_due_of (e ∷ (xs ++ next)) (grind (arith, nat_tests, some), All-append (λ (y : Listed). eqb (ticks_to tick y.key) 0 ≡ false) xs next others some_left_next)
+          let others = All-weaker (λ y. InThis tick y × (lowest_first e y ≡ true)) (λ (y : Listed). eqb (ticks_to tick y.key) 0 ≡ false)
+          (λ y h. ap (λ n. eqb n 0) (this_left tick y.key h.0.0 h.0.1) ∙ grind (arith, nat_tests, h.1, ahead)) xs
+          (All-both (InThis tick) (λ y. lowest_first e y ≡ true) xs here.1 later) in
+          ap due_tasks whole ∙ none_due_of (e ∷ (xs ++ next)) (
+            grind (arith, nat_tests, some),
+            All-append (λ (y : Listed). eqb (ticks_to tick y.key) 0 ≡ false)
+                xs next others some_left_next,
+          )
 
 -- two pairs of lists are equal where they stand for the same delays
-pub same_turns : (tasks others tick : ℕ) (this next this2 next2 : List Listed) → tick < 2 ^ 32 → IsTwoTurns tasks tick this next → IsTwoTurns others tick this2 next2 → map (delayed_at tick) (this ++ next) ≡ map (delayed_at tick) (this2 ++ next2) → (this ≡ this2) × (next ≡ next2)
+pub same_turns : (tasks others tick : ℕ) (this next this2 next2 : List Listed) → tick < 2 ^ 32 → IsTwoTurns tasks tick this next → IsTwoTurns others tick this2
+    next2 → map (delayed_at tick) (this ++ next) ≡ map (delayed_at tick) (this2 ++ next2) → (this ≡ this2) × (next ≡ next2)
 same_turns tasks others tick this next this2 next2 low turns turns2 same = (
-  sym (this_is tasks tick this next low turns) ∙ ap (λ ds. map (listed_at tick) (filter (wakes_this_turn tick) ds)) same ∙ this_is others tick this2 next2 low turns2,
-  sym (next_is tasks tick this next low turns) ∙ ap (λ ds. map (listed_at tick) (filter (λ d. not (wakes_this_turn tick d)) ds)) same ∙ next_is others tick this2 next2 low turns2,
+  sym (this_is tasks tick this next low turns) ∙ ap (λ ds. map (listed_at tick) (filter (wakes_this_turn tick) ds)) same ∙ this_is others tick this2 next2 low
+      turns2,
+  sym (next_is tasks tick this next low turns) ∙ ap (λ ds. map (listed_at tick) (filter (λ d. not (wakes_this_turn tick d)) ds)) same ∙ next_is others tick
+      this2 next2 low turns2,
 )

@@ -32,7 +32,9 @@ unfolding due_tasks
 none_elapsed [] none = tt
 none_elapsed (entry ∷ waiting) none = at (eqb entry.left 0) refl none (none_elapsed waiting)
   where
-    at : (b : Bool) → eqb entry.left 0 ≡ b → map task_of (cond b (entry ∷ filter elapsed waiting) (filter elapsed waiting)) ≡ [] → (map task_of (filter elapsed waiting) ≡ [] → AllByRecursion (λ entry. 0 < entry.left) waiting) → (0 < entry.left) × AllByRecursion (λ entry. 0 < entry.left) waiting
+    at : (b : Bool) → eqb entry.left 0 ≡ b → map task_of (cond b (entry ∷ filter elapsed waiting) (filter elapsed waiting)) ≡ [] →
+        (map task_of (filter elapsed waiting) ≡ [] → AllByRecursion (λ entry. 0 < entry.left) waiting) → (0 < entry.left) × AllByRecursion
+        (λ entry. 0 < entry.left) waiting
     at true ends some rest = absurd (cc (some))
     at false left none rest = (grind (arith, nat_tests, left), rest none)
 
@@ -52,12 +54,14 @@ listing_permuted n tasks others permuted listing = record {
   once = IsDistinct-IsPermutation eqb (λ x y. grind (arith, nat_tests)) tasks others permuted listing.once;
 }
 
-others_kept : (task : ℕ) (waiting : List Delayed) → AllByRecursion (λ other. eqb task other ≡ false) (map task_of waiting) → without_delay task waiting ≡ waiting
+others_kept : (task : ℕ) (waiting : List Delayed) → AllByRecursion (λ other. eqb task other ≡ false) (map task_of waiting) → without_delay task waiting ≡
+    waiting
 others_kept task [] apart = refl
 others_kept task (entry ∷ waiting) apart = grind (arith, nat_tests, apart.0, others_kept task waiting apart.1)
 
 -- where it has none, it is the first of those that are due
-pub first_is_due : (entry : Delayed) (waiting : List Delayed) → IsDistinct eqb (map task_of (entry ∷ waiting)) → eqb entry.left 0 ≡ true → due_tasks (entry ∷ waiting) ≡ entry.task ∷ due_tasks (without_delay entry.task (entry ∷ waiting))
+pub first_is_due : (entry : Delayed) (waiting : List Delayed) → IsDistinct eqb (map task_of (entry ∷ waiting)) → eqb entry.left 0 ≡ true → due_tasks
+    (entry ∷ waiting) ≡ entry.task ∷ due_tasks (without_delay entry.task (entry ∷ waiting))
 unfolding due_tasks
 first_is_due entry waiting once ends =
     let rest = others_kept entry.task waiting (IsDistinct-head eqb entry.task (map task_of waiting) once) in

@@ -7,11 +7,39 @@ use Rattle.view_commands.specs.CommandLines.{WorkedAdvice, WorkedChecks, WorkedH
 
 pub traces : WorkedTraces
 unfolding clap_on_literals answered_in_words
-traces = record { bare = refl; from = refl; between = refl; hyphen_before_zero = refl; tasks_and_cores = refl; file = refl; file_before_options = refl; file_behind_options = refl; standard_input = refl; end_of_options = refl; settled = refl }
+traces = record {
+  bare = refl;
+  from = refl;
+  between = refl;
+  hyphen_before_zero = refl;
+  tasks_and_cores = refl;
+  file = refl;
+  file_before_options = refl;
+  file_behind_options = refl;
+  standard_input = refl;
+  end_of_options = refl;
+  settled = refl;
+}
 
 pub views : WorkedViews
 unfolding clap_on_literals answered_in_words
-views = record { session = refl; session_of_file = refl; settle = refl; compare = refl; compare_settled = refl; strict_session = refl; strict_settle = refl; strict_comparison = refl; picture = refl; picture_between = refl; picture_settled = refl; picture_by_ticks = refl; page = refl; page_settled = refl; page_by_ticks = refl }
+views = record {
+  session = refl;
+  session_of_file = refl;
+  settle = refl;
+  compare = refl;
+  compare_settled = refl;
+  strict_session = refl;
+  strict_settle = refl;
+  strict_comparison = refl;
+  picture = refl;
+  picture_between = refl;
+  picture_settled = refl;
+  picture_by_ticks = refl;
+  page = refl;
+  page_settled = refl;
+  page_by_ticks = refl;
+}
 
 pub checks : WorkedChecks
 unfolding clap_on_literals answered_in_words rsplit_once
@@ -23,7 +51,17 @@ advice = record { usual = refl; settled_best = refl; no_task = refl; no_number =
 
 pub helps : WorkedHelp
 unfolding clap_on_literals answered_in_words
-helps = record { of_program = refl; by_letter = refl; of_trace = refl; of_session = refl; of_settle = refl; of_compare = refl; of_timeline = refl; of_page = refl }
+helps = record {
+  of_program = refl;
+  by_letter = refl;
+  of_trace = refl;
+  of_session = refl;
+  of_settle = refl;
+  of_compare = refl;
+  of_timeline = refl;
+  of_page =
+      refl;
+}
 
 pub versions : WorkedVersions
 unfolding clap_on_literals answered_in_words
@@ -31,4 +69,32 @@ versions = record { of_program = refl; by_letter = refl; before_a_command = refl
 
 pub mistakes : WorkedMistakes
 unfolding clap_on_literals answered_in_words
-mistakes = record { no_command = refl; help_as_command = refl; version_of_a_command = refl; unknown_command = refl; option_before_command = refl; unknown_option = refl; no_value = refl; option_as_value = refl; negative_place = refl; place_too_great = refl; core_no_number = refl; two_first_places = refl; two_settles = refl; two_stricts = refl; strict_with_value = refl; settle_with_value = refl; two_files = refl; session_from_place = refl; settled_settle = refl; compared_task = refl; page_of_task = refl; unknown_axis = refl; unknown_axis_of_page = refl; picture_of_core = refl; no_text = refl }
+mistakes = record {
+  no_command = refl;
+  help_as_command = refl;
+  version_of_a_command = refl;
+  unknown_command = refl;
+  option_before_command = refl;
+  unknown_option
+      = refl;
+  no_value = refl;
+  option_as_value = refl;
+  negative_place = refl;
+  place_too_great = refl;
+  core_no_number = refl;
+  two_first_places = refl;
+  two_settles
+      = refl;
+  two_stricts = refl;
+  strict_with_value = refl;
+  settle_with_value = refl;
+  two_files = refl;
+  session_from_place = refl;
+  settled_settle = refl;
+  compared_task = refl;
+  page_of_task = refl;
+  unknown_axis = refl;
+  unknown_axis_of_page = refl;
+  picture_of_core = refl;
+  no_text = refl;
+}

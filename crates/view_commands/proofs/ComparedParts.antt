@@ -2,10 +2,11 @@
 use Rattle.std.proofs.Common.{◌≡◌, Bool, false, List, [], ◌∷◌, length, ◌==◌, Option, Some, refl}
 use Rattle.bench_types.specs.declared.edit.Edit.{Edit}
 use Rattle.bench_types.specs.Session.{Session}
-use Rattle.program_io.specs.Outputs.{Told}
+use Rattle.program_io.specs.Outputs.{Printed}
 use Rattle.view_commands.specs.PageViews.{IsCompared, IsComparison}
 
 -- where there are edits it is what was told
-pub compared_some : (settled : Bool) (session : Session) (edits : List Edit) (told : Told) → (length edits == 0) ≡ false → IsComparison settled session edits told → IsCompared settled session edits (Some told)
-compared_some settled session [] told some is = absurd (cc some)
-compared_some settled session (edit ∷ edits) told some is = record { told = told; is_told = is; is = refl }
+pub compared_some : (settled : Bool) (session : Session) (edits : List Edit) (printed : Printed) → (length edits == 0) ≡ false → IsComparison settled session
+    edits printed → IsCompared settled session edits (Some printed)
+compared_some settled session [] printed some is = absurd (cc some)
+compared_some settled session (edit ∷ edits) printed some is = record { printed = printed; is_printed = is; is = refl }

@@ -17,7 +17,8 @@ session_kept kept edit = at (is_ok (accepted kept.session edit))
     at false = refl
 
 -- one edit more was made, and the rest lead to the same
-pub rest_after : (all : Session) (kept next : CheckpointedSession) (edits : List Edit) (index : ℕ) (none : Edit) → index < length edits → next ≡ kept_after_edit kept (get_or edits index none)
+pub rest_after : (all : Session) (kept next : CheckpointedSession) (edits : List Edit) (index : ℕ) (none : Edit) → index < length edits → next ≡ kept_after_edit
+    kept (get_or edits index none)
     → after_edits kept.session (drop index edits) ≡ all → after_edits next.session (drop (index + 1) edits) ≡ all
 rest_after all kept next edits index none within made before =
     let edit = get_or edits index none in

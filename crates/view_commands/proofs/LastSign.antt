@@ -1,5 +1,6 @@
 -- Where a text is cut at the last of a character.
-use Rattle.std.proofs.Common.{◌≡◌, ℕ, zero, suc, ◌+◌, ◌-◌, ◌≤◌, ◌<◌, List, length, get_or, take, drop, Option, Some, None, MatchOption, refl, sym, ap, ◌∙◌, ⊎_elim, arith, Bor, eq-eqb, ne_eqb, length-drop, get_or-drop}
+use Rattle.std.proofs.Common.{◌≡◌, ℕ, zero, suc, ◌+◌, ◌-◌, ◌≤◌, ◌<◌, List, length, get_or, take, drop, Option, Some, None, MatchOption, refl, sym, ap, ◌∙◌}
+use Rattle.std.proofs.Common.{⊎_elim, arith, Bor, eq-eqb, ne_eqb, length-drop, get_or-drop}
 use Rattle.std.specs.Prelude.{option_map}
 use Rattle.std.specs.Path.{rfind_below, rsplit_once}
 use Rattle.std.specs.Str.Pattern.{RFindsChar}
@@ -11,7 +12,8 @@ none_below : (c : ℕ) (text : List ℕ) (n : ℕ) → ((i : ℕ) → i < n → 
 none_below c text zero h = refl
 none_below c text (suc n) h = cond-false _ _ _ (ne_eqb _ c (h n (omega arith))) ∙ none_below c text n (λ i l. h i (omega arith))
 
-last_below : (c : ℕ) (text : List ℕ) (k n : ℕ) → k < n → get_or text k 0 ≡ c → ((i : ℕ) → k < i → i < n → get_or text i 0 ≡ c → ⊥) → rfind_below c text n ≡ Some k
+last_below : (c : ℕ) (text : List ℕ) (k n : ℕ) → k < n → get_or text k 0 ≡ c → ((i : ℕ) → k < i → i < n → get_or text i 0 ≡ c → ⊥) → rfind_below c text n ≡ Some
+    k
 last_below c text k zero l at h = absurd (omega arith)
 last_below c text k (suc n) l at h =
     ⊎_elim
@@ -21,7 +23,8 @@ last_below c text k (suc n) l at h =
 
 -- what `str` gives is what is stated
 pub last_sign : (c : ℕ) (text : List ℕ) (r : Option (Bor (List ℕ) × Bor (List ℕ)))
-    → MatchOption r (RFindsChar c text None) (λ x. (i : ℕ) × (j : ℕ) × RFindsChar c text (Some (i, j)) × (x.0.now ≡ take i text) × (x.1.now ≡ drop j text) × (i ≤ j) × (length x.0.now ≡ i) × (length x.1.now + j ≡ length text))
+    → MatchOption r (RFindsChar c text None) (λ x. (i : ℕ) × (j : ℕ) × RFindsChar c text (Some (i, j)) × (x.0.now ≡ take i text) × (x.1.now ≡ drop j text) ×
+    (i ≤ j) × (length x.0.now ≡ i) × (length x.1.now + j ≡ length text))
     → c < 128 → option_map (λ x. (x.0.now, x.1.now)) r ≡ rsplit_once c text
 unfolding rsplit_once
 last_sign c text None h low =
@@ -32,7 +35,8 @@ last_sign c text (Some x) h low =
     let next : j ≡ i + 1 = omega (arith, h.2.1.ends, len_utf8_ascii c low) in
     let later : (k : ℕ) → i < k → k < length text → get_or text k 0 ≡ c → ⊥ = λ k a l e.
     let back : j + (k - j) ≡ k = omega arith in
-    NoCharPasses-char c (drop j text) (k - j) h.2.0 low (omega (arith, length-drop j text)) (get_or-drop j text (k - j) 0 ∙ ap (λ n. get_or text n 0) back ∙ e) in
+    NoCharPasses-char c (drop j text) (k - j) h.2.0 low (omega (arith, length-drop j text)) (get_or-drop j text (k - j) 0 ∙ ap (λ n. get_or text n 0) back ∙ e)
+    in
     let found = last_below c text i (length text) (omega (arith, h.7)) (h.2.1.byte low) later in
     let second = h.4 ∙ ap (λ n. drop n text) next in
     (λ t. Some (h.3 t, second t)) ∙ sym (ap (option_map (λ k. (take k text, drop (k + 1) text))) found)

@@ -1,9 +1,9 @@
-mod BothTold
+mod BothPrinted
 mod CommandLine
 mod CommandLines
 mod ComparedParts
 mod EditsKept
-mod Judged
+mod StrictOutputs
 mod LastSign
 mod MemoryRefused
 mod NamesFound
@@ -13,9 +13,9 @@ mod OneCheck
 mod OneReport
 mod OneView
 mod Outputs
-mod PagesTold
+mod PagesPrinted
 mod Pictures
-mod PicturesTold
-mod ReportsTold
-mod SettledTold
+mod PicturesPrinted
+mod ReportsPrinted
+mod SettledPrinted
 mod Texts

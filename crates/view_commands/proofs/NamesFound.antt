@@ -16,7 +16,8 @@ pub position_mapped : (p : List ℕ → Bool) (names : List (String Global)) →
 position_mapped p names =
     ap₂ (λ (k n : ℕ). if nat_lt k n then Some k else None) (prefix_mapped (λ word. not (p word)) names) (many_mapped names)
 
-pub name_at : (names : List (String Global)) (i : ℕ) (d : String Global) → i < length names → get_or (map string_bytes names) i [] ≡ string_bytes (get_or names i d)
+pub name_at : (names : List (String Global)) (i : ℕ) (d : String Global) → i < length names → get_or (map string_bytes names) i [] ≡ string_bytes
+    (get_or names i d)
 name_at [] i d within = absurd (omega (arith, within))
 name_at (name ∷ names) zero d within = refl
 name_at (name ∷ names) (suc i) d within = name_at names i d (omega (arith, within))

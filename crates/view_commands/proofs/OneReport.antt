@@ -9,36 +9,43 @@ use Rattle.session_reports.specs.Reports.{run_text, runs_text, IsReportOfRuns}
 use Rattle.session_reports.proofs.OneList.{figures_are_one}
 use Rattle.view_commands.specs.declared.request.ReportView.{ReportView}
 use Rattle.view_commands.specs.ReportViews.{IsReported, IsReportedAlone, IsReportedBeside}
-use Rattle.program_io.specs.Outputs.{Told, fine}
+use Rattle.program_io.specs.Outputs.{Printed, fine}
 
 -- a session that has figures is not too long
-pub not_too_long : {A : Type 0} (settled : Bool) (session : Session) (figures : List Figure) → AreFigures settled session figures → IsTooLong settled session → A
+pub not_too_long : {A : Type 0} (settled : Bool) (session : Session) (figures : List Figure) → AreFigures settled session figures → IsTooLong settled session →
+    A
 not_too_long true session figures are long = absurd (omega (arith, are.few, long are.settled))
 not_too_long false session figures are long = absurd long
 
-one_alone : (view : ReportView) (session : Session) (told other : Told) → IsReportedAlone view session told → IsReportedAlone view session other → told ≡ other
-one_alone view session told other (inl one) (inl two) =
+one_alone : (view : ReportView) (session : Session) (printed other : Printed) → IsReportedAlone view session printed → IsReportedAlone view session other →
+    printed ≡ other
+one_alone view session printed other (inl one) (inl two) =
     let same = figures_are_one view.settled session one.is_text.figures two.is_text.figures one.is_text.are two.is_text.are in
-    one.is_told ∙ ap (λ (text : List ℕ). fine text) (one.is_text.is ∙ ap (run_text view.form view.settled session.header) same ∙ sym two.is_text.is) ∙ sym two.is_told
-one_alone view session told other (inl one) (inr two) = not_too_long view.settled session one.is_text.figures one.is_text.are two.0
-one_alone view session told other (inr one) (inl two) = not_too_long view.settled session two.is_text.figures two.is_text.are one.0
-one_alone view session told other (inr one) (inr two) = one.1 ∙ sym two.1
+    one.is_printed ∙ ap (λ (text : List ℕ). fine text) (one.is_text.is ∙ ap (run_text view.form view.settled session.header) same ∙ sym two.is_text.is) ∙ sym
+    two.is_printed
+one_alone view session printed other (inl one) (inr two) = not_too_long view.settled session one.is_text.figures one.is_text.are two.0
+one_alone view session printed other (inr one) (inl two) = not_too_long view.settled session two.is_text.figures two.is_text.are one.0
+one_alone view session printed other (inr one) (inr two) = one.1 ∙ sym two.1
 
-neither_is_too_long : {A : Type 0} (view : ReportView) (session edited : Session) (text : List ℕ) → IsReportOfRuns view.form view.settled session edited text → IsTooLong view.settled session ⊎ IsTooLong view.settled edited → A
+neither_is_too_long : {A : Type 0} (view : ReportView) (session edited : Session) (text : List ℕ) → IsReportOfRuns view.form view.settled session edited text →
+    IsTooLong view.settled session ⊎ IsTooLong view.settled edited → A
 neither_is_too_long view session edited text is (inl long) = not_too_long view.settled session is.before is.are_before long
 neither_is_too_long view session edited text is (inr long) = not_too_long view.settled edited is.after is.are_after long
 
-one_beside : (view : ReportView) (session edited : Session) (told other : Told) → IsReportedBeside view session edited told → IsReportedBeside view session edited other → told ≡ other
-one_beside view session edited told other (inl one) (inl two) =
+one_beside : (view : ReportView) (session edited : Session) (printed other : Printed) → IsReportedBeside view session edited printed → IsReportedBeside view
+    session edited other → printed ≡ other
+one_beside view session edited printed other (inl one) (inl two) =
     let before = figures_are_one view.settled session one.is_text.before two.is_text.before one.is_text.are_before two.is_text.are_before in
     let after = figures_are_one view.settled edited one.is_text.after two.is_text.after one.is_text.are_after two.is_text.are_after in
-    one.is_told
-    ∙ ap (λ (text : List ℕ). fine text) (one.is_text.is ∙ ap₂ (λ (figures later : List Figure). runs_text view.form view.settled session.header figures later) before after ∙ sym two.is_text.is)
-    ∙ sym two.is_told
-one_beside view session edited told other (inl one) (inr two) = neither_is_too_long view session edited one.text one.is_text two.0
-one_beside view session edited told other (inr one) (inl two) = neither_is_too_long view session edited two.text two.is_text one.0
-one_beside view session edited told other (inr one) (inr two) = one.1 ∙ sym two.1
+    one.is_printed
+    ∙ ap (λ (text : List ℕ). fine text) (one.is_text.is ∙ ap₂ (λ (figures later : List Figure). runs_text view.form view.settled session.header figures later)
+    before after ∙ sym two.is_text.is)
+    ∙ sym two.is_printed
+one_beside view session edited printed other (inl one) (inr two) = neither_is_too_long view session edited one.text one.is_text two.0
+one_beside view session edited printed other (inr one) (inl two) = neither_is_too_long view session edited two.text two.is_text one.0
+one_beside view session edited printed other (inr one) (inr two) = one.1 ∙ sym two.1
 
-pub one_report : (view : ReportView) (session : Session) (edits : List Edit) (told other : Told) → IsReported view session edits told → IsReported view session edits other → told ≡ other
-one_report view session [] told other one two = one_alone view session told other one two
-one_report view session (edit ∷ edits) told other one two = one_beside view session (after_edits session (edit ∷ edits)) told other one two
+pub one_report : (view : ReportView) (session : Session) (edits : List Edit) (printed other : Printed) → IsReported view session edits printed → IsReported view
+    session edits other → printed ≡ other
+one_report view session [] printed other one two = one_alone view session printed other one two
+one_report view session (edit ∷ edits) printed other one two = one_beside view session (after_edits session (edit ∷ edits)) printed other one two

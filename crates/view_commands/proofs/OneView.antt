@@ -1,5 +1,6 @@
 -- One thing alone is told of each input.
-use Rattle.std.proofs.Common.{◌≡◌, ℕ, List, [], ◌∷◌, ◌++◌, length, Bool, true, false, Option, Some, Result, Ok, Err, nat_lt, inl, inr, refl, ap, ap₂, sym, subst, ◌∙◌}
+use Rattle.std.proofs.Common.{◌≡◌, ℕ, List, [], ◌∷◌, ◌++◌, length, Bool, true, false, Option, Some, Result, Ok, Err, nat_lt, inl, inr, refl, ap, ap₂, sym}
+use Rattle.std.proofs.Common.{subst, ◌∙◌}
 use Rattle.bench_types.specs.declared.edit.Edit.{Edit}
 use Rattle.bench_types.specs.declared.header.Header.{Header}
 use Rattle.bench_types.specs.declared.step.Step.{Step}
@@ -22,7 +23,7 @@ use Rattle.run_comparisons.specs.Shared.{shared_events}
 use Rattle.run_comparisons.specs.SideBySide.{first_places, AreSettledRows}
 use Rattle.run_comparisons.proofs.Compared.{neither_too_long}
 use Rattle.run_comparisons.proofs.OneText.{one_list, one_text}
-use Rattle.program_io.specs.Refusal.{IsToldFault, refusal_line, why_text}
+use Rattle.program_io.specs.Refusal.{IsPrintedFault, refusal_line, why_text}
 use Rattle.program_io.specs.Hint.{IsFaultHint}
 use Rattle.program_io.specs.Twice.{twice_note}
 use Rattle.program_io.specs.declared.output.OutputStatus.{OutputStatus}
@@ -33,10 +34,12 @@ use Rattle.view_commands.specs.declared.request.Job.{Job}
 use Rattle.view_commands.specs.declared.request.PageView.{PageView}
 use Rattle.view_commands.specs.declared.request.SettledView.{SettledView}
 use Rattle.view_commands.specs.declared.request.SettledView.TheVariants as settled
-use Rattle.view_commands.specs.Commands.{is_json, is_json_fault, too_long_input, too_many_steps, IsDone, IsRefusedOr, IsSame, IsTold, IsToldOfBench, IsToldOfText, IsView, IsWarned, ViewIsOne}
-use Rattle.view_commands.specs.PageViews.{as_table, page_told, IsCompared, IsComparison, IsPage, IsPictured, IsRun}
-use Rattle.view_commands.specs.SettledViews.{columns_after, columns_before, told_of_run, IsSettledPicture, IsSettledView, IsToldOfBoth, IsToldOfPair, IsToldOfPictures, IsToldOfSettled}
-use Rattle.program_io.specs.Outputs.{Told, noted, fine}
+use Rattle.view_commands.specs.Commands.{is_json, is_json_fault, too_long_input, too_many_steps, IsDone, IsRefusedOr, IsSame, IsPrinted, IsPrintedOfBench}
+use Rattle.view_commands.specs.Commands.{IsPrintedOfText, IsView, IsWarned, ViewIsOne}
+use Rattle.view_commands.specs.PageViews.{as_table, page_printed, IsCompared, IsComparison, IsPage, IsPictured, IsRun}
+use Rattle.view_commands.specs.SettledViews.{columns_after, columns_before, printed_of_run, IsSettledPicture, IsSettledView, IsPrintedOfBoth, IsPrintedOfPair}
+use Rattle.view_commands.specs.SettledViews.{IsPrintedOfPictures, IsPrintedOfSettled}
+use Rattle.program_io.specs.Outputs.{Printed, noted, fine}
 use Rattle.view_commands.specs.Refused.{refused_lines}
 use Rattle.view_commands.specs.Strict.{with_lines, IsJudged, IsRefusing, IsStrict}
 use Rattle.view_commands.proofs.OneAdvice.{one_advice}
@@ -44,161 +47,197 @@ use Rattle.view_commands.proofs.OneCheck.{one_check}
 use Rattle.view_commands.proofs.OneReport.{one_report}
 use Rattle.view_commands.specs.Views.{document_of, picture_of_run, picture_of_runs, trace_output}
 
-one_of_run : (shown : Session → Told) (session : Session) (told other : Told) → IsToldOfSettled shown session told → IsToldOfSettled shown session other → told ≡ other
-one_of_run shown session told other one two =
+one_of_run : (shown : Session → Printed) (session : Session) (printed other : Printed) → IsPrintedOfSettled shown session printed → IsPrintedOfSettled shown
+    session other → printed ≡ other
+one_of_run shown session printed other one two =
     let same = settled_run_is_one session.header session.steps one.run two.run one.left two.left one.settled two.settled in
-    one.is_told ∙ ap₂ (λ (run : List Step) (left : List WaitingCall). told_of_run shown session.header run left) same.0 same.1 ∙ sym two.is_told
+    one.is_printed ∙ ap₂ (λ (run : List Step) (left : List WaitingCall). printed_of_run shown session.header run left) same.0 same.1 ∙ sym two.is_printed
 
-one_of_both : (session : Session) (edits : List Edit) (told other : Told) → IsToldOfBoth session edits told → IsToldOfBoth session edits other → told ≡ other
-one_of_both session edits told other (inl one) (inl two) =
-    one.is_told ∙ ap (λ (text : List ℕ). fine text) (one_text session edits one.text two.text one.compares two.compares) ∙ sym two.is_told
-one_of_both session edits told other (inl one) (inr two) = absurd (one.room two.0)
-one_of_both session edits told other (inr one) (inl two) = absurd (two.room one.0)
-one_of_both session edits told other (inr one) (inr two) = one.1 ∙ sym two.1
+one_of_both : (session : Session) (edits : List Edit) (printed other : Printed) → IsPrintedOfBoth session edits printed → IsPrintedOfBoth session edits other →
+    printed ≡ other
+one_of_both session edits printed other (inl one) (inl two) =
+    one.is_printed ∙ ap (λ (text : List ℕ). fine text) (one_text session edits one.text two.text one.compares two.compares) ∙ sym two.is_printed
+one_of_both session edits printed other (inl one) (inr two) = absurd (one.room two.0)
+one_of_both session edits printed other (inr one) (inl two) = absurd (two.room one.0)
+one_of_both session edits printed other (inr one) (inr two) = one.1 ∙ sym two.1
 
 -- what is told of a picture of these runs
-abbrev told_of_runs : Extent → Header → Header → List Step → List Step → List Row → List WaitingCall → List WaitingCall → Told
-told_of_runs extent header edited run later rows left rest =
-    noted (picture_of_runs extent (record { header = header; steps = run; columns = columns_before extent.axis run later rows }) (record { header = edited; steps = later; columns = columns_after extent.axis run later rows })) (left_lines header edited left rest)
+abbrev printed_of_runs : Extent → Header → Header → List Step → List Step → List Row → List WaitingCall → List WaitingCall → Printed
+printed_of_runs extent header edited run later rows left rest =
+    noted (picture_of_runs extent (record { header = header; steps = run; columns = columns_before extent.axis run later rows })
+    (record { header = edited; steps = later; columns = columns_after extent.axis run later rows })) (left_lines header edited left rest)
 
-one_of_pairs : (extent : Extent) (session : Session) (edits : List Edit) (told other : Told) → IsToldOfPair extent session edits told → IsToldOfPair extent session edits other → told ≡ other
-one_of_pairs extent session edits told other one two =
+one_of_pairs : (extent : Extent) (session : Session) (edits : List Edit) (printed other : Printed) → IsPrintedOfPair extent session edits printed →
+    IsPrintedOfPair extent session edits other → printed ≡ other
+one_of_pairs extent session edits printed other one two =
     let edited = after_edits session edits in
-    let first = settled_run_is_one session.header session.steps one.pair.before.run.items two.pair.before.run.items one.pair.before.left.items two.pair.before.left.items one.settled.before two.settled.before in
-    let second = settled_run_is_one edited.header edited.steps one.pair.after.run.items two.pair.after.run.items one.pair.after.left.items two.pair.after.left.items one.settled.after two.settled.after in
+    let first = settled_run_is_one session.header session.steps one.pair.before.run.items two.pair.before.run.items one.pair.before.left.items
+    two.pair.before.left.items one.settled.before two.settled.before in
+    let second = settled_run_is_one edited.header edited.steps one.pair.after.run.items two.pair.after.run.items one.pair.after.left.items
+    two.pair.after.left.items one.settled.after two.settled.after in
     let aligned = subst (λ (run : List Step). AreSettledRows session edits one.pair.before.run.items run two.pair.rows.items) (sym second.0)
     (subst (λ (run : List Step). AreSettledRows session edits run two.pair.after.run.items two.pair.rows.items) (sym first.0) two.settled.rows) in
-    let rows = one_list one.pair.before.run.items one.pair.after.run.items (shared_events session edits one.pair.before.run.items one.pair.after.run.items) first_places one.pair.rows.items two.pair.rows.items one.settled.rows aligned in
-    let of_runs = told_of_runs extent session.header edited.header in
-    one.is_told
+    let rows = one_list one.pair.before.run.items one.pair.after.run.items (shared_events session edits one.pair.before.run.items one.pair.after.run.items)
+    first_places one.pair.rows.items two.pair.rows.items one.settled.rows aligned in
+    let of_runs = printed_of_runs extent session.header edited.header in
+    one.is_printed
     ∙ ap₂ (λ (run later : List Step). of_runs run later one.pair.rows.items one.pair.before.left.items one.pair.after.left.items) first.0 second.0
     ∙ ap (λ (shown : List Row). of_runs two.pair.before.run.items two.pair.after.run.items shown one.pair.before.left.items one.pair.after.left.items) rows
     ∙ ap₂ (λ (left rest : List WaitingCall). of_runs two.pair.before.run.items two.pair.after.run.items two.pair.rows.items left rest) first.1 second.1
-    ∙ sym two.is_told
+    ∙ sym two.is_printed
 
-one_of_pictures : (extent : Extent) (session : Session) (edits : List Edit) (told other : Told) → IsToldOfPictures extent session edits told → IsToldOfPictures extent session edits other → told ≡ other
-one_of_pictures extent session edits told other (inl one) (inl two) = one_of_pairs extent session edits told other one two
-one_of_pictures extent session edits told other (inl one) (inr two) = absurd (neither_too_long session edits one.pair one.settled two.0)
-one_of_pictures extent session edits told other (inr one) (inl two) = absurd (neither_too_long session edits two.pair two.settled one.0)
-one_of_pictures extent session edits told other (inr one) (inr two) = one.1 ∙ sym two.1
+one_of_pictures : (extent : Extent) (session : Session) (edits : List Edit) (printed other : Printed) → IsPrintedOfPictures extent session edits printed →
+    IsPrintedOfPictures extent session edits other → printed ≡ other
+one_of_pictures extent session edits printed other (inl one) (inl two) = one_of_pairs extent session edits printed other one two
+one_of_pictures extent session edits printed other (inl one) (inr two) = absurd (neither_too_long session edits one.pair one.settled two.0)
+one_of_pictures extent session edits printed other (inr one) (inl two) = absurd (neither_too_long session edits two.pair two.settled one.0)
+one_of_pictures extent session edits printed other (inr one) (inr two) = one.1 ∙ sym two.1
 
-one_picture : (extent : Extent) (session : Session) (edits : List Edit) (told other : Told) → IsSettledPicture extent session edits told → IsSettledPicture extent session edits other → told ≡ other
-one_picture extent session [] told other one two = one_of_run (picture_of_run extent) session told other one two
-one_picture extent session (edit ∷ edits) told other one two = one_of_pictures extent session (edit ∷ edits) told other one two
+one_picture : (extent : Extent) (session : Session) (edits : List Edit) (printed other : Printed) → IsSettledPicture extent session edits printed →
+    IsSettledPicture extent session edits other → printed ≡ other
+one_picture extent session [] printed other one two = one_of_run (picture_of_run extent) session printed other one two
+one_picture extent session (edit ∷ edits) printed other one two = one_of_pictures extent session (edit ∷ edits) printed other one two
 
-one_settled : (view : SettledView) (session : Session) (edits : List Edit) (told other : Told) → IsSettledView view session edits told → IsSettledView view session edits other → told ≡ other
-one_settled (settled.Trace selected) session edits told other one two = one_of_run (trace_output selected) (after_edits session edits) told other one two
-one_settled settled.Session session edits told other one two = one_of_run (λ run. fine (document_of run)) (after_edits session edits) told other one two
-one_settled settled.Compare session edits told other one two = one_of_both session edits told other one two
-one_settled (settled.Timeline extent) session edits told other one two = one_picture extent session edits told other one two
+one_settled : (view : SettledView) (session : Session) (edits : List Edit) (printed other : Printed) → IsSettledView view session edits printed → IsSettledView
+    view session edits other → printed ≡ other
+one_settled (settled.Trace selected) session edits printed other one two = one_of_run (trace_output selected) (after_edits session edits) printed other one two
+one_settled settled.Session session edits printed other one two = one_of_run (λ run. fine (document_of run)) (after_edits session edits) printed other one two
+one_settled settled.Compare session edits printed other one two = one_of_both session edits printed other one two
+one_settled (settled.Timeline extent) session edits printed other one two = one_picture extent session edits printed other one two
 
 -- ---- the parts of a page
 
-one_pictured : (settled : Bool) (extent : Extent) (session : Session) (edits : List Edit) (told other : Told) → IsPictured settled extent session edits told → IsPictured settled extent session edits other → told ≡ other
-one_pictured false extent session edits told other one two = one ∙ sym two
-one_pictured true extent session edits told other one two = one_picture extent session edits told other one two
+one_pictured : (settled : Bool) (extent : Extent) (session : Session) (edits : List Edit) (printed other : Printed) → IsPictured settled extent session edits
+    printed → IsPictured settled extent session edits other → printed ≡ other
+one_pictured false extent session edits printed other one two = one ∙ sym two
+one_pictured true extent session edits printed other one two = one_picture extent session edits printed other one two
 
-one_comparison : (settled : Bool) (session : Session) (edits : List Edit) (told other : Told) → IsComparison settled session edits told → IsComparison settled session edits other → told ≡ other
-one_comparison false session edits told other one two = one ∙ sym two
-one_comparison true session edits told other one two = one_of_both session edits told other one two
+one_comparison : (settled : Bool) (session : Session) (edits : List Edit) (printed other : Printed) → IsComparison settled session edits printed → IsComparison
+    settled session edits other → printed ≡ other
+one_comparison false session edits printed other one two = one ∙ sym two
+one_comparison true session edits printed other one two = one_of_both session edits printed other one two
 
-one_compared : (settled : Bool) (session : Session) (edits : List Edit) (part other : Option Told) → IsCompared settled session edits part → IsCompared settled session edits other → part ≡ other
+one_compared : (settled : Bool) (session : Session) (edits : List Edit) (part other : Option Printed) → IsCompared settled session edits part → IsCompared
+    settled session edits other → part ≡ other
 one_compared settled session [] part other one two = one ∙ sym two
 one_compared settled session (edit ∷ edits) part other one two =
-    one.is ∙ ap (λ (told : Told). Some told) (one_comparison settled session (edit ∷ edits) one.told two.told one.is_told two.is_told) ∙ sym two.is
+    one.is ∙ ap (λ (printed : Printed). Some printed) (one_comparison settled session (edit ∷ edits) one.printed two.printed one.is_printed two.is_printed) ∙
+    sym two.is
 
 one_run : (settled : Bool) (session : Session) (run other : List Step) → IsRun settled session run → IsRun settled session other → run ≡ other
 one_run false session run other one two = one ∙ sym two
 one_run true session run other one two = (settled_run_is_one session.header session.steps run other one.0 two.0 one.1 two.1).0
 
 -- what is told of a page of these parts
-abbrev page_by : PageView → Session → Told → Option Told → Told → List Step → Told
-page_by view session picture comparison report run = page_told view (record { picture = picture; comparison = comparison; report = report }) (with_steps session run)
+abbrev page_by : PageView → Session → Printed → Option Printed → Printed → List Step → Printed
+page_by view session picture comparison report run = page_printed view (record { picture = picture; comparison = comparison; report = report })
+    (with_steps session run)
 
-one_page : (view : PageView) (session : Session) (edits : List Edit) (told other : Told) → IsPage view session edits told → IsPage view session edits other → told ≡ other
-one_page view session edits told other one two =
+one_page : (view : PageView) (session : Session) (edits : List Edit) (printed other : Printed) → IsPage view session edits printed → IsPage view session edits
+    other → printed ≡ other
+one_page view session edits printed other one two =
     let edited = after_edits session edits in
     let picture = one_pictured view.settled view.extent session edits one.drawn.picture two.drawn.picture one.are.picture two.are.picture in
     let comparison = one_compared view.settled session edits one.drawn.comparison two.drawn.comparison one.are.comparison two.are.comparison in
     let report = one_report (as_table view.settled) session edits one.drawn.report two.drawn.report one.are.report two.are.report in
     let run = one_run view.settled edited one.page.run two.page.run one.page.is_run two.page.is_run in
-    one.page.is_told
-    ∙ ap₂ (λ (p : Told) (c : Option Told). page_by view edited p c one.drawn.report one.page.run) picture comparison
-    ∙ ap₂ (λ (r : Told) (steps : List Step). page_by view edited two.drawn.picture two.drawn.comparison r steps) report run
-    ∙ sym two.page.is_told
+    one.page.is_printed
+    ∙ ap₂ (λ (p : Printed) (c : Option Printed). page_by view edited p c one.drawn.report one.page.run) picture comparison
+    ∙ ap₂ (λ (r : Printed) (steps : List Step). page_by view edited two.drawn.picture two.drawn.comparison r steps) report run
+    ∙ sym two.page.is_printed
 
-one_told : (command : Command) (session : Session) (edits : List Edit) (told other : Told) → IsTold command session edits told → IsTold command session edits other → told ≡ other
-one_told (Plain view) session edits told other one two = one ∙ sym two
-one_told (Settled view) session edits told other one two = one_settled view session edits told other one two
-one_told (Report view) session edits told other one two = one_report view session edits told other one two
-one_told (Check view) session edits told other one two = one_check view (after_edits session edits) told other one two
-one_told (Advise question) session edits told other one two = one_advice question (after_edits session edits) told other one two
-one_told (Page view) session edits told other one two = one_page view session edits told other one two
+one_printed : (command : Command) (session : Session) (edits : List Edit) (printed other : Printed) → IsPrinted command session edits printed → IsPrinted
+    command session edits other → printed ≡ other
+one_printed (Plain view) session edits printed other one two = one ∙ sym two
+one_printed (Settled view) session edits printed other one two = one_settled view session edits printed other one two
+one_printed (Report view) session edits printed other one two = one_report view session edits printed other one two
+one_printed (Check view) session edits printed other one two = one_check view (after_edits session edits) printed other one two
+one_printed (Advise question) session edits printed other one two = one_advice question (after_edits session edits) printed other one two
+one_printed (Page view) session edits printed other one two = one_page view session edits printed other one two
 
 -- ---- judged
 
-one_strict : (Refused : Type 0) (status : OutputStatus) (told judged other : Told) → IsStrict Refused status told judged → IsStrict Refused status told other → judged ≡ other
-one_strict Refused Fine told judged other (inl one) (inl two) = one.1 ∙ sym two.1
-one_strict Refused Fine told judged other (inl one) (inr two) = absurd (two.0 one.0)
-one_strict Refused Fine told judged other (inr one) (inl two) = absurd (one.0 two.0)
-one_strict Refused Fine told judged other (inr one) (inr two) = one.1 ∙ sym two.1
-one_strict Refused Failed told judged other one two = one ∙ sym two
-one_strict Refused Unknown told judged other one two = one ∙ sym two
+one_strict : (Refused : Type 0) (status : OutputStatus) (printed judged other : Printed) → IsStrict Refused status printed judged → IsStrict Refused status
+    printed other → judged ≡ other
+one_strict Refused Fine printed judged other (inl one) (inl two) = one.1 ∙ sym two.1
+one_strict Refused Fine printed judged other (inl one) (inr two) = absurd (two.0 one.0)
+one_strict Refused Fine printed judged other (inr one) (inl two) = absurd (one.0 two.0)
+one_strict Refused Fine printed judged other (inr one) (inr two) = one.1 ∙ sym two.1
+one_strict Refused Failed printed judged other one two = one ∙ sym two
+one_strict Refused Unknown printed judged other one two = one ∙ sym two
 
-one_judged : (strict : Bool) (Refused : Type 0) (told judged other : Told) → IsJudged strict Refused told judged → IsJudged strict Refused told other → judged ≡ other
-one_judged false Refused told judged other one two = one ∙ sym two
-one_judged true Refused told judged other one two = one_strict Refused told.status told judged other one two
+one_judged : (strict : Bool) (Refused : Type 0) (printed judged other : Printed) → IsJudged strict Refused printed judged → IsJudged strict Refused printed
+    other → judged ≡ other
+one_judged false Refused printed judged other one two = one ∙ sym two
+one_judged true Refused printed judged other one two = one_strict Refused printed.status printed judged other one two
 
-one_done : (job : Job) (session : Session) (edits : List Edit) (told other : Told) → IsDone job session edits told → IsDone job session edits other → told ≡ other
-one_done job session edits told other one two =
+one_done : (job : Job) (session : Session) (edits : List Edit) (printed other : Printed) → IsDone job session edits printed → IsDone job session edits other →
+    printed ≡ other
+one_done job session edits printed other one two =
     let refusing = IsRefusing job.command session edits in
-    let alone = one_told job.command session edits one.alone two.alone one.is_told two.is_told in
-    let judged = one_judged job.strict refusing two.alone one.judged two.judged (subst (λ (t : Told). IsJudged job.strict refusing t one.judged) alone one.is_judged) two.is_judged in
+    let alone = one_printed job.command session edits one.alone two.alone one.is_printed two.is_printed in
+    let judged = one_judged job.strict refusing two.alone one.judged two.judged
+    (subst (λ (t : Printed). IsJudged job.strict refusing t one.judged) alone one.is_judged) two.is_judged in
     one.is_noted ∙ ap (with_lines (edit_notes session edits)) judged ∙ sym two.is_noted
 
-one_warned : (lines : List ℕ) (job : Job) (session : Session) (edits : List Edit) (told other : Told) → IsWarned lines job session edits told → IsWarned lines job session edits other → told ≡ other
-one_warned lines job session edits told other one two =
+one_warned : (lines : List ℕ) (job : Job) (session : Session) (edits : List Edit) (printed other : Printed) → IsWarned lines job session edits printed →
+    IsWarned lines job session edits other → printed ≡ other
+one_warned lines job session edits printed other one two =
     one.is_warned ∙ ap (with_lines lines) (one_done job session edits one.done two.done one.is_done two.is_done) ∙ sym two.is_warned
 
 -- ---- by the input
 
 -- what is told in full is the same
-same_told : (input : List ℕ) (told other : Told) → told ≡ other → IsSame input told other
-same_told input told other same = record { status = ap (λ (t : Told). t.status) same; text = ap (λ (t : Told). t.text) same; note = λ json. ap (λ (t : Told). t.note) same }
+same_printed : (input : List ℕ) (printed other : Printed) → printed ≡ other → IsSame input printed other
+same_printed input printed other same = record {
+  status = ap (λ (t : Printed). t.status) same;
+  text = ap (λ (t : Printed). t.text) same;
+  note = λ json. ap
+      (λ (t : Printed). t.note) same;
+}
 
 -- a refusal, or what is one besides
-one_or_refused : (test : Bool) (refused : Told) (claim other_claim : Type 0) (input : List ℕ) (told other : Told) → (claim → other_claim → IsSame input told other) → IsRefusedOr test refused claim told → IsRefusedOr test refused other_claim other → IsSame input told other
-one_or_refused true refused claim other_claim input told other both one two = same_told input told other (one ∙ sym two)
-one_or_refused false refused claim other_claim input told other both one two = both one two
+one_or_refused : (test : Bool) (refused : Printed) (claim other_claim : Type 0) (input : List ℕ) (printed other : Printed) →
+    (claim → other_claim → IsSame input printed other) → IsRefusedOr test refused claim printed → IsRefusedOr test refused other_claim other → IsSame input
+    printed other
+one_or_refused true refused claim other_claim input printed other both one two = same_printed input printed other (one ∙ sym two)
+one_or_refused false refused claim other_claim input printed other both one two = both one two
 
-one_of_bench : (lines : List ℕ) (job : Job) (input : List ℕ) (bench : Bench) (told other : Told) → IsToldOfBench lines job bench told → IsToldOfBench lines job bench other → IsSame input told other
-one_of_bench lines job input bench told other one two =
+one_of_bench : (lines : List ℕ) (job : Job) (input : List ℕ) (bench : Bench) (printed other : Printed) → IsPrintedOfBench lines job bench printed →
+    IsPrintedOfBench lines job bench other → IsSame input printed other
+one_of_bench lines job input bench printed other one two =
     let session : Session = record { header = bench.header; steps = bench.steps } in
-    one_or_refused (nat_lt max_steps (length bench.steps)) too_many_steps (IsWarned lines job session bench.edits told) (IsWarned lines job session bench.edits other) input told other
-    (λ first second. same_told input told other (one_warned lines job session bench.edits told other first second)) one two
+    one_or_refused (nat_lt max_steps (length bench.steps)) too_many_steps (IsWarned lines job session bench.edits printed)
+    (IsWarned lines job session bench.edits other) input printed other
+    (λ first second. same_printed input printed other (one_warned lines job session bench.edits printed other first second)) one two
 
 -- a text that is JSON has one hint
-one_hint : (input : List ℕ) (why : Why) (path : List ℕ) (more : Detail) (hint other : List ℕ) → is_json_fault why ≡ true → IsFaultHint input why path more hint → IsFaultHint input why path more other → hint ≡ other
+one_hint : (input : List ℕ) (why : Why) (path : List ℕ) (more : Detail) (hint other : List ℕ) → is_json_fault why ≡ true → IsFaultHint input why path more hint
+    → IsFaultHint input why path more other → hint ≡ other
 one_hint input why.NotJson path more hint other json one two = absurd (cc json)
 one_hint input why.BadShape path more hint other json one two = one ∙ sym two
 one_hint input (why.Bench fault) path more hint other json one two = one ∙ sym two
 one_hint input why.NoMemory path more hint other json one two = absurd one
 
-one_of_fault : (input : List ℕ) (fault : TextFault) (told other : Told) → bench_text input ≡ Err fault → IsToldFault refused_lines input fault told → IsToldFault refused_lines input fault other → IsSame input told other
-one_of_fault input fault told other read one two = record {
-  status = ap (λ (t : Told). t.status) one.is_told ∙ sym (ap (λ (t : Told). t.status) two.is_told);
-  text = ap (λ (t : Told). t.text) one.is_told ∙ sym (ap (λ (t : Told). t.text) two.is_told);
+one_of_fault : (input : List ℕ) (fault : TextFault) (printed other : Printed) → bench_text input ≡ Err fault → IsPrintedFault refused_lines input fault printed
+    → IsPrintedFault refused_lines input fault other → IsSame input printed other
+one_of_fault input fault printed other read one two = record {
+  status = ap (λ (t : Printed). t.status) one.is_printed ∙ sym (ap (λ (t : Printed). t.status) two.is_printed);
+  text = ap (λ (t : Printed). t.text) one.is_printed ∙ sym (ap (λ (t : Printed). t.text) two.is_printed);
   note = λ json.
       let hint = one_hint input fault.why fault.path fault.detail one.hint two.hint (sym (ap is_json read) ∙ json) one.is_hint two.is_hint in
-      ap (λ (t : Told). t.note) one.is_told ∙ ap (λ hint. refusal_line (why_text fault.why) fault.path ++ hint) hint ∙ sym (ap (λ (t : Told). t.note) two.is_told);
+      ap (λ (t : Printed). t.note) one.is_printed ∙ ap (λ hint. refusal_line (why_text fault.why) fault.path ++ hint) hint ∙ sym
+      (ap (λ (t : Printed). t.note) two.is_printed);
 }
 
-one_of_text : (job : Job) (input : List ℕ) (text : Result Bench TextFault) (told other : Told) → bench_text input ≡ text → IsToldOfText job input text told → IsToldOfText job input text other → IsSame input told other
-one_of_text job input (Ok bench) told other read one two = one_of_bench (twice_note input) job input bench told other one two
-one_of_text job input (Err fault) told other read one two = one_of_fault input fault told other read one two
+one_of_text : (job : Job) (input : List ℕ) (text : Result Bench TextFault) (printed other : Printed) → bench_text input ≡ text → IsPrintedOfText job input text
+    printed → IsPrintedOfText job input text other → IsSame input printed other
+one_of_text job input (Ok bench) printed other read one two = one_of_bench (twice_note input) job input bench printed other one two
+one_of_text job input (Err fault) printed other read one two = one_of_fault input fault printed other read one two
 
 pub one_view : ViewIsOne
 unfolding IsView
-one_view job input told other one two =
+one_view job input printed other one two =
     let text = bench_text input in
-    one_or_refused (nat_lt max_input (length input)) too_long_input (IsToldOfText job input text told) (IsToldOfText job input text other) input told other (one_of_text job input text told other refl) one two
+    one_or_refused (nat_lt max_input (length input)) too_long_input (IsPrintedOfText job input text printed) (IsPrintedOfText job input text other) input
+    printed other (one_of_text job input text printed other refl) one two

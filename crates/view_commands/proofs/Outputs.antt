@@ -16,32 +16,35 @@ use Rattle.session_text.specs.declared.fault.TextFault.{TextFault}
 use Rattle.session_text.specs.declared.fault.Why.TheVariants.{NoMemory}
 use Rattle.session_text.specs.Bench.{bench_text, IsCheckedBench}
 use Rattle.program_io.specs.Hint.{IsFaultHint}
-use Rattle.program_io.specs.Refusal.{IsToldFault}
+use Rattle.program_io.specs.Refusal.{IsPrintedFault}
 use Rattle.view_commands.specs.Refused.{refused_lines}
 use Rattle.document_stores.proofs.Opened.{few_steps, opens}
 use Rattle.view_commands.specs.declared.request.Job.{Job}
-use Rattle.view_commands.specs.Commands.{IsDone, IsRefusedOr, IsToldOfBench, IsToldOfText, IsWarned, too_many_steps}
+use Rattle.view_commands.specs.Commands.{IsDone, IsRefusedOr, IsPrintedOfBench, IsPrintedOfText, IsWarned, too_many_steps}
 use Rattle.view_commands.specs.Strict.{with_lines}
-use Rattle.program_io.specs.Outputs.{Told}
+use Rattle.program_io.specs.Outputs.{Printed}
 
 -- what is told of a text that was not read
-pub refused_told : {E : Type 0} (job : Job) (input : List ℕ) (fault : TextFault) (result : Result Told E) → (bench_text input ≡ Err fault) ⊎ (fault ≡ record { why = NoMemory; path = []; detail = None })
-    → IfOk result (λ told. IsToldFault refused_lines input fault told) → IfOk result (λ told. IsToldOfText job input (bench_text input) told)
-refused_told job input fault (Err e) reading line = tt
-refused_told job input fault (Ok told) (inl read) line = subst (λ text. IsToldOfText job input text told) (sym read) line
-refused_told job input fault (Ok told) (inr none) line = absurd (subst (λ (f : TextFault). IsFaultHint input f.why f.path f.detail line.hint) none line.is_hint)
+pub refused_printed : {E : Type 0} (job : Job) (input : List ℕ) (fault : TextFault) (result : Result Printed E) → (bench_text input ≡ Err fault) ⊎
+    (fault ≡ record { why = NoMemory; path = []; detail = None })
+    → IfOk result (λ printed. IsPrintedFault refused_lines input fault printed) → IfOk result (λ printed. IsPrintedOfText job input (bench_text input) printed)
+refused_printed job input fault (Err e) reading line = tt
+refused_printed job input fault (Ok printed) (inl read) line = subst (λ text. IsPrintedOfText job input text printed) (sym read) line
+refused_printed job input fault (Ok printed) (inr none) line = absurd (subst (λ (f : TextFault). IsFaultHint input f.why f.path f.detail line.hint) none
+    line.is_hint)
 
 -- where the test says so it is the refusal, and else the claim holds
-or_refused : (test : Bool) (refused : Told) (claim : Type 0) (told : Told) → test ≡ true → told ≡ refused → IsRefusedOr test refused claim told
-or_refused true refused claim told holds line = line
-or_refused false refused claim told holds line = absurd (cc holds)
+or_refused : (test : Bool) (refused : Printed) (claim : Type 0) (printed : Printed) → test ≡ true → printed ≡ refused → IsRefusedOr test refused claim printed
+or_refused true refused claim printed holds line = line
+or_refused false refused claim printed holds line = absurd (cc holds)
 
-or_claim : (test : Bool) (refused : Told) (claim : Type 0) (told : Told) → test ≡ false → claim → IsRefusedOr test refused claim told
-or_claim true refused claim told fails is = absurd (cc fails)
-or_claim false refused claim told fails is = is
+or_claim : (test : Bool) (refused : Printed) (claim : Type 0) (printed : Printed) → test ≡ false → claim → IsRefusedOr test refused claim printed
+or_claim true refused claim printed fails is = absurd (cc fails)
+or_claim false refused claim printed fails is = is
 
 -- a session that was checked is not opened only where it has too many steps
-pub too_long_bench : (bench : Bench) (span : ℕ) (why : OpenRefusal) → IsCheckedBench bench → is_within 1 max_span span ≡ true → (open_check bench.header bench.steps span ≡ Ok tt → why ≡ refusal.NoMemory) → why ≡ TooLong
+pub too_long_bench : (bench : Bench) (span : ℕ) (why : OpenRefusal) → IsCheckedBench bench → is_within 1 max_span span ≡ true →
+    (open_check bench.header bench.steps span ≡ Ok tt → why ≡ refusal.NoMemory) → why ≡ TooLong
     → nat_lt max_steps (length bench.steps) ≡ true
 too_long_bench bench span why checked within memory long = go (nat_lt max_steps (length bench.steps)) refl
   where
@@ -52,18 +55,22 @@ too_long_bench bench span why checked within memory long = go (nat_lt max_steps 
         absurd (cc (memory (opens bench.header bench.steps span checked.is_session within fits), long))
 
 -- what is told of a session that was not opened
-pub not_opened_told : {E : Type 0} (lines : List ℕ) (job : Job) (bench : Bench) (why : OpenRefusal) (result : Result Told E) → OnOk result (why ≡ TooLong) → IfOk result (λ told. told ≡ too_many_steps)
-    → (why ≡ TooLong → nat_lt max_steps (length bench.steps) ≡ true) → IfOk result (λ told. IsToldOfBench lines job bench told)
-not_opened_told lines job bench why (Err e) long line many = tt
-not_opened_told lines job bench why (Ok told) long line many =
-    or_refused (nat_lt max_steps (length bench.steps)) too_many_steps (IsWarned lines job (record { header = bench.header; steps = bench.steps }) bench.edits told) told (many long) line
+pub not_opened_printed : {E : Type 0} (lines : List ℕ) (job : Job) (bench : Bench) (why : OpenRefusal) (result : Result Printed E) → OnOk result (why ≡ TooLong)
+    → IfOk result (λ printed. printed ≡ too_many_steps)
+    → (why ≡ TooLong → nat_lt max_steps (length bench.steps) ≡ true) → IfOk result (λ printed. IsPrintedOfBench lines job bench printed)
+not_opened_printed lines job bench why (Err e) long line many = tt
+not_opened_printed lines job bench why (Ok printed) long line many =
+    or_refused (nat_lt max_steps (length bench.steps)) too_many_steps (IsWarned lines job (record { header = bench.header; steps = bench.steps }) bench.edits
+    printed) printed (many long) line
 
 -- what is told of a session that was opened
-pub opened_told : {E : Type 0} (lines : List ℕ) (job : Job) (bench : Bench) (span : ℕ) (kept : CheckpointedSession) (done : Told) (result : Result Told E) → open_check bench.header bench.steps span ≡ Ok tt
-    → kept ≡ first_kept span (record { header = bench.header; steps = bench.steps }) → IsDone job kept.session bench.edits done → IfOk result (λ told. told ≡ with_lines lines done) → IfOk result (λ told. IsToldOfBench lines job bench told)
-opened_told lines job bench span kept done (Err e) accepted same is warned = tt
-opened_told lines job bench span kept done (Ok told) accepted same is warned =
+pub opened_printed : {E : Type 0} (lines : List ℕ) (job : Job) (bench : Bench) (span : ℕ) (kept : CheckpointedSession) (done : Printed)
+    (result : Result Printed E) → open_check bench.header bench.steps span ≡ Ok tt
+    → kept ≡ first_kept span (record { header = bench.header; steps = bench.steps }) → IsDone job kept.session bench.edits done → IfOk result
+    (λ printed. printed ≡ with_lines lines done) → IfOk result (λ printed. IsPrintedOfBench lines job bench printed)
+opened_printed lines job bench span kept done (Err e) accepted same is warned = tt
+opened_printed lines job bench span kept done (Ok printed) accepted same is warned =
     let session : Session = record { header = bench.header; steps = bench.steps } in
-    or_claim (nat_lt max_steps (length bench.steps)) too_many_steps (IsWarned lines job session bench.edits told) told
+    or_claim (nat_lt max_steps (length bench.steps)) too_many_steps (IsWarned lines job session bench.edits printed) printed
     (few_steps bench.header bench.steps span accepted)
     (record { done = done; is_done = subst (λ (k : CheckpointedSession). IsDone job k.session bench.edits done) same is; is_warned = warned })

@@ -1,5 +1,6 @@
 -- Texts that are lent, and what they are.
-use Rattle.std.proofs.Common.{◌≡◌, ◌∙◌, ◌==◌, ◌&&◌, ◌||◌, ◌++◌, ℕ, List, [], ◌∷◌, Bor, Bool, false, length, map, flat_map, bytes_eq, refl, sym, ap, ap₂, if◌then◌else◌}
+use Rattle.std.proofs.Common.{◌≡◌, ◌∙◌, ◌==◌, ◌&&◌, ◌||◌, ◌++◌, ℕ, List, [], ◌∷◌, Bor, Bool, false, length, map, flat_map, bytes_eq, refl, sym, ap, ap₂}
+use Rattle.std.proofs.Common.{if◌then◌else◌}
 use Rattle.std.specs.List.{list_all, list_any}
 use Rattle.std.proofs.lemmas.List.Folds.{flat_map-map, list_all-map}
 use Rattle.std.proofs.lemmas.List.{length-map}
@@ -15,14 +16,18 @@ now text = text.now
 
 -- limits that are lent
 pub lent_are_limits : (most least : List (Bor Text)) (some more : List Text) → map now most ≡ some → map now least ≡ more
-    → (if length most == 0 && length least == 0 then false else (list_all (λ (t : Bor Text). is_limit t.now) most && list_all (λ (t : Bor Text). is_limit t.now) least)) ≡ are_limits some more
+    → (if length most == 0 && length least == 0 then false else (list_all (λ (t : Bor Text). is_limit t.now) most && list_all (λ (t : Bor Text). is_limit t.now)
+    least)) ≡ are_limits some more
 lent_are_limits most least some more m l =
-    ap₂ (λ (n k : ℕ). if n == 0 && k == 0 then false else (list_all (λ (t : Bor Text). is_limit t.now) most && list_all (λ (t : Bor Text). is_limit t.now) least)) (sym (length-map most now)) (sym (length-map least now))
-    ∙ ap₂ (λ (a b : Bool). if length (map now most) == 0 && length (map now least) == 0 then false else (a && b)) (sym (list_all-map is_limit now most)) (sym (list_all-map is_limit now least))
+    ap₂ (λ (n k : ℕ). if n == 0 && k == 0 then false else (list_all (λ (t : Bor Text). is_limit t.now) most && list_all (λ (t : Bor Text). is_limit t.now)
+    least)) (sym (length-map most now)) (sym (length-map least now))
+    ∙ ap₂ (λ (a b : Bool). if length (map now most) == 0 && length (map now least) == 0 then false else (a && b)) (sym (list_all-map is_limit now most))
+    (sym (list_all-map is_limit now least))
     ∙ ap₂ are_limits m l
 
 pub lent_limits : (most least : List (Bor Text)) (some more : List Text) → map now most ≡ some → map now least ≡ more
-    → flat_map (λ (t : Bor Text). limits_from AtMost t.now) most ++ flat_map (λ (t : Bor Text). limits_from AtLeast t.now) least ≡ flat_map (limits_from AtMost) some ++ flat_map (limits_from AtLeast) more
+    → flat_map (λ (t : Bor Text). limits_from AtMost t.now) most ++ flat_map (λ (t : Bor Text). limits_from AtLeast t.now) least ≡ flat_map (limits_from AtMost)
+    some ++ flat_map (limits_from AtLeast) more
 lent_limits most least some more m l =
     ap₂ (λ (a b : List Asked). a ++ b) (sym (flat_map-map (limits_from AtMost) now most)) (sym (flat_map-map (limits_from AtLeast) now least))
     ∙ ap₂ (λ (a b : List Text). flat_map (limits_from AtMost) a ++ flat_map (limits_from AtLeast) b) m l

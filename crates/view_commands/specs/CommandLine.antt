@@ -7,7 +7,7 @@ use Rattle.clap.specs.declared.builder.value_parser.ValueParser.{ValueParser}
 use Rattle.clap.specs.declared.builder.value_parser.ValueParser.TheVariants.{Signed}
 use Rattle.command_words.specs.Answered.{Answered, answered, met, said}
 use Rattle.command_words.specs.Asking.{helps, mistakes, versions}
-use Rattle.command_words.specs.Told.{command_app, flag_rule, option_rule, program_app, with_commands}
+use Rattle.command_words.specs.Printed.{command_app, flag_rule, option_rule, program_app, with_commands}
 use Rattle.view_commands.specs.Options.{command_of, file_in, strict_in}
 use Rattle.view_commands.specs.declared.request.Command.{Command}
 use Rattle.view_commands.specs.declared.request.Job.{Job}

@@ -17,34 +17,34 @@ use Rattle.run_views.specs.PlaceTexts.{place_texts}
 use Rattle.session_reports.specs.declared.report.Form.TheVariants.{Table}
 use Rattle.program_io.specs.declared.output.OutputStatus.{OutputStatus}
 use Rattle.program_io.specs.declared.output.OutputStatus.TheVariants.{Fine, Failed, Unknown}
-use Rattle.program_io.specs.Outputs.{Told, fine, told_with}
+use Rattle.program_io.specs.Outputs.{Printed, fine, printed_with}
 use Rattle.view_commands.specs.declared.pages.Drawn.{Drawn}
 use Rattle.view_commands.specs.declared.request.PageView.{PageView}
 use Rattle.view_commands.specs.declared.request.ReportView.{ReportView}
 use Rattle.view_commands.specs.ReportViews.{IsReported}
-use Rattle.view_commands.specs.SettledViews.{too_long, IsSettledPicture, IsToldOfBoth}
+use Rattle.view_commands.specs.SettledViews.{too_long, IsSettledPicture, IsPrintedOfBoth}
 use Rattle.view_commands.specs.Views.{picture_of}
 
 -- ---- the parts that other commands tell
 
 -- what `timeline` tells
-abbrev pub IsPictured : Bool → Extent → Session → List Edit → Told → Type 0
-IsPictured false extent session edits told = told ≡ picture_of extent session edits
-IsPictured true extent session edits told = IsSettledPicture extent session edits told
+abbrev pub IsPictured : Bool → Extent → Session → List Edit → Printed → Type 0
+IsPictured false extent session edits printed = printed ≡ picture_of extent session edits
+IsPictured true extent session edits printed = IsSettledPicture extent session edits printed
 
 -- what `compare` tells
-abbrev pub IsComparison : Bool → Session → List Edit → Told → Type 0
-IsComparison false session edits told = told ≡ fine (compare_text session edits)
-IsComparison true session edits told = IsToldOfBoth session edits told
+abbrev pub IsComparison : Bool → Session → List Edit → Printed → Type 0
+IsComparison false session edits printed = printed ≡ fine (compare_text session edits)
+IsComparison true session edits printed = IsPrintedOfBoth session edits printed
 
 pub record IsSomeComparison (settled : Bool) (session : Session) (edits : List Edit)
-    (part : Option Told) : Type 0 where
-  pub told : Told
-  pub is_told : IsComparison settled session edits told
-  pub is : part ≡ Some told
+    (part : Option Printed) : Type 0 where
+  pub printed : Printed
+  pub is_printed : IsComparison settled session edits printed
+  pub is : part ≡ Some printed
 
 -- the same, where there are edits
-abbrev pub IsCompared : Bool → Session → List Edit → Option Told → Type 0
+abbrev pub IsCompared : Bool → Session → List Edit → Option Printed → Type 0
 IsCompared settled session [] part = part ≡ None
 IsCompared settled session (edit ∷ edits) part =
     IsSomeComparison settled session (edit ∷ edits) part
@@ -92,38 +92,38 @@ page_shown view picture comparison report run = record {
 }
 
 -- the page, with what is told beside the picture
-abbrev pub made_page : PageView → Told → Option (List ℕ) → List ℕ → Session → Told
+abbrev pub made_page : PageView → Printed → Option (List ℕ) → List ℕ → Session → Printed
 made_page view picture comparison report run =
-    told_with (page_text (page_shown view picture.text comparison report run)) picture.note
+    printed_with (page_text (page_shown view picture.text comparison report run)) picture.note
 
 -- a refusal of the part, and else the whole
-abbrev pub unless_refused_by : OutputStatus → Told → Told → Told
+abbrev pub unless_refused_by : OutputStatus → Printed → Printed → Printed
 unless_refused_by Fine part whole = whole
 unless_refused_by Failed part whole = part
 unless_refused_by Unknown part whole = part
 
-abbrev pub unless_refused : Told → Told → Told
+abbrev pub unless_refused : Printed → Printed → Printed
 unless_refused part whole = unless_refused_by part.status part whole
 
-abbrev pub with_report : PageView → Told → Option (List ℕ) → Told → Session → Told
+abbrev pub with_report : PageView → Printed → Option (List ℕ) → Printed → Session → Printed
 with_report view picture comparison report run =
     unless_refused report (made_page view picture comparison report.text run)
 
-abbrev pub with_comparison : PageView → Told → Option Told → Told → Session → Told
+abbrev pub with_comparison : PageView → Printed → Option Printed → Printed → Session → Printed
 with_comparison view picture None report run = with_report view picture None report run
-with_comparison view picture (Some told) report run =
-    unless_refused told (with_report view picture (Some told.text) report run)
+with_comparison view picture (Some printed) report run =
+    unless_refused printed (with_report view picture (Some printed.text) report run)
 
 -- the page of these parts and of the trace of the run; the first of the parts that is refused is
 -- told in its place
-abbrev pub page_of : PageView → Drawn → Session → Told
+abbrev pub page_of : PageView → Drawn → Session → Printed
 page_of view drawn run =
     unless_refused drawn.picture
     (with_comparison view drawn.picture drawn.comparison drawn.report run)
 
 -- the same; J2 where the run has more steps than a session may have
-abbrev pub page_told : PageView → Drawn → Session → Told
-page_told view drawn run =
+abbrev pub page_printed : PageView → Drawn → Session → Printed
+page_printed view drawn run =
     if nat_lt max_steps (length run.steps) then too_long else page_of view drawn run
 
 -- the steps of the run that is shown of a session: its own, or those of its settled run
@@ -133,16 +133,16 @@ IsRun true session run =
     (left : List WaitingCall) × IsSettled session.header session.steps run left
 
 -- told is a page of these parts and of the trace of a session's run
-pub record IsPageOf (view : PageView) (drawn : Drawn) (session : Session) (told : Told) :
+pub record IsPageOf (view : PageView) (drawn : Drawn) (session : Session) (printed : Printed) :
     Type 0 where
   pub run : List Step
   pub is_run : IsRun view.settled session run
-  pub is_told : told ≡ page_told view drawn (with_steps session run)
+  pub is_printed : printed ≡ page_printed view drawn (with_steps session run)
 
 -- told is a page: what the other commands tell of the session and its edits, and the trace of the
 -- run after the edits, place by place
-pub record IsPage (view : PageView) (session : Session) (edits : List Edit) (told : Told) :
+pub record IsPage (view : PageView) (session : Session) (edits : List Edit) (printed : Printed) :
     Type 0 where
   pub drawn : Drawn
   pub are : AreDrawn view session edits drawn
-  pub page : IsPageOf view drawn (after_edits session edits) told
+  pub page : IsPageOf view drawn (after_edits session edits) printed

@@ -19,7 +19,7 @@ use Rattle.run_comparisons.specs.declared.rows.Row.{Row}
 use Rattle.run_comparisons.specs.declared.settled.SettledPair.{SettledPair}
 use Rattle.run_comparisons.specs.Columns.{columns_of}
 use Rattle.run_comparisons.specs.Settled.{left_lines, IsComparisonTooLong, IsSettledComparison, IsSettledPair}
-use Rattle.program_io.specs.Outputs.{Told, noted, fine}
+use Rattle.program_io.specs.Outputs.{Printed, noted, fine}
 use Rattle.view_commands.specs.declared.request.SettledView.{SettledView}
 use Rattle.view_commands.specs.declared.request.SettledView.TheVariants as settled
 use Rattle.view_commands.specs.Refused.{refused_for}
@@ -37,36 +37,37 @@ settled_too_long_line =
     codes "the settled run has more than " ++ decimal max_steps ++ codes " steps\n"
 
 -- J2: the same, with the refusal line
-abbrev pub too_long : Told
+abbrev pub too_long : Printed
 too_long = refused_for (codes "J2") settled_too_long_line
 
 -- what is told of a settled run and the calls that were not made, by what is shown of a session
-abbrev pub told_of_run :
-    (Session → Told) → Header → List Step → List WaitingCall → Told
-told_of_run shown header run left =
+abbrev pub printed_of_run :
+    (Session → Printed) → Header → List Step → List WaitingCall → Printed
+printed_of_run shown header run left =
     if nat_lt max_steps (length run) then too_long
     else noted (shown (record { header = header; steps = run })) (note_of header left)
 
 -- what is told of the settled run of a session
-pub record IsToldOfSettled (shown : Session → Told) (session : Session) (told : Told) :
+pub record IsPrintedOfSettled (shown : Session → Printed) (session : Session) (printed : Printed) :
     Type 0 where
   pub run : List Step
   pub left : List WaitingCall
   pub settled : IsSettled session.header session.steps run left
-  pub is_told : told ≡ told_of_run shown session.header run left
+  pub is_printed : printed ≡ printed_of_run shown session.header run left
 
 -- told is a text of both settled runs, that of a session and that after edits of it
-pub record IsToldOfRuns (session : Session) (edits : List Edit) (told : Told) : Type 0 where
+pub record IsPrintedOfRuns (session : Session) (edits : List Edit) (printed : Printed)
+    : Type 0 where
   pub text : List ℕ
   pub room : ¬ IsComparisonTooLong session edits
   pub compares : IsSettledComparison session edits text
-  pub is_told : told ≡ fine text
+  pub is_printed : printed ≡ fine text
 
 -- what is told of both; J2 where one of them has more steps than a session may have
-abbrev pub IsToldOfBoth : Session → List Edit → Told → Type 0
-IsToldOfBoth session edits told =
-    IsToldOfRuns session edits told
-    ⊎ (IsComparisonTooLong session edits × (told ≡ too_long))
+abbrev pub IsPrintedOfBoth : Session → List Edit → Printed → Type 0
+IsPrintedOfBoth session edits printed =
+    IsPrintedOfRuns session edits printed
+    ⊎ (IsComparisonTooLong session edits × (printed ≡ too_long))
 
 -- where the places of one of two runs stand: in the columns of their rows, or by the ticks of both
 abbrev pub columns_before : Axis → List Step → List Step → List Row → List ℕ
@@ -91,7 +92,7 @@ drawn_after axis header pair = record {
   columns = columns_after axis pair.before.run.items pair.after.run.items pair.rows.items;
 }
 
-abbrev pub picture_of_pair : Extent → Header → Header → SettledPair → Told
+abbrev pub picture_of_pair : Extent → Header → Header → SettledPair → Printed
 picture_of_pair extent header edited pair =
     picture_of_runs extent (drawn_before extent.axis header pair)
     (drawn_after extent.axis edited pair)
@@ -109,34 +110,35 @@ pub record IsDrawnPair (axis : Axis) (header edited : Header) (pair : SettledPai
   pub few_after : length pair.after.run.items ≤ max_steps
 
 -- told is a picture of both settled runs
-pub record IsToldOfPair (extent : Extent) (session : Session) (edits : List Edit) (told : Told) :
+pub record IsPrintedOfPair (extent : Extent) (session : Session) (edits : List Edit)
+    (printed : Printed) :
     Type 0 where
   pub pair : SettledPair
   pub settled : IsSettledPair session edits pair
-  pub is_told : told
+  pub is_printed : printed
       ≡ noted (picture_of_pair extent session.header (after_edits session edits).header pair)
       (pair_note session.header (after_edits session edits).header pair)
 
 -- what is told of both; J2 where one of them has more steps than a session may have
-abbrev pub IsToldOfPictures : Extent → Session → List Edit → Told → Type 0
-IsToldOfPictures extent session edits told =
-    IsToldOfPair extent session edits told
-    ⊎ (IsComparisonTooLong session edits × (told ≡ too_long))
+abbrev pub IsPrintedOfPictures : Extent → Session → List Edit → Printed → Type 0
+IsPrintedOfPictures extent session edits printed =
+    IsPrintedOfPair extent session edits printed
+    ⊎ (IsComparisonTooLong session edits × (printed ≡ too_long))
 
 -- the picture of the settled run, and with edits that of the settled run after them below it
-abbrev pub IsSettledPicture : Extent → Session → List Edit → Told → Type 0
-IsSettledPicture extent session [] told =
-    IsToldOfSettled (picture_of_run extent) session told
-IsSettledPicture extent session (edit ∷ edits) told =
-    IsToldOfPictures extent session (edit ∷ edits) told
+abbrev pub IsSettledPicture : Extent → Session → List Edit → Printed → Type 0
+IsSettledPicture extent session [] printed =
+    IsPrintedOfSettled (picture_of_run extent) session printed
+IsSettledPicture extent session (edit ∷ edits) printed =
+    IsPrintedOfPictures extent session (edit ∷ edits) printed
 
 -- By the view, what is told of a session and of edits of it. They are made one after another, and
 -- those that are refused are passed over.
-abbrev pub IsSettledView : SettledView → Session → List Edit → Told → Type 0
-IsSettledView (settled.Trace selected) session edits told =
-    IsToldOfSettled (trace_output selected) (after_edits session edits) told
-IsSettledView settled.Session session edits told =
-    IsToldOfSettled (λ run. fine (document_of run)) (after_edits session edits) told
-IsSettledView settled.Compare session edits told = IsToldOfBoth session edits told
-IsSettledView (settled.Timeline extent) session edits told =
-    IsSettledPicture extent session edits told
+abbrev pub IsSettledView : SettledView → Session → List Edit → Printed → Type 0
+IsSettledView (settled.Trace selected) session edits printed =
+    IsPrintedOfSettled (trace_output selected) (after_edits session edits) printed
+IsSettledView settled.Session session edits printed =
+    IsPrintedOfSettled (λ run. fine (document_of run)) (after_edits session edits) printed
+IsSettledView settled.Compare session edits printed = IsPrintedOfBoth session edits printed
+IsSettledView (settled.Timeline extent) session edits printed =
+    IsSettledPicture extent session edits printed

@@ -1,5 +1,6 @@
 -- What is shown of a session and of edits of it.
-use Rattle.std.specs.Prelude.{ℕ, List, [], ◌++◌, ◌==◌, length, codes, decimal, false, true, nat_lt, Option, Some, None, if◌then◌else◌, slice_index_or, string_bytes, Result, Ok, Err, String}
+use Rattle.std.specs.Prelude.{ℕ, List, [], ◌++◌, ◌==◌, length, codes, decimal, false, true, nat_lt, Option, Some, None, if◌then◌else◌, slice_index_or}
+use Rattle.std.specs.Prelude.{string_bytes, Result, Ok, Err, String}
 use Rattle.bench_types.specs.declared.edit.Edit.{Edit}
 use Rattle.bench_types.specs.declared.step.Step.{Step}
 use Rattle.bench_types.specs.Session.{Session}
@@ -16,16 +17,16 @@ use Rattle.run_pictures.specs.Limits.{max_places}
 use Rattle.run_pictures.specs.Picture.{count_of_both, picture_text, pictures_text, shown_count}
 use Rattle.run_pictures.specs.TickColumns.{tick_columns}
 use Rattle.run_comparisons.specs.Comparison.{compare_text}
-use Rattle.program_io.specs.Outputs.{Told, fine, refusal}
+use Rattle.program_io.specs.Outputs.{Printed, fine, refusal}
 use Rattle.view_commands.specs.declared.request.View.{View}
 use Rattle.view_commands.specs.declared.request.View.TheVariants as view
 use Rattle.view_commands.specs.Interests.{interest_of, unknown_core, unknown_task}
 use Rattle.view_commands.specs.Selected.{Selected}
 
-abbrev pub refused_task : List ℕ → Told
+abbrev pub refused_task : List ℕ → Printed
 refused_task name = refusal (codes "refused task " ++ name ++ codes "\n")
 
-abbrev pub refused_core : ℕ → Told
+abbrev pub refused_core : ℕ → Printed
 refused_core core = refusal (codes "refused core " ++ decimal core ++ codes "\n")
 
 abbrev pub trace_of : Selected → Session → List ℕ
@@ -33,13 +34,13 @@ trace_of selected session =
     trace_text selected.places (interest_of session.header selected) session.header session.steps
 
 -- A trace; it is refused where a name is no task's, which stands there, or a number no core's.
-abbrev pub trace_where : Option ℕ → Option ℕ → Selected → Session → Told
+abbrev pub trace_where : Option ℕ → Option ℕ → Selected → Session → Printed
 trace_where (Some index) core selected session =
     refused_task (slice_index_or selected.tasks index [])
 trace_where None (Some core) selected session = refused_core core
 trace_where None None selected session = fine (trace_of selected session)
 
-abbrev pub trace_output : Selected → Session → Told
+abbrev pub trace_output : Selected → Session → Printed
 trace_output selected session =
     trace_where (unknown_task session.header selected.tasks)
     (unknown_core session.header selected.cores) selected session
@@ -53,29 +54,29 @@ abbrev pub most_places : List ℕ
 most_places = codes "4000"
 
 -- a picture would show more places than it may
-abbrev pub refused_long : ℕ → Told
+abbrev pub refused_long : ℕ → Printed
 refused_long count =
     refusal
     (codes "refused range of " ++ decimal count ++ codes " places"
     ++ codes ", and a picture shows at most " ++ most_places
     ++ codes ": name fewer by --from and --to\n")
 
-abbrev pub answer_output : Result (String Global) TooLong → Told
+abbrev pub answer_output : Result (String Global) TooLong → Printed
 answer_output (Ok picture) = fine (string_bytes picture)
 answer_output (Err why) = refused_long why.places
 
 -- a picture of so many places, or that these are too many
-abbrev pub picture_or : ℕ → List ℕ → Told
+abbrev pub picture_or : ℕ → List ℕ → Printed
 picture_or count picture =
     if nat_lt max_places count then refused_long count else fine picture
 
-abbrev pub picture_of_run : Extent → Session → Told
+abbrev pub picture_of_run : Extent → Session → Printed
 picture_of_run extent session =
     picture_or (shown_count extent.places (length session.steps))
     (picture_text extent.places extent.axis session.header session.steps)
 
 -- a picture of two runs
-abbrev pub picture_of_runs : Extent → Drawn → Drawn → Told
+abbrev pub picture_of_runs : Extent → Drawn → Drawn → Printed
 picture_of_runs extent before after =
     picture_or (count_of_both extent.places before after)
     (pictures_text extent.places extent.axis before after)
@@ -93,20 +94,20 @@ drawn_by axis before after session = record {
   columns = columns_by axis before after session.steps;
 }
 
-abbrev pub picture_of_both : Extent → Session → Session → Told
+abbrev pub picture_of_both : Extent → Session → Session → Printed
 picture_of_both extent session edited =
     picture_of_runs extent (drawn_by extent.axis session.steps edited.steps session)
     (drawn_by extent.axis session.steps edited.steps edited)
 
 -- the picture of the run, and with edits that of the run after them below it
-abbrev pub picture_of : Extent → Session → List Edit → Told
+abbrev pub picture_of : Extent → Session → List Edit → Printed
 picture_of extent session edits =
     if length edits == 0 then picture_of_run extent session
     else picture_of_both extent session (after_edits session edits)
 
 -- By the view, what is shown of a session and of edits of it. They are made one after another,
 -- and those that are refused are passed over.
-abbrev pub shown : View → Session → List Edit → Told
+abbrev pub shown : View → Session → List Edit → Printed
 shown (view.Trace selected) session edits = trace_output selected (after_edits session edits)
 shown view.Session session edits = fine (document_of (after_edits session edits))
 shown view.Compare session edits = fine (compare_text session edits)

@@ -2,7 +2,7 @@
 ghost use Rattle.std.specs.Prelude.{◌≡◌, ◌≤◌, IfOk, length, string_bytes};
 ghost use Rattle.bench_types.specs.Limits.{max_steps};
 ghost use Rattle.bench_types.specs.Session.{IsSession};
-ghost use Rattle.view_commands.specs.AdviceViews.{IsAdviceOf, IsAdviceView, told_of_advice};
+ghost use Rattle.view_commands.specs.AdviceViews.{IsAdviceOf, IsAdviceView, printed_of_advice};
 
 use crate::edited::make_edits;
 use crate::settled::not_settled;
@@ -17,8 +17,8 @@ use std::alloc::{AllocError, Global};
 use std::thread::Threads;
 
 // Advice goes to standard output, and the names that there are to standard error.
-fn told_of_advice(alloc: Global, status: AdviceStatus, text: String) -> Output
-    ensures { result ≡ told_of_advice status (string_bytes text) }
+fn printed_of_advice(alloc: Global, status: AdviceStatus, text: String) -> Output
+    ensures { result ≡ printed_of_advice status (string_bytes text) }
 {
     let (none, text) = (Vec::new(alloc), text.into_bytes());
     match status {
@@ -48,19 +48,19 @@ fn advice_of<T: Threads + Sync, P: Progress>(
     requires session { IsSession (record { header = header.now; steps = steps.now }) }
     requires few { length steps.now ≤ max_steps }
     ensures { IfOk result
-        (λ told. IsAdviceOf question.now (record {
+        (λ printed. IsAdviceOf question.now (record {
           header = header.now;
           steps = steps.now;
-        }) told) }
+        }) printed) }
 {
     match advise_session(rt, host, alloc, meter, progress, header, steps, question) {
-        Ok(Advised { status, text }) => Ok(told_of_advice(alloc, status, text)),
+        Ok(Advised { status, text }) => Ok(printed_of_advice(alloc, status, text)),
         Err(fault) => not_settled(alloc, fault),
     }
 }
 
 /// What is advised of the session with its edits made.
-pub(crate) fn told_advice<T: Threads + Sync, P: Progress>(
+pub(crate) fn printed_advice<T: Threads + Sync, P: Progress>(
     rt: &T,
     host: &HostRuntime,
     alloc: Global,
@@ -70,7 +70,8 @@ pub(crate) fn told_advice<T: Threads + Sync, P: Progress>(
     edits: &[Edit],
     question: &Question,
 ) -> Result<Output, AllocError>
-    ensures { IfOk result (λ told. IsAdviceView question.now store.old.session edits.now told) }
+    ensures { IfOk result
+        (λ printed. IsAdviceView question.now store.old.session edits.now printed) }
 {
     make_edits(alloc, meter, store, edits)?;
     let steps = steps_of(alloc, store)?;

@@ -3,19 +3,19 @@ ghost use Rattle.std.specs.Prelude.{◌≡◌, All, IfOk, OnOk, string_bytes};
 ghost use Rattle.bench_types.specs.Edit.{IsCheckedEdit};
 ghost use Rattle.session_store.specs.declared.fault.OpenRefusal.TheVariants.{TooLong};
 ghost use Rattle.session_text.specs.Bench.{IsCheckedBench, bench_text};
-ghost use Rattle.program_io.specs.Refusal.{IsToldFault};
-ghost use Rattle.view_commands.specs.Commands.{IsDone, IsTold, IsToldOfBench, IsToldOfText, IsView, ViewIsOne, too_many_steps};
-ghost use Rattle.program_io.specs.Outputs.{Told};
+ghost use Rattle.program_io.specs.Refusal.{IsPrintedFault};
+ghost use Rattle.view_commands.specs.Commands.{IsDone, IsPrinted, IsPrintedOfBench, IsPrintedOfText, IsView, ViewIsOne, too_many_steps};
+ghost use Rattle.program_io.specs.Outputs.{Printed};
 ghost use Rattle.view_commands.specs.Refused.{refused_lines};
 ghost use Rattle.view_commands.specs.Strict.{IsJudged, IsRefusing};
 
-use crate::advice::told_advice;
-use crate::checks::told_check;
+use crate::advice::printed_advice;
+use crate::checks::printed_check;
 use crate::edited::{second, shown};
-use crate::pages::told_page;
-use crate::reports::told_report;
+use crate::pages::printed_page;
+use crate::reports::printed_report;
 use crate::request::{Command, Job};
-use crate::settled::told_settled;
+use crate::settled::printed_settled;
 use crate::strict::{judged_strictly, with_lines};
 use bench_types::{Edit, MAX_INPUT, MAX_SPAN};
 use edit_notes::refused_edits;
@@ -29,7 +29,7 @@ use std::thread::Threads;
 
 // Of a text that was not read. Want of memory is no refusal.
 fn refused_text(alloc: Global, input: &[u8], fault: TextFault) -> Result<Output, AllocError>
-    ensures { IfOk result (λ told. IsToldFault refused_lines input.now fault told) }
+    ensures { IfOk result (λ printed. IsPrintedFault refused_lines input.now fault printed) }
 {
     explained(alloc, input, fault)?.on_error(alloc)
 }
@@ -37,13 +37,13 @@ fn refused_text(alloc: Global, input: &[u8], fault: TextFault) -> Result<Output,
 // What is told where no store was opened, which is a refusal only for J2.
 fn not_opened(alloc: Global, why: OpenRefusal) -> Result<Output, AllocError>
     ensures why { OnOk result (why ≡ TooLong) }
-    ensures line { IfOk result (λ told. told ≡ too_many_steps) }
+    ensures line { IfOk result (λ printed. printed ≡ too_many_steps) }
 {
     document_stores::not_opened(alloc, why)?.on_error(alloc)
 }
 
 // What the command tells of the session and its edits.
-fn told_of_store<T: Threads + Sync, P: Progress>(
+fn printed_of_store<T: Threads + Sync, P: Progress>(
     rt: &T,
     host: &HostRuntime,
     progress: &mut P,
@@ -53,16 +53,16 @@ fn told_of_store<T: Threads + Sync, P: Progress>(
     edits: &[Edit],
     command: &Command,
 ) -> Result<Output, AllocError>
-    ensures { IfOk result (λ told. IsTold command.now store.old.session edits.now told) }
+    ensures { IfOk result (λ printed. IsPrinted command.now store.old.session edits.now printed) }
 {
     match command {
         Command::Plain(view) => shown(alloc, meter, store, edits, view),
-        Command::Settled(view) => told_settled(alloc, meter, store, edits, view),
-        Command::Report(view) => told_report(alloc, meter, store, edits, *view),
-        Command::Check(view) => told_check(alloc, meter, store, edits, view),
-        Command::Page(view) => told_page(alloc, meter, store, edits, *view),
+        Command::Settled(view) => printed_settled(alloc, meter, store, edits, view),
+        Command::Report(view) => printed_report(alloc, meter, store, edits, *view),
+        Command::Check(view) => printed_check(alloc, meter, store, edits, view),
+        Command::Page(view) => printed_page(alloc, meter, store, edits, *view),
         Command::Advise(question) => {
-            told_advice(rt, host, alloc, meter, progress, store, edits, question)
+            printed_advice(rt, host, alloc, meter, progress, store, edits, question)
         }
     }
 }
@@ -79,21 +79,28 @@ fn judged_of_store<T: Threads + Sync, P: Progress>(
     job: &Job,
 ) -> Result<Output, AllocError>
     ensures { IfOk result
-        (λ judged. (alone : Told) × IsTold job.now.command store.old.session edits.now alone
+        (λ judged. (alone : Printed) × IsPrinted job.now.command store.old.session edits.now alone
         × IsJudged job.now.strict (IsRefusing job.now.command store.old.session edits.now) alone
         judged) }
 {
     let command = &job.command;
     if !job.strict {
-        return told_of_store(rt, host, progress, alloc, meter, store, edits, command);
+        return printed_of_store(rt, host, progress, alloc, meter, store, edits, command);
     }
     let mut twin = second(alloc, meter, store)?;
-    let told = told_of_store(rt, host, progress, alloc, meter, store, edits, command)?;
-    judged_strictly(alloc, meter, &mut twin, edits, command.is_settled(), told)
+    let printed = printed_of_store(rt, host, progress, alloc, meter, store, edits, command)?;
+    judged_strictly(
+        alloc,
+        meter,
+        &mut twin,
+        edits,
+        command.is_settled(),
+        printed,
+    )
 }
 
 // What the job tells of the session and its edits.
-fn told_of_job<T: Threads + Sync, P: Progress>(
+fn printed_of_job<T: Threads + Sync, P: Progress>(
     rt: &T,
     host: &HostRuntime,
     progress: &mut P,
@@ -104,7 +111,7 @@ fn told_of_job<T: Threads + Sync, P: Progress>(
     job: &Job,
 ) -> Result<Output, AllocError>
     requires { All (IsCheckedEdit store.old.session.header) edits.now }
-    ensures { IfOk result (λ told. IsDone job.now store.old.session edits.now told) }
+    ensures { IfOk result (λ printed. IsDone job.now store.old.session edits.now printed) }
 {
     let lines = refused_edits(alloc, store.len(), edits)?;
     let judged = judged_of_store(rt, host, progress, alloc, meter, store, edits, job)?;
@@ -113,7 +120,7 @@ fn told_of_job<T: Threads + Sync, P: Progress>(
 
 // What is told of a document that was read, after these lines. Texts may have any number of steps,
 // so J2 is found here. As few checkpoints are kept as there can be, since each edit is made once.
-fn told_of_bench<T: Threads + Sync, P: Progress>(
+fn printed_of_bench<T: Threads + Sync, P: Progress>(
     rt: &T,
     host: &HostRuntime,
     progress: &mut P,
@@ -123,7 +130,7 @@ fn told_of_bench<T: Threads + Sync, P: Progress>(
     job: &Job,
 ) -> Result<Output, AllocError>
     requires { IsCheckedBench bench }
-    ensures { IfOk result (λ told. IsToldOfBench (string_bytes lines) job.now bench told) }
+    ensures { IfOk result (λ printed. IsPrintedOfBench (string_bytes lines) job.now bench printed) }
 {
     let Bench {
         header,
@@ -133,7 +140,7 @@ fn told_of_bench<T: Threads + Sync, P: Progress>(
     let mut meter = Meter::new(host);
     match Store::open(alloc, header, steps.into_vec(), MAX_SPAN, &mut meter) {
         Ok(mut store) => {
-            let told = told_of_job(
+            let printed = printed_of_job(
                 rt,
                 host,
                 progress,
@@ -143,14 +150,14 @@ fn told_of_bench<T: Threads + Sync, P: Progress>(
                 edits.as_slice(),
                 job,
             )?;
-            with_lines(lines, told)
+            with_lines(lines, printed)
         }
         Err(fault) => not_opened(alloc, fault.why),
     }
 }
 
 // What is told, but for H3.
-fn told_of_text<T: Threads + Sync, P: Progress>(
+fn printed_of_text<T: Threads + Sync, P: Progress>(
     rt: &T,
     host: &HostRuntime,
     progress: &mut P,
@@ -159,20 +166,20 @@ fn told_of_text<T: Threads + Sync, P: Progress>(
     job: &Job,
 ) -> Result<Output, AllocError>
     ensures { IfOk result
-        (λ told. IsToldOfText job.now input.now (bench_text input.now) told) }
+        (λ printed. IsPrintedOfText job.now input.now (bench_text input.now) printed) }
 {
     match read_bench_noted(alloc, input) {
         Err(fault) => refused_text(alloc, input, fault),
         Ok(Noted { document, doubled }) => {
             let line = twice_note(alloc, input, doubled)?;
-            told_of_bench(rt, host, progress, alloc, line, document, job)
+            printed_of_bench(rt, host, progress, alloc, line, document, job)
         }
     }
 }
 
 /// All that is told of the input.
 #[tactic(auto, unfolding(crate::specs::Commands::IsView))]
-pub(crate) fn told_of<T: Threads + Sync, P: Progress>(
+pub(crate) fn printed_of<T: Threads + Sync, P: Progress>(
     rt: &T,
     host: &HostRuntime,
     progress: &mut P,
@@ -180,12 +187,12 @@ pub(crate) fn told_of<T: Threads + Sync, P: Progress>(
     input: &[u8],
     job: &Job,
 ) -> Result<Output, AllocError>
-    ensures { IfOk result (λ told. IsView job.now input.now told) }
+    ensures { IfOk result (λ printed. IsView job.now input.now printed) }
 {
     if input.len() > MAX_INPUT {
         return too_long(alloc)?.on_error(alloc);
     }
-    told_of_text(rt, host, progress, alloc, input, job)
+    printed_of_text(rt, host, progress, alloc, input, job)
 }
 
 /// One thing alone is told of each input. It does nothing: its contract is the law.

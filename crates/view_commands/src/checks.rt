@@ -2,7 +2,7 @@
 ghost use Rattle.std.specs.Prelude.{◌≡◌, ◌≤◌, IfOk, length, string_bytes};
 ghost use Rattle.bench_types.specs.Limits.{max_steps};
 ghost use Rattle.bench_types.specs.Session.{IsSession};
-ghost use Rattle.view_commands.specs.CheckViews.{IsCheckOf, IsCheckView, told_of_check};
+ghost use Rattle.view_commands.specs.CheckViews.{IsCheckOf, IsCheckView, printed_of_check};
 
 use crate::edited::make_edits;
 use crate::request::CheckView;
@@ -17,8 +17,8 @@ use std::alloc::{AllocError, Global};
 
 // The limits that are not kept go to standard output, and the names that there are to standard
 // error.
-fn told_of_check(alloc: Global, status: CheckStatus, text: String) -> Output
-    ensures { result ≡ told_of_check status (string_bytes text) }
+fn printed_of_check(alloc: Global, status: CheckStatus, text: String) -> Output
+    ensures { result ≡ printed_of_check status (string_bytes text) }
 {
     let (none, text) = (Vec::new(alloc), text.into_bytes());
     match status {
@@ -50,7 +50,8 @@ fn check_of(
     requires session { IsSession (record { header = header.now; steps = steps.now }) }
     requires few { length steps.now ≤ max_steps }
     ensures { IfOk result
-        (λ told. IsCheckOf view.now (record { header = header.now; steps = steps.now }) told) }
+        (λ printed. IsCheckOf view.now (record { header = header.now; steps = steps.now })
+        printed) }
 {
     match check(
         alloc,
@@ -60,20 +61,20 @@ fn check_of(
         view.settled,
         view.limits.as_slice(),
     ) {
-        Ok(Checked { status, text }) => Ok(told_of_check(alloc, status, text)),
+        Ok(Checked { status, text }) => Ok(printed_of_check(alloc, status, text)),
         Err(fault) => not_settled(alloc, fault),
     }
 }
 
 /// Whether the run of the session with its edits made keeps the limits.
-pub(crate) fn told_check(
+pub(crate) fn printed_check(
     alloc: Global,
     meter: &mut Meter,
     store: &mut Store,
     edits: &[Edit],
     view: &CheckView,
 ) -> Result<Output, AllocError>
-    ensures { IfOk result (λ told. IsCheckView view.now store.old.session edits.now told) }
+    ensures { IfOk result (λ printed. IsCheckView view.now store.old.session edits.now printed) }
 {
     make_edits(alloc, meter, store, edits)?;
     let steps = steps_of(alloc, store)?;

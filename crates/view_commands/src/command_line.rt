@@ -3,13 +3,13 @@ ghost use Rattle.std.specs.Prelude.{◌≡◌, IfOk, map, option_map};
 ghost use Rattle.clap.specs.Words.{app_of, rule_of};
 ghost use Rattle.command_words.specs.Answered.{said};
 ghost use Rattle.command_words.specs.Said.{class_in};
-ghost use Rattle.command_words.specs.Told.{IsTold};
+ghost use Rattle.command_words.specs.Printed.{IsPrinted};
 ghost use Rattle.view_commands.specs.CommandLine.{advise_app, asked, asked_by, asked_in, at_least_rule, at_most_rule, axis_rule, best_rule, check_app, compare_app, core_rule, file_rule, from_rule, json_rule, judged_rule, less_rule, over_rule, page_app, report_app, session_app, settle_app, settle_rule, strict_rule, task_rule, timeline_app, to_rule, trace_app, view_app};
 
 use crate::options::asked_for;
 use crate::request::Request;
 use clap::{Arg, ArgAction, Command, value_parser};
-use command_words::{Answer, Saying, answer_of, flag, option, program};
+use command_words::{Parsed, Saying, flag, option, parse_line, program};
 use std::alloc::{AllocError, Global};
 use std::convert::AsStr;
 
@@ -216,7 +216,7 @@ fn file_argument<'a>(alloc: Global) -> Arg<'a>
 }
 
 fn trace_command<'a>(alloc: Global) -> Result<Command<'a>, AllocError>
-    ensures { IfOk result (λ command. IsTold command trace_app) }
+    ensures { IfOk result (λ command. IsPrinted command trace_app) }
 {
     Command::new(alloc, "trace")
         .after_help(TRACES)
@@ -231,7 +231,7 @@ fn trace_command<'a>(alloc: Global) -> Result<Command<'a>, AllocError>
 }
 
 fn session_command<'a>(alloc: Global) -> Result<Command<'a>, AllocError>
-    ensures { IfOk result (λ command. IsTold command session_app) }
+    ensures { IfOk result (λ command. IsPrinted command session_app) }
 {
     Command::new(alloc, "session")
         .after_help(SESSIONS)
@@ -241,7 +241,7 @@ fn session_command<'a>(alloc: Global) -> Result<Command<'a>, AllocError>
 }
 
 fn settle_command<'a>(alloc: Global) -> Result<Command<'a>, AllocError>
-    ensures { IfOk result (λ command. IsTold command settle_app) }
+    ensures { IfOk result (λ command. IsPrinted command settle_app) }
 {
     Command::new(alloc, "settle")
         .after_help(SETTLED_RUNS)
@@ -251,7 +251,7 @@ fn settle_command<'a>(alloc: Global) -> Result<Command<'a>, AllocError>
 }
 
 fn compare_command<'a>(alloc: Global) -> Result<Command<'a>, AllocError>
-    ensures { IfOk result (λ command. IsTold command compare_app) }
+    ensures { IfOk result (λ command. IsPrinted command compare_app) }
 {
     Command::new(alloc, "compare")
         .after_help(COMPARISONS)
@@ -262,7 +262,7 @@ fn compare_command<'a>(alloc: Global) -> Result<Command<'a>, AllocError>
 }
 
 fn timeline_command<'a>(alloc: Global) -> Result<Command<'a>, AllocError>
-    ensures { IfOk result (λ command. IsTold command timeline_app) }
+    ensures { IfOk result (λ command. IsPrinted command timeline_app) }
 {
     Command::new(alloc, "timeline")
         .after_help(PICTURES)
@@ -276,7 +276,7 @@ fn timeline_command<'a>(alloc: Global) -> Result<Command<'a>, AllocError>
 }
 
 fn page_command<'a>(alloc: Global) -> Result<Command<'a>, AllocError>
-    ensures { IfOk result (λ command. IsTold command page_app) }
+    ensures { IfOk result (λ command. IsPrinted command page_app) }
 {
     Command::new(alloc, "page")
         .after_help(PAGES)
@@ -290,7 +290,7 @@ fn page_command<'a>(alloc: Global) -> Result<Command<'a>, AllocError>
 }
 
 fn report_command<'a>(alloc: Global) -> Result<Command<'a>, AllocError>
-    ensures { IfOk result (λ command. IsTold command report_app) }
+    ensures { IfOk result (λ command. IsPrinted command report_app) }
 {
     Command::new(alloc, "report")
         .after_help(REPORTS)
@@ -302,7 +302,7 @@ fn report_command<'a>(alloc: Global) -> Result<Command<'a>, AllocError>
 }
 
 fn check_command<'a>(alloc: Global) -> Result<Command<'a>, AllocError>
-    ensures { IfOk result (λ command. IsTold command check_app) }
+    ensures { IfOk result (λ command. IsPrinted command check_app) }
 {
     Command::new(alloc, "check")
         .after_help(CHECKS)
@@ -315,7 +315,7 @@ fn check_command<'a>(alloc: Global) -> Result<Command<'a>, AllocError>
 }
 
 fn advise_command<'a>(alloc: Global) -> Result<Command<'a>, AllocError>
-    ensures { IfOk result (λ command. IsTold command advise_app) }
+    ensures { IfOk result (λ command. IsPrinted command advise_app) }
 {
     Command::new(alloc, "advise")
         .after_help(ADVICE)
@@ -374,8 +374,8 @@ pub fn request_of<S: AsStr>(alloc: Global, words: Option<&[S]>) -> Result<Reques
     ensures { IfOk result
         (λ request. asked_in request ≡ asked (option_map (λ all. map S.text all.now) words.entry)) }
 {
-    match answer_of(alloc, program_command(alloc)?, words)? {
-        Answer::Met(matches) => asked_for(alloc, &matches),
-        Answer::Said(saying) => Ok(said(saying)),
+    match parse_line(alloc, program_command(alloc)?, words)? {
+        Parsed::Met(matches) => asked_for(alloc, &matches),
+        Parsed::Said(saying) => Ok(said(saying)),
     }
 }

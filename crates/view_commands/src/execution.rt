@@ -3,7 +3,7 @@ ghost use Rattle.program_io.specs.Endings.{EndsOver, EndsTelling};
 ghost use Rattle.view_commands.specs.Commands.{IsView};
 
 use crate::Job;
-use crate::answer::told_of;
+use crate::answer::printed_of;
 use program_io::{CountedRead, CountedWrite, Ending, tell_of_input};
 use run_advice::Progress;
 use std::alloc::Global;
@@ -25,6 +25,6 @@ pub fn run<T: Threads + Sync, P: Progress, R: CountedRead, W: CountedWrite>(
         (W.seen writer.old) (W.seen writer.new) }
 {
     tell_of_input(alloc, reader, writer, |input| {
-        told_of(rt, host, progress, alloc, input, job)
+        printed_of(rt, host, progress, alloc, input, job)
     })
 }

@@ -6,8 +6,8 @@ ghost use Rattle.view_commands.specs.PageViews.{as_table, counts_text, made_page
 ghost use Rattle.view_commands.specs.ReportViews.{IsReported};
 
 use crate::edited::{comparison_of, make_edits, picture_of, second};
-use crate::reports::told_report;
-use crate::settled::{comparison_told, not_settled, pictured};
+use crate::reports::printed_report;
+use crate::settled::{comparison_printed, not_settled, pictured};
 use crate::{PageView, ReportView};
 use bench_types::{Edit, Header, Step};
 use program_io::{Output, OutputStatus};
@@ -37,7 +37,7 @@ fn picture_part(
     view: PageView,
 ) -> Result<Output, AllocError>
     ensures { IfOk result
-        (λ told. IsPictured view.settled view.extent store.now.session edits.now told) }
+        (λ printed. IsPictured view.settled view.extent store.now.session edits.now printed) }
 {
     let mut twin = second(alloc, meter, store)?;
     if view.settled {
@@ -47,18 +47,18 @@ fn picture_part(
 }
 
 // What `compare` tells.
-fn comparison_told_of(
+fn comparison_printed_of(
     alloc: Global,
     meter: &mut Meter,
     store: &Store,
     edits: &[Edit],
     settled: bool,
 ) -> Result<Output, AllocError>
-    ensures { IfOk result (λ told. IsComparison settled store.now.session edits.now told) }
+    ensures { IfOk result (λ printed. IsComparison settled store.now.session edits.now printed) }
 {
     let mut twin = second(alloc, meter, store)?;
     if settled {
-        return comparison_told(alloc, meter, &mut twin, edits);
+        return comparison_printed(alloc, meter, &mut twin, edits);
     }
     let text = comparison_of(alloc, meter, &mut twin, edits)?;
     Ok(Output::fine(alloc, text))
@@ -73,13 +73,13 @@ fn comparison_part(
     edits: &[Edit],
     settled: bool,
 ) -> Result<Option<Output>, AllocError>
-    ensures { IfOk result (λ told. IsCompared settled store.now.session edits.now told) }
+    ensures { IfOk result (λ printed. IsCompared settled store.now.session edits.now printed) }
 {
     if edits.is_empty() {
         return Ok(None);
     }
-    let told = comparison_told_of(alloc, meter, store, edits, settled)?;
-    Ok(Some(told))
+    let printed = comparison_printed_of(alloc, meter, store, edits, settled)?;
+    Ok(Some(printed))
 }
 
 // What `report` tells.
@@ -91,11 +91,11 @@ fn report_part(
     settled: bool,
 ) -> Result<Output, AllocError>
     ensures { IfOk result
-        (λ told. IsReported (as_table settled) store.now.session edits.now told) }
+        (λ printed. IsReported (as_table settled) store.now.session edits.now printed) }
 {
     let mut twin = second(alloc, meter, store)?;
     let form = Form::Table;
-    told_report(alloc, meter, &mut twin, edits, ReportView { settled, form })
+    printed_report(alloc, meter, &mut twin, edits, ReportView { settled, form })
 }
 
 fn drawn_of(
@@ -156,7 +156,7 @@ fn made_page(
 ) -> Result<Output, AllocError>
     requires session { IsSession (record { header = header.now; steps = steps.now }) }
     requires few { length steps.now ≤ max_steps }
-    ensures { IfOk result (λ told. told
+    ensures { IfOk result (λ printed. printed
         ≡ made_page view picture (option_map (λ words. words.items) comparison) report.items
         (record { header = header.now; steps = steps.now })) }
 {
@@ -189,7 +189,7 @@ fn with_report(
 ) -> Result<Output, AllocError>
     requires session { IsSession (record { header = header.now; steps = steps.now }) }
     requires few { length steps.now ≤ max_steps }
-    ensures { IfOk result (λ told. told
+    ensures { IfOk result (λ printed. printed
         ≡ with_report view picture (option_map (λ words. words.items) comparison) report
         (record { header = header.now; steps = steps.now })) }
 {
@@ -215,19 +215,19 @@ fn with_comparison(
 ) -> Result<Output, AllocError>
     requires session { IsSession (record { header = header.now; steps = steps.now }) }
     requires few { length steps.now ≤ max_steps }
-    ensures { IfOk result (λ told. told
+    ensures { IfOk result (λ printed. printed
         ≡ with_comparison view picture comparison report
         (record { header = header.now; steps = steps.now })) }
 {
-    let Some(told) = comparison else {
+    let Some(printed) = comparison else {
         return with_report(alloc, meter, header, steps, view, picture, None, report);
     };
-    match told.status {
+    match printed.status {
         OutputStatus::Fine => {
-            let text = Some(told.text);
+            let text = Some(printed.text);
             with_report(alloc, meter, header, steps, view, picture, text, report)
         }
-        OutputStatus::Failed | OutputStatus::Unknown => Ok(told),
+        OutputStatus::Failed | OutputStatus::Unknown => Ok(printed),
     }
 }
 
@@ -242,7 +242,7 @@ fn page_of_run(
 ) -> Result<Output, AllocError>
     requires session { IsSession (record { header = header.now; steps = steps.now }) }
     requires few { length steps.now ≤ max_steps }
-    ensures { IfOk result (λ told. told
+    ensures { IfOk result (λ printed. printed
         ≡ page_of view drawn (record { header = header.now; steps = steps.now })) }
 {
     let Drawn {
@@ -270,7 +270,8 @@ fn page_of_settled(
     requires session { IsSession (record { header = header.now; steps = steps.now }) }
     requires settled { view.settled ≡ true }
     ensures { IfOk result
-        (λ told. IsPageOf view drawn (record { header = header.now; steps = steps.now }) told) }
+        (λ printed. IsPageOf view drawn (record { header = header.now; steps = steps.now })
+        printed) }
 {
     match settle(alloc, header, steps, meter) {
         Ok(settled) => page_of_run(alloc, meter, header, settled.run.as_slice(), view, drawn),
@@ -286,7 +287,7 @@ fn page_of_store(
     view: PageView,
     drawn: Drawn,
 ) -> Result<Output, AllocError>
-    ensures { IfOk result (λ told. IsPageOf view drawn store.now.session told) }
+    ensures { IfOk result (λ printed. IsPageOf view drawn store.now.session printed) }
 {
     let steps = steps_of(alloc, store)?;
     let (header, steps) = (store.header(), steps.as_slice());
@@ -297,14 +298,14 @@ fn page_of_store(
 }
 
 /// The page of the session and its edits; those that are refused are passed over.
-pub(crate) fn told_page(
+pub(crate) fn printed_page(
     alloc: Global,
     meter: &mut Meter,
     store: &mut Store,
     edits: &[Edit],
     view: PageView,
 ) -> Result<Output, AllocError>
-    ensures { IfOk result (λ told. IsPage view store.old.session edits.now told) }
+    ensures { IfOk result (λ printed. IsPage view store.old.session edits.now printed) }
 {
     let drawn = drawn_of(alloc, meter, store, edits, view)?;
     make_edits(alloc, meter, store, edits)?;

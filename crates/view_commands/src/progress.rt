@@ -45,7 +45,7 @@ fn progress_text(alloc: Global, done: usize, all: usize) -> Result<String, Alloc
 impl<W: Write> Progress for Telling<W> {
     fn tell(&mut self, done: usize, all: usize)
         ensures terminal { self.new.is_terminal ≡ self.old.is_terminal }
-        ensures told { TellsProgress self.old.is_terminal done all
+        ensures printed { TellsProgress self.old.is_terminal done all
             (device (W.contents self.old.errors.device) self.old.errors.failures)
             (device (W.contents self.new.errors.device) self.new.errors.failures) }
     {

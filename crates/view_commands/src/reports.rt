@@ -26,7 +26,8 @@ fn report_of(
     requires session { IsSession (record { header = header.now; steps = steps.now }) }
     requires few { length steps.now ≤ max_steps }
     ensures { IfOk result
-        (λ told. IsReportedAlone view (record { header = header.now; steps = steps.now }) told) }
+        (λ printed. IsReportedAlone view (record { header = header.now; steps = steps.now })
+        printed) }
 {
     match report_of_run(alloc, meter, header, steps, view.settled, view.form) {
         Ok(text) => Ok(Output::fine(alloc, text.into_bytes())),
@@ -34,13 +35,13 @@ fn report_of(
     }
 }
 
-fn report_told(
+fn report_printed(
     alloc: Global,
     meter: &mut Meter,
     store: &Store,
     view: ReportView,
 ) -> Result<Output, AllocError>
-    ensures { IfOk result (λ told. IsReportedAlone view store.now.session told) }
+    ensures { IfOk result (λ printed. IsReportedAlone view store.now.session printed) }
 {
     let steps = steps_of(alloc, store)?;
     report_of(alloc, meter, store.header(), steps.as_slice(), view)
@@ -61,8 +62,8 @@ fn reports_of(
     requires edited_session { IsSession (record { header = edited.now; steps = later.now }) }
     requires few_later { length later.now ≤ max_steps }
     ensures { IfOk result
-        (λ told. IsReportedBeside view (record { header = header.now; steps = steps.now })
-        (record { header = edited.now; steps = later.now }) told) }
+        (λ printed. IsReportedBeside view (record { header = header.now; steps = steps.now })
+        (record { header = edited.now; steps = later.now }) printed) }
 {
     let (settled, form) = (view.settled, view.form);
     match report_of_runs(alloc, meter, header, steps, edited, later, settled, form) {
@@ -72,7 +73,7 @@ fn reports_of(
 }
 
 // That of a session of this header and these steps, and of the one that the store holds now.
-fn reports_told(
+fn reports_printed(
     alloc: Global,
     meter: &mut Meter,
     header: &Header,
@@ -83,8 +84,8 @@ fn reports_told(
     requires session { IsSession (record { header = header.now; steps = steps.now }) }
     requires few { length steps.now ≤ max_steps }
     ensures { IfOk result
-        (λ told. IsReportedBeside view (record { header = header.now; steps = steps.now })
-        store.now.session told) }
+        (λ printed. IsReportedBeside view (record { header = header.now; steps = steps.now })
+        store.now.session printed) }
 {
     let later = steps_of(alloc, store)?;
     reports_of(
@@ -99,20 +100,20 @@ fn reports_told(
 }
 
 /// The report of the session's run, and with edits that of the run after them beside it.
-pub(crate) fn told_report(
+pub(crate) fn printed_report(
     alloc: Global,
     meter: &mut Meter,
     store: &mut Store,
     edits: &[Edit],
     view: ReportView,
 ) -> Result<Output, AllocError>
-    ensures { IfOk result (λ told. IsReported view store.old.session edits.now told) }
+    ensures { IfOk result (λ printed. IsReported view store.old.session edits.now printed) }
 {
     if edits.is_empty() {
-        return report_told(alloc, meter, store, view);
+        return report_printed(alloc, meter, store, view);
     }
     let header = store.header().copy(alloc)?;
     let steps = steps_of(alloc, store)?;
     make_edits(alloc, meter, store, edits)?;
-    reports_told(alloc, meter, &header, steps.as_slice(), store, view)
+    reports_printed(alloc, meter, &header, steps.as_slice(), store, view)
 }

@@ -4,13 +4,13 @@ ghost use Rattle.bench_types.specs.Limits.{max_steps};
 ghost use Rattle.bench_types.specs.Session.{IsSession};
 ghost use Rattle.bench_model.specs.Edits.{after_edits};
 ghost use Rattle.settling.specs.declared.run.SettleFault.TheVariants.{TooManySteps};
-ghost use Rattle.view_commands.specs.SettledViews.{IsSettledPicture, IsSettledView, IsToldOfBoth, IsToldOfSettled, note_of, too_long};
+ghost use Rattle.view_commands.specs.SettledViews.{IsSettledPicture, IsSettledView, IsPrintedOfBoth, IsPrintedOfSettled, note_of, too_long};
 ghost use Rattle.program_io.specs.Outputs.{noted};
 ghost use Rattle.view_commands.specs.Views.{document_of, picture_of_run, trace_output};
 ghost use Rattle.program_io.specs.Outputs.{fine};
 
 use crate::edited::{answer_output, document_output, make_edits, second, trace_output};
-use crate::settled_pictures::pictures_told;
+use crate::settled_pictures::pictures_printed;
 use crate::{Selection, SettledView};
 use bench_types::{Edit, EditFault, Header, MAX_STEPS, Step};
 use program_io::{Output, Refusal};
@@ -43,7 +43,7 @@ fn with_left(
     left: &[WaitingCall],
     shown: Output,
 ) -> Result<Output, AllocError>
-    ensures { IfOk result (λ told. told ≡ noted shown (note_of header.now left.now)) }
+    ensures { IfOk result (λ printed. printed ≡ noted shown (note_of header.now left.now)) }
 {
     let note = note_of(alloc, header, left)?;
     Ok(shown.noted(note))
@@ -51,7 +51,7 @@ fn with_left(
 
 // The answer where a settled run has too many steps.
 fn too_long(alloc: Global) -> Result<Output, AllocError>
-    ensures { IfOk result (λ told. told ≡ too_long) }
+    ensures { IfOk result (λ printed. printed ≡ too_long) }
 {
     let mut hint = String::new(alloc);
     write!(hint, "the settled run has more than {MAX_STEPS} steps\n")?;
@@ -61,7 +61,7 @@ fn too_long(alloc: Global) -> Result<Output, AllocError>
 /// The answer where a session was not settled, which is one only for J2.
 pub(crate) fn not_settled(alloc: Global, fault: SettleFault) -> Result<Output, AllocError>
     ensures why { OnOk result (fault ≡ TooManySteps) }
-    ensures line { IfOk result (λ told. told ≡ too_long) }
+    ensures line { IfOk result (λ printed. printed ≡ too_long) }
 {
     match fault {
         SettleFault::TooManySteps => too_long(alloc),
@@ -82,7 +82,7 @@ fn trace_of_run(
     }) }
     requires few { length settled.now.run.items ≤ max_steps }
     ensures { IfOk result
-        (λ told. told
+        (λ printed. printed
         ≡ noted
         (trace_output selection.now
         (record { header = header.now; steps = settled.now.run.items }))
@@ -96,7 +96,7 @@ fn trace_of_run(
 fn document_of_run(alloc: Global, header: &Header, settled: &Settled) -> Result<Output, AllocError>
     requires { IsSession (record { header = header.now; steps = settled.now.run.items }) }
     ensures { IfOk result
-        (λ told. told
+        (λ printed. printed
         ≡ noted
         (fine (document_of (record { header = header.now; steps = settled.now.run.items })))
         (note_of header.now settled.now.left.items)) }
@@ -114,8 +114,8 @@ fn settled_trace(
 ) -> Result<Output, AllocError>
     requires { IsSession (record { header = header.now; steps = steps.now }) }
     ensures { IfOk result
-        (λ told. IsToldOfSettled (trace_output selection.now)
-        (record { header = header.now; steps = steps.now }) told) }
+        (λ printed. IsPrintedOfSettled (trace_output selection.now)
+        (record { header = header.now; steps = steps.now }) printed) }
 {
     match settle(alloc, header, steps, meter) {
         Ok(settled) => trace_of_run(alloc, meter, header, &settled, selection),
@@ -131,8 +131,8 @@ fn settled_document(
 ) -> Result<Output, AllocError>
     requires { IsSession (record { header = header.now; steps = steps.now }) }
     ensures { IfOk result
-        (λ told. IsToldOfSettled (λ run. fine (document_of run))
-        (record { header = header.now; steps = steps.now }) told) }
+        (λ printed. IsPrintedOfSettled (λ run. fine (document_of run))
+        (record { header = header.now; steps = steps.now }) printed) }
 {
     match settle(alloc, header, steps, meter) {
         Ok(settled) => document_of_run(alloc, header, &settled),
@@ -141,36 +141,36 @@ fn settled_document(
 }
 
 // The trace of the settled run of the session as it stands.
-fn trace_told(
+fn trace_printed(
     alloc: Global,
     meter: &mut Meter,
     store: &Store,
     selection: &Selection,
 ) -> Result<Output, AllocError>
     ensures { IfOk result
-        (λ told. IsToldOfSettled (trace_output selection.now) store.now.session told) }
+        (λ printed. IsPrintedOfSettled (trace_output selection.now) store.now.session printed) }
 {
     let steps = steps_of(alloc, store)?;
     settled_trace(alloc, meter, store.header(), steps.as_slice(), selection)
 }
 
 // That run as a document.
-fn document_told(alloc: Global, meter: &mut Meter, store: &Store) -> Result<Output, AllocError>
+fn document_printed(alloc: Global, meter: &mut Meter, store: &Store) -> Result<Output, AllocError>
     ensures { IfOk result
-        (λ told. IsToldOfSettled (λ run. fine (document_of run)) store.now.session told) }
+        (λ printed. IsPrintedOfSettled (λ run. fine (document_of run)) store.now.session printed) }
 {
     let steps = steps_of(alloc, store)?;
     settled_document(alloc, meter, store.header(), steps.as_slice())
 }
 
 /// The settled runs of the session and of the session after the edits, beside each other.
-pub(crate) fn comparison_told(
+pub(crate) fn comparison_printed(
     alloc: Global,
     meter: &mut Meter,
     store: &mut Store,
     edits: &[Edit],
 ) -> Result<Output, AllocError>
-    ensures { IfOk result (λ told. IsToldOfBoth store.old.session edits.now told) }
+    ensures { IfOk result (λ printed. IsPrintedOfBoth store.old.session edits.now printed) }
 {
     let before = second(alloc, meter, store)?;
     match compare_settled(alloc, meter, &before, store, edits) {
@@ -192,7 +192,7 @@ fn picture_of_run(
     }) }
     requires few { length settled.now.run.items ≤ max_steps }
     ensures { IfOk result
-        (λ told. told
+        (λ printed. printed
         ≡ noted
         (picture_of_run extent
         (record { header = header.now; steps = settled.now.run.items }))
@@ -212,8 +212,8 @@ fn settled_picture(
 ) -> Result<Output, AllocError>
     requires { IsSession (record { header = header.now; steps = steps.now }) }
     ensures { IfOk result
-        (λ told. IsToldOfSettled (picture_of_run extent)
-        (record { header = header.now; steps = steps.now }) told) }
+        (λ printed. IsPrintedOfSettled (picture_of_run extent)
+        (record { header = header.now; steps = steps.now }) printed) }
 {
     match settle(alloc, header, steps, meter) {
         Ok(settled) => picture_of_run(alloc, meter, header, &settled, extent),
@@ -222,14 +222,14 @@ fn settled_picture(
 }
 
 // The picture of that run.
-fn picture_told(
+fn picture_printed(
     alloc: Global,
     meter: &mut Meter,
     store: &Store,
     extent: Extent,
 ) -> Result<Output, AllocError>
     ensures { IfOk result
-        (λ told. IsToldOfSettled (picture_of_run extent) store.now.session told) }
+        (λ printed. IsPrintedOfSettled (picture_of_run extent) store.now.session printed) }
 {
     let steps = steps_of(alloc, store)?;
     settled_picture(alloc, meter, store.header(), steps.as_slice(), extent)
@@ -243,17 +243,17 @@ pub(crate) fn pictured(
     edits: &[Edit],
     extent: Extent,
 ) -> Result<Output, AllocError>
-    ensures { IfOk result (λ told. IsSettledPicture extent store.old.session edits.now told) }
+    ensures { IfOk result (λ printed. IsSettledPicture extent store.old.session edits.now printed) }
 {
     if edits.len() == 0 {
-        return picture_told(alloc, meter, store, extent);
+        return picture_printed(alloc, meter, store, extent);
     }
-    pictures_told(alloc, meter, store, edits, extent)
+    pictures_printed(alloc, meter, store, edits, extent)
 }
 
 /// What the view tells of the session and its edits, settled; those that are refused are passed
 /// over.
-pub(crate) fn told_settled(
+pub(crate) fn printed_settled(
     alloc: Global,
     meter: &mut Meter,
     store: &mut Store,
@@ -261,18 +261,18 @@ pub(crate) fn told_settled(
     view: &SettledView,
 ) -> Result<Output, AllocError>
     ensures { IfOk result
-        (λ told. IsSettledView view.now store.old.session edits.now told) }
+        (λ printed. IsSettledView view.now store.old.session edits.now printed) }
 {
     match view {
         SettledView::Trace(selection) => {
             make_edits(alloc, meter, store, edits)?;
-            trace_told(alloc, meter, store, selection)
+            trace_printed(alloc, meter, store, selection)
         }
         SettledView::Session => {
             make_edits(alloc, meter, store, edits)?;
-            document_told(alloc, meter, store)
+            document_printed(alloc, meter, store)
         }
-        SettledView::Compare => comparison_told(alloc, meter, store, edits),
+        SettledView::Compare => comparison_printed(alloc, meter, store, edits),
         SettledView::Timeline(extent) => pictured(alloc, meter, store, edits, *extent),
     }
 }

@@ -3,7 +3,7 @@ ghost use Rattle.std.specs.Prelude.{◌≡◌, ◌+◌, ◌<◌, ◌≤◌, ◌^
 ghost use Rattle.bench_types.specs.Limits.{max_steps};
 ghost use Rattle.run_comparisons.specs.declared.columns.Side.TheVariants.{Before, After};
 ghost use Rattle.run_comparisons.specs.Columns.{columns_of};
-ghost use Rattle.view_commands.specs.SettledViews.{columns_after, columns_before, pair_note, picture_of_pair, IsDrawnPair, IsToldOfPictures};
+ghost use Rattle.view_commands.specs.SettledViews.{columns_after, columns_before, pair_note, picture_of_pair, IsDrawnPair, IsPrintedOfPictures};
 ghost use Rattle.program_io.specs.Outputs.{noted};
 
 use crate::edited::{answer_output, second};
@@ -25,7 +25,7 @@ fn noted_pair(
     shown: Output,
 ) -> Result<Output, AllocError>
     ensures { IfOk result
-        (λ told. told ≡ noted shown (pair_note header.now edited.now pair.now)) }
+        (λ printed. printed ≡ noted shown (pair_note header.now edited.now pair.now)) }
 {
     let mut note = String::new(alloc);
     let left = pair.before.left.as_slice();
@@ -103,7 +103,7 @@ fn pictures_of(
 ) -> Result<Output, AllocError>
     requires { IsDrawnPair extent.axis header.now edited.now pair.now }
     ensures { IfOk result
-        (λ told. told
+        (λ printed. printed
         ≡ noted (picture_of_pair extent header.now edited.now pair.now)
         (pair_note header.now edited.now pair.now)) }
 {
@@ -112,14 +112,14 @@ fn pictures_of(
 }
 
 /// The picture of the settled run before the edits and of that after them.
-pub(crate) fn pictures_told(
+pub(crate) fn pictures_printed(
     alloc: Global,
     meter: &mut Meter,
     store: &mut Store,
     edits: &[Edit],
     extent: Extent,
 ) -> Result<Output, AllocError>
-    ensures { IfOk result (IsToldOfPictures extent store.old.session edits.now) }
+    ensures { IfOk result (IsPrintedOfPictures extent store.old.session edits.now) }
 {
     let before = second(alloc, meter, store)?;
     match settle_both(alloc, meter, &before, store, edits) {

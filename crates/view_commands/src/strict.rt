@@ -47,10 +47,10 @@ pub(crate) fn judged_strictly(
 }
 
 /// The lines, and then what is told.
-pub(crate) fn with_lines(lines: String, told: Output) -> Result<Output, AllocError>
-    ensures { IfOk result (λ noted. noted ≡ with_lines (string_bytes lines) told) }
+pub(crate) fn with_lines(lines: String, printed: Output) -> Result<Output, AllocError>
+    ensures { IfOk result (λ noted. noted ≡ with_lines (string_bytes lines) printed) }
 {
-    let Output { status, text, note } = told;
+    let Output { status, text, note } = printed;
     let mut lines = lines.into_bytes();
     lines.extend_from_slice(note.as_slice())?;
     Ok(Output {

@@ -1,7 +1,7 @@
 //! Many candidate edits of one session, tried side by side.
 #![tactic(auto)]
 
-ghost use Rattle.std.specs.Prelude.{IfOk};
+ghost use Rattle.std.specs.Prelude.{IfOk, IfSome};
 ghost use Rattle.std.specs.List.{AllZip};
 ghost use Rattle.session_store.specs.Sums.{AreSumsOf};
 ghost use Rattle.session_store.specs.Trials.{IsTried};
@@ -31,19 +31,14 @@ pub fn try_all<R: Threads + Sync>(
 ) -> Result<Vec<Result<(Outcome, Tallies), StoreFault>>, AllocError>
     ensures { IfOk result (λ tried. AllZip (IsTried store.now) edits.now tried.items) }
 {
-    let sums = store.sums(alloc);
+    let sums = store.sums(alloc).ok();
     edits
         .par_iter()
         .map(
             |edit: &Edit| -> Result<(Outcome, Tallies), StoreFault>
-                requires { IfOk sums (AreSumsOf store.now) }
+                requires { IfSome sums (AreSumsOf store.now) }
                 ensures { IsTried store.entry.now edit.now result }
-            {
-                match &sums {
-                    Ok(sums) => store.trial_with(alloc, sums, *edit, &mut Meter::new(host)),
-                    Err(_) => store.trial(alloc, *edit, &mut Meter::new(host)),
-                }
-            },
+            { store.trial_with(alloc, sums.as_ref(), *edit, &mut Meter::new(host)) },
         )
         .with_min_len(1)
         .collect(rt, alloc)

@@ -7,12 +7,14 @@ use Rattle.bench_model.specs.declared.row.TaskState.TheVariants.{Ready, Blocked}
 use Rattle.bench_model.specs.declared.row.TaskRow.{TaskRow}
 use Rattle.bench_model.specs.Alike.{SamePairwise, InOneReadyList, AreDelayedTogether, InOneWaitQueue, SameOrder}
 use Rattle.list_orders.specs.Search.{best, by_stamp, placed, ranked}
+use Rattle.bench_model.specs.Control.{runs_on}
 use Rattle.bench_model.specs.Refusals.{refusal}
 use Rattle.bench_model.specs.State.{after_select, yielded, blocked}
 use Rattle.bench_model.specs.Notifying.{completed}
 use Rattle.bench_model.specs.Steps.{ticked, called, performed, after, after_finish}
 use Rattle.bench_model.specs.Seek.{core_to_yield, seek, wake, after_eviction, after_switch, sliced}
-use Rattle.bench_model.specs.Table.{Table, row_at, stamp_of, stands_ready, wake_in, wait_in, deadline_at, deadline_left, pick, add_to_ready_list, delay, advance, due, forget_deadline}
+use Rattle.bench_model.specs.Table.{Table, row_at, stamp_of, stands_ready, wake_in, wait_in, deadline_at, deadline_left, pick, add_to_ready_list, delay}
+use Rattle.bench_model.specs.Table.{advance, due, forget_deadline}
 use Rattle.bench_model.specs.Lists.{View, lists_of}
 use Rattle.bench_model.specs.Start.{first_stamps, unstarted, started}
 use Rattle.bench_model.specs.Session.{state_at, reply_at}
@@ -20,7 +22,9 @@ use Rattle.worked_examples.specs.Examples.{WorkedSessions, TimedSessions, Endles
 
 -- whoever names this computes with all of the definitions
 unfoldable pub computed : ℕ
-unfolding best by_stamp placed ranked completed after_finish core_to_yield seek wake after_eviction after_switch sliced forget_deadline refusal after_select ticked yielded blocked called performed after pick add_to_ready_list delay advance due lists_of first_stamps unstarted started state_at reply_at
+unfolding best by_stamp placed ranked completed after_finish runs_on core_to_yield seek wake after_eviction after_switch sliced forget_deadline refusal
+    after_select ticked yielded blocked called performed after pick add_to_ready_list delay advance due lists_of first_stamps unstarted started state_at
+    reply_at
 computed = 0
 
 pub sessions : WorkedSessions
@@ -70,12 +74,17 @@ left_so tick (Some end) =
     let same : end - tick ≡ (end + 2 ^ 32) - (tick + 2 ^ 32) = omega arith in
     ap Some same
 
-wake_so : (tick : ℕ) (standing : TaskState) → option_map (λ wake. wake - tick) (wake_in standing) ≡ option_map (λ wake. wake - (tick + 2 ^ 32)) (wake_in (wake_later standing))
+wake_so : (tick : ℕ) (standing : TaskState) → option_map (λ wake. wake - tick) (wake_in standing) ≡ option_map (λ wake. wake - (tick + 2 ^ 32))
+    (wake_in (wake_later standing))
 wake_so tick Ready = refl
 wake_so tick (Blocked wake wait) = left_so tick wake
 
 came_so : (together : Table → ℕ → ℕ → Type 0) (table : Table) → SameOrder together table (later table)
-came_so together table i j low below stand = (λ h. omega (arith, stamp_so table i, stamp_so table j, h), λ h. omega (arith, stamp_so table i, stamp_so table j, h))
+came_so together table i j low below stand = (
+  λ h. omega (arith, stamp_so table i, stamp_so table j, h),
+  λ h. omega
+      (arith, stamp_so table i, stamp_so table j, h),
+)
 
 alike_later : (table : Table) → SamePairwise table (later table)
 unfolding deadline_left
@@ -88,9 +97,11 @@ alike_later table = let tick = table.orders.tick in record {
   hold = refl;
   ticks = omega arith;
   ready = λ i low. ready_so (row_at table.orders i).standing ∙ sym (ap (λ (r : TaskRow). stands_ready r.standing) (row_so table i));
-  left = λ i low. wake_so tick (row_at table.orders i).standing ∙ sym (ap (λ (r : TaskRow). option_map (λ wake. wake - (tick + 2 ^ 32)) (wake_in r.standing)) (row_so table i));
+  left = λ i low. wake_so tick (row_at table.orders i).standing ∙ sym (ap (λ (r : TaskRow). option_map (λ wake. wake - (tick + 2 ^ 32)) (wake_in r.standing))
+      (row_so table i));
   waits = λ i low. wait_so (row_at table.orders i).standing ∙ sym (ap (λ (r : TaskRow). wait_in r.standing) (row_so table i));
-  deadlines = λ i low. left_so tick (deadline_at table.orders i) ∙ sym (ap (option_map (λ end. end - (tick + 2 ^ 32))) (get_or-map (option_map (λ end. end + 2 ^ 32)) table.orders.deadlines i None));
+  deadlines = λ i low. left_so tick (deadline_at table.orders i) ∙ sym (ap (option_map (λ end. end - (tick + 2 ^ 32)))
+      (get_or-map (option_map (λ end. end + 2 ^ 32)) table.orders.deadlines i None));
   ready_order = came_so InOneReadyList table;
   delay_order = came_so AreDelayedTogether table;
   queue_order = came_so InOneWaitQueue table;

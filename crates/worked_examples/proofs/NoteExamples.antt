@@ -1,6 +1,6 @@
 -- The worked notifications, computed on the definitions.
 use Rattle.std.proofs.Common.{ℕ}
-use Rattle.bench_model.specs.Notes.{notified, slot_in, wait_begun, wait_ended, take_begun, take_ended, state_cleared, value_cleared}
+use Rattle.bench_model.specs.Notes.{notified, slot_in, wait_entered, wait_ended, take_entered, take_ended, state_cleared, value_cleared}
 use Rattle.worked_examples.specs.NoteExamples.{WorkedNotes, WorkedWaits, WorkedTakes, WorkedClears, WorkedNotifies, WorkedCalls, WorkedIndexes}
 use Rattle.bench_model.specs.Session.{state_at}
 use Rattle.bench_model.specs.Notifying.{notify, interrupted, state_forgotten, bits_cleared, awaited}
@@ -8,7 +8,7 @@ use Rattle.worked_examples.proofs.Examples.{computed}
 
 -- whoever names this computes with notifications
 unfoldable of_notes : ℕ
-unfolding notified slot_in wait_begun wait_ended take_begun take_ended state_cleared value_cleared
+unfolding notified slot_in wait_entered wait_ended take_entered take_ended state_cleared value_cleared
 of_notes = 0
 
 pub notes : WorkedNotes

@@ -13,7 +13,8 @@ use Rattle.worked_examples.proofs.Examples.{computed}
 use Rattle.session_laws.proofs.Tallies.{stepwise}
 
 pub worked : WorkedTallies
-unfolding computed in_use_set runs_on ask_its_core first_waiter deadline_left taken inherited waited_at mutex_take after_disinherit timed_out take_finished tally_after tallied
+unfolding computed in_use_set runs_on ask_its_core first_waiter deadline_left taken inherited waited_at mutex_take after_disinherit timed_out take_finished
+    tally_after tallied
 worked = record {
   sleeps = stepwise (timed three_tasks) (slept (Switch 0) (Switch 1)) ∙ refl;
   waits_for_a_switch = stepwise three_tasks woken_late ∙ refl;

@@ -1,7 +1,7 @@
 -- Worked holds and delays until a tick count: what each keeps out, and when a task wakes.
 use Rattle.std.specs.Prelude.{◌≡◌, ℕ, ◌-◌, ◌^◌, List, [], ◌∷◌, ◌++◌, true, false, Option, Some, None}
 use Rattle.bench_types.specs.declared.header.Header.{Header}
-use Rattle.bench_types.specs.declared.note.Action.TheVariants.{Increment}
+use Rattle.bench_types.specs.declared.note.NotifyAction.TheVariants.{Increment}
 use Rattle.bench_types.specs.declared.reply.Reply.TheVariants.{Done, Blocked, Flag, Isr, Until, Refused}
 use Rattle.bench_types.specs.declared.reply.Refusal.TheVariants.{Held, SwitchDue, HoldBlock, NoHold, HoldDeep}
 use Rattle.bench_types.specs.declared.step.Step.{Step}
@@ -9,7 +9,7 @@ use Rattle.bench_types.specs.declared.step.Step.TheVariants.{Tick, Switch, Call,
 use Rattle.bench_types.specs.declared.step.Call.TheVariants.{Yield, Delay, DelayUntil, Finish, StateClear, HoldOpen, HoldClose}
 use Rattle.worked_examples.specs.Examples.{timed, three_tasks, outcomes}
 use Rattle.bench_model.specs.Looks.{ticks_left}
-use Rattle.worked_examples.specs.NoteExamples.{replies, told}
+use Rattle.worked_examples.specs.NoteExamples.{replies, known}
 use Rattle.bench_model.specs.Session.{step_of, state_after}
 use Rattle.worked_examples.specs.SetExamples.{flags_after}
 use Rattle.bench_model.specs.Start.{start}
@@ -40,7 +40,7 @@ pub record WorkedHolds : Type 0 where
       ∷ Call 0 2 HoldClose ∷ [])
       ≡ Done ∷ Refused Held ∷ Refused Held ∷ Refused HoldBlock ∷ Done ∷ Refused NoHold ∷ []
   pub lets_in :
-      replies three_tasks (Call 0 2 HoldOpen ∷ Interrupt 1 (told 2 Increment) ∷ Tick ∷ [])
+      replies three_tasks (Call 0 2 HoldOpen ∷ Interrupt 1 (known 2 Increment) ∷ Tick ∷ [])
       ≡ Done ∷ Isr true false ∷ Done ∷ []
   pub due_goes_on :
       replies three_tasks

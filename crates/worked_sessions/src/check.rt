@@ -2,7 +2,7 @@
 use crate::block::{Block, Shown};
 use crate::replay::Played;
 use crate::rows::outcome_of_row;
-use crate::run::told_of_run;
+use crate::run::printed_of_run;
 use std::alloc::AllocError;
 use std::io::{self, ErrorKind};
 use std::sync::Wait;
@@ -57,7 +57,7 @@ fn check_run<R: Threads + Wait + Sync>(
     block: &Block<'_>,
 ) -> io::Result<()> {
     let (input, expected) = first_line(block.rest);
-    let found = told_of_run(rt, host, block.given, input)?;
+    let found = printed_of_run(rt, host, block.given, input)?;
     compare(host, block.title, expected, found.as_str())
 }
 
@@ -103,19 +103,19 @@ fn lines_of(played: &Option<Played>) -> &str {
 
 fn check_pair(rt: &HostRuntime, block: &Block<'_>) -> io::Result<()> {
     let (session, expected) = first_line(block.rest);
-    let found = told_of(rt, block.given, session)?;
+    let found = printed_of(rt, block.given, session)?;
     compare(rt, block.title, expected, found)
 }
 
 /// Whether two sessions end alike.
-fn told_of(rt: &HostRuntime, one: &str, two: &str) -> Result<&'static str, AllocError> {
+fn printed_of(rt: &HostRuntime, one: &str, two: &str) -> Result<&'static str, AllocError> {
     match Played::of(rt, one, false)? {
-        Some(played) => told_beside(rt, &played, two),
+        Some(played) => printed_beside(rt, &played, two),
         None => Ok(NO_SESSION),
     }
 }
 
-fn told_beside(
+fn printed_beside(
     rt: &HostRuntime,
     played: &Played,
     session: &str,

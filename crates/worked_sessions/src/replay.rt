@@ -50,7 +50,7 @@ impl Played {
         if self.has_refusal() || other.has_refusal() {
             return Ok("a step is refused");
         }
-        Ok(told(&self.kernel, &other.kernel))
+        Ok(printed(&self.kernel, &other.kernel))
     }
 
     fn has_refusal(&self) -> bool {
@@ -63,7 +63,7 @@ fn is_copied(alloc: Global, kernel: &Kernel) -> Result<bool, AllocError> {
     Ok(kernel.same(&copy))
 }
 
-fn told(one: &Kernel, two: &Kernel) -> &'static str {
+fn printed(one: &Kernel, two: &Kernel) -> &'static str {
     match (one.same(two), two.same(one)) {
         (true, true) => "same",
         (false, false) => "differ",

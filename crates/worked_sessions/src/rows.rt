@@ -1,5 +1,5 @@
 //! Rows, each with a text or the changes of one, and what reading that gives.
-use crate::run::told_of_run;
+use crate::run::printed_of_run;
 use std::alloc::{AllocError, Global};
 use std::sync::Wait;
 use std::thread::Threads;
@@ -16,12 +16,12 @@ pub(crate) fn outcome_of_row<R: Threads + Wait + Sync>(
     let Some(text) = text_of(host.alloc(), base, given)? else {
         return String::from_str(host.alloc(), "no such place");
     };
-    let told = told_of_run(rt, host, words, text.as_str())?;
-    String::from_str(host.alloc(), outcome_of(told.as_str()))
+    let printed = printed_of_run(rt, host, words, text.as_str())?;
+    String::from_str(host.alloc(), outcome_of(printed.as_str()))
 }
 
-fn outcome_of(told: &str) -> &str {
-    let line = told.split_once("\n").map_or(told, |(line, _)| line);
+fn outcome_of(printed: &str) -> &str {
+    let line = printed.split_once("\n").map_or(printed, |(line, _)| line);
     line.strip_prefix("refused ").unwrap_or("read")
 }
 

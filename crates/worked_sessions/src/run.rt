@@ -7,7 +7,7 @@ use std::thread::Threads;
 
 /// What the bench writes with these words over this input. Where its exit status is not 0, a line
 /// with the status and what people are told stand below.
-pub(crate) fn told_of_run<R: Threads + Wait + Sync>(
+pub(crate) fn printed_of_run<R: Threads + Wait + Sync>(
     rt: &R,
     host: &HostRuntime,
     words: &str,

@@ -1,4 +1,5 @@
-use Rattle.meeting_laws.proofs.Checkpoints.{added_is_replayed, ascending_are_one, before_is_last, first_fit, next_are_these, next_fit, places_near, replay_is_within}
+use Rattle.meeting_laws.proofs.Checkpoints.{added_is_replayed, ascending_are_one, before_is_last, first_fit, next_are_these, next_fit, places_near}
+use Rattle.meeting_laws.proofs.Checkpoints.{replay_is_within}
 use Rattle.meeting_laws.proofs.Moves.{moved_from, moved_later, moved_within}
 use Rattle.meeting_laws.proofs.laws_of_checkpoints.Goals as goal
 
@@ -18,7 +19,8 @@ pub returns-clause-added_is_replayed : goal.returns-clause-added_is_replayed
 returns-clause-added_is_replayed c = λ kept edit place some accepts fit. added_is_replayed kept edit some accepts fit place
 
 pub returns-clause-moved_places_are_within : goal.returns-clause-moved_places_are_within
-returns-clause-moved_places_are_within c = λ session edit place accepts within compared. (moved_from edit place compared, moved_within session edit place accepts within)
+returns-clause-moved_places_are_within c = λ session edit place accepts within compared.
+    (moved_from edit place compared, moved_within session edit place accepts within)
 
 pub returns-clause-later_places_move_alike : goal.returns-clause-later_places_move_alike
 returns-clause-later_places_move_alike c = moved_later

@@ -8,7 +8,7 @@ use crate::parts::ready::{expect_mask, expect_priorities};
 use crate::parts::started::is_checked;
 use bench_samples::{LARGEST, crowd};
 use bench_types::{
-    Action, Header, MAX_CORES, MAX_MUTEXES, MAX_NOTES, MAX_PRIORITIES, MAX_TASKS, NoteState,
+    Header, MAX_CORES, MAX_MUTEXES, MAX_NOTES, MAX_PRIORITIES, MAX_TASKS, NoteState, NotifyAction,
 };
 use mutex_inherit::Mutexes;
 use notify_core::Notes;
@@ -60,7 +60,7 @@ fn cores(rt: HostRuntime) -> Result<(), Fail> {
 }
 
 // The last task, at its last index.
-fn notify(rt: &impl Abort, notes: &mut Notes, action: Action)
+fn notify(rt: &impl Abort, notes: &mut Notes, action: NotifyAction)
     requires tasks { notes.old.tasks ≡ TASKS }
     requires entries { notes.old.entries ≡ MAX_NOTES }
     ensures tasks { notes.new.tasks ≡ TASKS }
@@ -91,7 +91,7 @@ fn check_notes(rt: &impl Abort, notes: &Notes, copy: &Notes)
 #[test]
 fn notes(rt: HostRuntime) -> Result<(), Fail> {
     let mut notes = Notes::new(rt.alloc(), TASKS, MAX_NOTES)?;
-    notify(&rt, &mut notes, Action::Set(7));
+    notify(&rt, &mut notes, NotifyAction::Set(7));
     let copy = notes.copy(rt.alloc())?;
     check_notes(&rt, &notes, &copy);
     Ok(())

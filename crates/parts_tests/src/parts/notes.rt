@@ -3,13 +3,13 @@ ghost use Rattle.std.specs.Prelude.{◌≡◌, ◌<◌};
 
 use crate::expected::{expect_is, expect_same};
 use bench_model::notes::{acted, is_received, is_waiting, notified, passes, without_bits};
-use bench_types::{Action, NoteState, Notification};
+use bench_types::{NoteState, Notification, NotifyAction};
 use notify_core::Notes;
 use std::process::Abort;
 use std::test::Fail;
 
 // The task waits at the index, and the notification ends its wait.
-fn notify(rt: &impl Abort, notes: &mut Notes, task: u32, index: u32, action: Action)
+fn notify(rt: &impl Abort, notes: &mut Notes, task: u32, index: u32, action: NotifyAction)
     requires task { task < notes.old.tasks }
     requires index { index < notes.old.entries }
     ensures tasks { notes.new.tasks ≡ notes.old.tasks }
@@ -29,7 +29,7 @@ fn take(rt: &impl Abort, notes: &mut Notes, task: u32, index: u32, clear: bool)
     ensures entries { notes.new.entries ≡ notes.old.entries }
 {
     expect_is(rt, notes.begin_take(task, index));
-    notify(rt, notes, task, index, Action::Set(7));
+    notify(rt, notes, task, index, NotifyAction::Set(7));
     expect_same(rt, notes.end_take(task, index, clear), 7);
 }
 
@@ -42,7 +42,7 @@ fn wait(rt: &impl Abort, notes: &mut Notes, task: u32, index: u32) -> (bool, u32
     ensures entries { notes.new.entries ≡ notes.old.entries }
 {
     expect_is(rt, notes.begin_wait(task, index, 2));
-    notify(rt, notes, task, index, Action::SetBits(5));
+    notify(rt, notes, task, index, NotifyAction::SetBits(5));
     notes.end_wait(task, index, 1)
 }
 
@@ -88,7 +88,7 @@ fn pass(rt: &impl Abort, notes: &mut Notes, task: u32, index: u32)
     ensures tasks { notes.new.tasks ≡ notes.old.tasks }
     ensures entries { notes.new.entries ≡ notes.old.entries }
 {
-    let (passed, waited) = notes.notify(task, index, Action::Increment);
+    let (passed, waited) = notes.notify(task, index, NotifyAction::Increment);
     expect_same(rt, (passed, waited), (true, false));
 }
 
@@ -120,7 +120,7 @@ fn check_others(rt: &impl Abort, notes: &Notes)
 fn notification_leaves_those_of_other_indexes(rt: HostRuntime) -> Result<(), Fail> {
     let mut notes = Notes::new(rt.alloc(), 2, 3)?;
     notify_others(&rt, &mut notes);
-    notify(&rt, &mut notes, 1, 2, Action::Set(9));
+    notify(&rt, &mut notes, 1, 2, NotifyAction::Set(9));
     check_others(&rt, &notes);
     Ok(())
 }
@@ -175,10 +175,10 @@ fn same_compares_the_numbers(rt: HostRuntime) -> Result<(), Fail> {
 fn parts_of_a_notification(rt: HostRuntime) {
     let state = NoteState::Waiting;
     expect_same(&rt, (is_waiting(state), is_received(state)), (true, false));
-    expect_is(&rt, passes(Action::SetNew(7), state));
-    expect_same(&rt, acted(Action::Increment, 4_294_967_295), 0);
+    expect_is(&rt, passes(NotifyAction::SetNew(7), state));
+    expect_same(&rt, acted(NotifyAction::Increment, 4_294_967_295), 0);
     expect_same(&rt, without_bits(5, 7), 2);
-    let note = notified(Action::SetBits(6), Notification { value: 5, state });
+    let note = notified(NotifyAction::SetBits(6), Notification { value: 5, state });
     expect_same(&rt, note.value, 7);
     expect_is(&rt, is_received(note.state));
 }

@@ -18,7 +18,7 @@ fn detail_of(alloc: Global, step: &str) -> Result<Detail, Fail> {
 }
 
 /// The text that is told, the nearest word, and all words.
-type Told = (Option<&'static str>, Option<&'static str>, &'static str);
+type Printed = (Option<&'static str>, Option<&'static str>, &'static str);
 
 pub fn text_of(shown: &Shown) -> Option<&str> {
     match shown {
@@ -34,15 +34,15 @@ pub fn word_of(nearest: &Option<Words>) -> Option<&str> {
     }
 }
 
-fn check_stray(rt: &impl Abort, stray: &Stray, told: &Told) {
-    let (text, nearest, words) = *told;
+fn check_stray(rt: &impl Abort, stray: &Stray, printed: &Printed) {
+    let (text, nearest, words) = *printed;
     expect_same(rt, &text_of(&stray.text), &text);
     expect_same(rt, &word_of(&stray.nearest), &nearest);
     expect_same(rt, &stray.words.as_str(), &words);
 }
 
 /// Steps with unknown members, of which the least is told.
-const UNKNOWN: &[(&str, Told)] = &[
+const UNKNOWN: &[(&str, Printed)] = &[
     (
         "{\"do\":\"tick\",\"cord\":1}",
         (Some("cord"), Some("do"), "do"),
@@ -72,9 +72,9 @@ const UNKNOWN: &[(&str, Told)] = &[
 
 #[test]
 fn unknown_members(rt: HostRuntime) -> Result<(), Fail> {
-    for (step, told) in UNKNOWN {
+    for (step, printed) in UNKNOWN {
         match detail_of(rt.alloc(), step)? {
-            Detail::Unknown(stray) => check_stray(&rt, &stray, told),
+            Detail::Unknown(stray) => check_stray(&rt, &stray, printed),
             _ => return Err(Fail::from("a member is unknown")),
         }
     }
@@ -84,7 +84,7 @@ fn unknown_members(rt: HostRuntime) -> Result<(), Fail> {
 const ACTIONS: &str = "none, set_bits, increment, set, set_new";
 
 /// Actions that are none.
-const NO_WORDS: &[(&str, Told)] = &[
+const NO_WORDS: &[(&str, Printed)] = &[
     ("inc", (Some("inc"), Some("none"), ACTIONS)),
     ("setbits", (Some("setbits"), Some("set_bits"), ACTIONS)),
     ("", (Some(""), Some("set"), ACTIONS)),
@@ -97,12 +97,12 @@ const NO_WORDS: &[(&str, Told)] = &[
 
 #[test]
 fn texts_that_are_no_words(rt: HostRuntime) -> Result<(), Fail> {
-    for (word, told) in NO_WORDS {
+    for (word, printed) in NO_WORDS {
         let step = format!(in rt.alloc();
             "{{\"do\":\"isr_notify\",\"core\":0,\"to\":\"A\",\"action\":\"{word}\"}}"
         )?;
         match detail_of(rt.alloc(), step.as_str())? {
-            Detail::NoWord(stray) => check_stray(&rt, &stray, told),
+            Detail::NoWord(stray) => check_stray(&rt, &stray, printed),
             _ => return Err(Fail::from("the text is no word")),
         }
     }

@@ -38,7 +38,7 @@ const TEXTS: &[(&str, Option<(&str, usize)>)] = &[
     ),
 ];
 
-fn told_of<'a>(doubled: Option<Doubled<'a>>) -> Option<(&'a str, usize)> {
+fn printed_of<'a>(doubled: Option<Doubled<'a>>) -> Option<(&'a str, usize)> {
     match doubled {
         Some(doubled) => Some((doubled.name, doubled.token)),
         None => None,
@@ -55,7 +55,7 @@ fn check_doubled(
     match Document::parse(alloc, text.as_bytes(), &mut scratch) {
         Ok(document) => {
             let doubled = document.doubled(alloc)?;
-            expect_is(rt, told_of(doubled) == wanted);
+            expect_is(rt, printed_of(doubled) == wanted);
         }
         Err(_) => return Err(Fail::from("the text is JSON")),
     }

@@ -7,7 +7,7 @@ use crate::expected::expect_same;
 use crate::texts::refused::{check_edit, check_fault, check_session};
 use crate::texts::sessions::{session_of, with_notes, with_steps};
 use crate::texts::values::check_steps;
-use bench_types::{Action, Call, Edit, Fault, Header, Note, Step};
+use bench_types::{Call, Edit, Fault, Header, Note, NotifyAction, Step};
 use session_text::{Why, read_bench, read_edit, read_rig};
 use session_write::write_session;
 use std::alloc::Global;
@@ -35,7 +35,7 @@ const READ: &[Step] = &[
         core: 1,
         note: Note {
             task: 2,
-            action: Action::Nothing,
+            action: NotifyAction::Nothing,
             index: 1,
         },
     },
@@ -43,7 +43,7 @@ const READ: &[Step] = &[
         core: 0,
         note: Note {
             task: 3,
-            action: Action::Set(7),
+            action: NotifyAction::Set(7),
             index: 0,
         },
     },
@@ -51,7 +51,7 @@ const READ: &[Step] = &[
         core: 0,
         note: Note {
             task: 3,
-            action: Action::Increment,
+            action: NotifyAction::Increment,
             index: 0,
         },
     },
@@ -60,7 +60,7 @@ const READ: &[Step] = &[
         task: 2,
         call: Call::Notify(Note {
             task: 3,
-            action: Action::SetBits(5),
+            action: NotifyAction::SetBits(5),
             index: 1,
         }),
     },
@@ -69,7 +69,7 @@ const READ: &[Step] = &[
         task: 3,
         call: Call::Notify(Note {
             task: 2,
-            action: Action::Increment,
+            action: NotifyAction::Increment,
             index: 0,
         }),
     },
@@ -285,8 +285,8 @@ fn check_rig(
         "{{\"session\":{session},\"limit\":5,\"scripts\":[[{{\"do\":\"state_clear\",\"to\":\"A\",\"index\":1}}],[]]}}"
     )?;
     let fault = read_rig(alloc, text.as_bytes()).err();
-    let told = fault.as_ref().map(|fault| (fault.why, fault.path.as_str()));
-    assert_eq!(rt; told, want, "{session}");
+    let printed = fault.as_ref().map(|fault| (fault.why, fault.path.as_str()));
+    assert_eq!(rt; printed, want, "{session}");
     Ok(())
 }
 

@@ -2,7 +2,7 @@
 //! and by a program of its own.
 
 use crate::texts::values::{Edited, Orders};
-use bench_types::{Action, Call, Edit, Note, Step};
+use bench_types::{Call, Edit, Note, NotifyAction, Step};
 
 /// An edit.
 pub const EDITED: Edited = Edited {
@@ -14,7 +14,7 @@ pub const EDITED: Edited = Edited {
             core: 1,
             note: Note {
                 task: 3,
-                action: Action::Set(4),
+                action: NotifyAction::Set(4),
                 index: 0,
             },
         },
@@ -31,7 +31,7 @@ pub const ORDERS: Orders = Orders {
             task: 2,
             call: Call::Notify(Note {
                 task: 3,
-                action: Action::Nothing,
+                action: NotifyAction::Nothing,
                 index: 0,
             }),
         },
@@ -40,7 +40,7 @@ pub const ORDERS: Orders = Orders {
             task: 2,
             call: Call::Notify(Note {
                 task: 3,
-                action: Action::SetBits(5),
+                action: NotifyAction::SetBits(5),
                 index: 0,
             }),
         },
@@ -49,7 +49,7 @@ pub const ORDERS: Orders = Orders {
             task: 3,
             call: Call::Notify(Note {
                 task: 3,
-                action: Action::Increment,
+                action: NotifyAction::Increment,
                 index: 0,
             }),
         },
@@ -58,7 +58,7 @@ pub const ORDERS: Orders = Orders {
             task: 2,
             call: Call::Notify(Note {
                 task: 3,
-                action: Action::Set(7),
+                action: NotifyAction::Set(7),
                 index: 0,
             }),
         },
@@ -67,7 +67,7 @@ pub const ORDERS: Orders = Orders {
             task: 3,
             call: Call::Notify(Note {
                 task: 2,
-                action: Action::SetNew(4_294_967_295),
+                action: NotifyAction::SetNew(4_294_967_295),
                 index: 0,
             }),
         },
@@ -75,7 +75,7 @@ pub const ORDERS: Orders = Orders {
             core: 1,
             note: Note {
                 task: 2,
-                action: Action::Nothing,
+                action: NotifyAction::Nothing,
                 index: 0,
             },
         },
@@ -83,7 +83,7 @@ pub const ORDERS: Orders = Orders {
             core: 0,
             note: Note {
                 task: 3,
-                action: Action::SetBits(4_294_967_295),
+                action: NotifyAction::SetBits(4_294_967_295),
                 index: 0,
             },
         },
@@ -91,7 +91,7 @@ pub const ORDERS: Orders = Orders {
             core: 0,
             note: Note {
                 task: 3,
-                action: Action::Increment,
+                action: NotifyAction::Increment,
                 index: 0,
             },
         },
@@ -99,7 +99,7 @@ pub const ORDERS: Orders = Orders {
             core: 0,
             note: Note {
                 task: 3,
-                action: Action::Set(0),
+                action: NotifyAction::Set(0),
                 index: 0,
             },
         },
@@ -107,7 +107,7 @@ pub const ORDERS: Orders = Orders {
             core: 0,
             note: Note {
                 task: 3,
-                action: Action::SetNew(9),
+                action: NotifyAction::SetNew(9),
                 index: 0,
             },
         },

@@ -48,8 +48,8 @@ const EDITS: &[(&str, Why, &str)] = &[
 
 /// The text was refused for this, at this path.
 pub fn check_fault(rt: &impl Abort, fault: Option<&TextFault>, why: Why, path: &str) {
-    let told = fault.map(|fault| (fault.why, fault.path.as_str()));
-    assert_eq!(rt; told, Some((why, path)));
+    let printed = fault.map(|fault| (fault.why, fault.path.as_str()));
+    assert_eq!(rt; printed, Some((why, path)));
 }
 
 /// The text is refused as a session for this, at this path.

@@ -2,7 +2,7 @@
 //! description.
 
 use crate::expected::expect_same;
-use bench_types::{Act, Action, Call, Note};
+use bench_types::{Call, CoreAction, Note, NotifyAction};
 use session_text::{RigScript, read_rig};
 use std::alloc::Global;
 use std::process::Abort;
@@ -26,17 +26,17 @@ fn prefixes_of_a_rig_are_no_json(rt: HostRuntime) -> Result<(), Fail> {
 }
 
 // Each core's actions in the document.
-const FIRST: &[Act] = &[
-    Act::Tick,
-    Act::Call(Call::Yield),
-    Act::Interrupt(Note {
+const FIRST: &[CoreAction] = &[
+    CoreAction::Tick,
+    CoreAction::Call(Call::Yield),
+    CoreAction::Interrupt(Note {
         task: 2,
-        action: Action::Increment,
+        action: NotifyAction::Increment,
         index: 0,
     }),
 ];
 
-const SECOND: &[Act] = &[Act::Switch, Act::Call(Call::Delay(7))];
+const SECOND: &[CoreAction] = &[CoreAction::Switch, CoreAction::Call(Call::Delay(7))];
 
 fn check_rig(rt: &impl Abort, rig: &RigScript) {
     expect_same(rt, &rig.header.config.cores, &2);

@@ -3,7 +3,7 @@
 use crate::texts::answers::{Answer, check_answer};
 use Fault::{BadArgument, BadCore, BadMutex, BadTask};
 use bench_samples::{PLAIN, crowd};
-use bench_types::{Action, Call, Config, Fault, Header, Note, Step};
+use bench_types::{Call, Config, Fault, Header, Note, NotifyAction, Step};
 use std::alloc::Global;
 use std::process::Abort;
 use std::test::Fail;
@@ -79,7 +79,7 @@ const CALLS: &[CallRow] = &[
         2,
         Call::Notify(Note {
             task: 1,
-            action: Action::Set(LAST),
+            action: NotifyAction::Set(LAST),
             index: 0,
         }),
         Err(BadTask),
@@ -121,7 +121,7 @@ const CALLS: &[CallRow] = &[
         2,
         Call::Notify(Note {
             task: 2,
-            action: Action::Set(LAST),
+            action: NotifyAction::Set(LAST),
             index: 0,
         }),
         Ok(()),
@@ -157,7 +157,7 @@ const CALLS: &[CallRow] = &[
         2,
         Call::Notify(Note {
             task: 4,
-            action: Action::Set(LAST),
+            action: NotifyAction::Set(LAST),
             index: 0,
         }),
         Ok(()),
@@ -199,7 +199,7 @@ const CALLS: &[CallRow] = &[
         2,
         Call::Notify(Note {
             task: 5,
-            action: Action::Set(LAST),
+            action: NotifyAction::Set(LAST),
             index: 0,
         }),
         Err(BadTask),
@@ -307,7 +307,7 @@ const STEPS: &[(Step, Answer)] = &[
             core: 0,
             note: Note {
                 task: 1,
-                action: Action::Set(LAST),
+                action: NotifyAction::Set(LAST),
                 index: 0,
             },
         },
@@ -318,7 +318,7 @@ const STEPS: &[(Step, Answer)] = &[
             core: 0,
             note: Note {
                 task: 2,
-                action: Action::Set(LAST),
+                action: NotifyAction::Set(LAST),
                 index: 0,
             },
         },
@@ -329,7 +329,7 @@ const STEPS: &[(Step, Answer)] = &[
             core: 1,
             note: Note {
                 task: 4,
-                action: Action::Set(LAST),
+                action: NotifyAction::Set(LAST),
                 index: 0,
             },
         },
@@ -340,7 +340,7 @@ const STEPS: &[(Step, Answer)] = &[
             core: 1,
             note: Note {
                 task: 5,
-                action: Action::Set(LAST),
+                action: NotifyAction::Set(LAST),
                 index: 0,
             },
         },
@@ -351,7 +351,7 @@ const STEPS: &[(Step, Answer)] = &[
             core: 2,
             note: Note {
                 task: 4,
-                action: Action::Set(LAST),
+                action: NotifyAction::Set(LAST),
                 index: 0,
             },
         },
@@ -362,7 +362,7 @@ const STEPS: &[(Step, Answer)] = &[
             core: 2,
             note: Note {
                 task: 5,
-                action: Action::Set(LAST),
+                action: NotifyAction::Set(LAST),
                 index: 0,
             },
         },
@@ -375,7 +375,7 @@ const NOTED: &[(Call, Answer)] = &[
     (
         Call::Notify(Note {
             task: 2,
-            action: Action::Increment,
+            action: NotifyAction::Increment,
             index: 1,
         }),
         Ok(()),
@@ -383,7 +383,7 @@ const NOTED: &[(Call, Answer)] = &[
     (
         Call::Notify(Note {
             task: 2,
-            action: Action::Increment,
+            action: NotifyAction::Increment,
             index: 2,
         }),
         Err(BadArgument),
@@ -391,7 +391,7 @@ const NOTED: &[(Call, Answer)] = &[
     (
         Call::Notify(Note {
             task: 4,
-            action: Action::Increment,
+            action: NotifyAction::Increment,
             index: LAST,
         }),
         Err(BadArgument),
@@ -399,7 +399,7 @@ const NOTED: &[(Call, Answer)] = &[
     (
         Call::Notify(Note {
             task: 5,
-            action: Action::Increment,
+            action: NotifyAction::Increment,
             index: 2,
         }),
         Err(BadTask),
@@ -487,7 +487,7 @@ const INTERRUPTS: &[(Note, Answer)] = &[
     (
         Note {
             task: 2,
-            action: Action::Increment,
+            action: NotifyAction::Increment,
             index: 1,
         },
         Ok(()),
@@ -495,7 +495,7 @@ const INTERRUPTS: &[(Note, Answer)] = &[
     (
         Note {
             task: 2,
-            action: Action::Increment,
+            action: NotifyAction::Increment,
             index: 2,
         },
         Err(BadArgument),
@@ -503,7 +503,7 @@ const INTERRUPTS: &[(Note, Answer)] = &[
     (
         Note {
             task: 5,
-            action: Action::Increment,
+            action: NotifyAction::Increment,
             index: 2,
         },
         Err(BadTask),

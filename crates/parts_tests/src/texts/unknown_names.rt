@@ -16,12 +16,12 @@ fn session_of(alloc: Global, steps: &str) -> Result<String, AllocError> {
 }
 
 /// The name, and the nearest one; none for a long name.
-type Told = (Option<&'static str>, Option<&'static str>);
+type Printed = (Option<&'static str>, Option<&'static str>);
 
-fn check_told(rt: &impl Abort, fault: Option<TextFault>, told: &Told) -> Result<(), Fail> {
+fn check_printed(rt: &impl Abort, fault: Option<TextFault>, printed: &Printed) -> Result<(), Fail> {
     match fault.map(|fault| fault.detail) {
         Some(Detail::NoTask { name, nearest }) => {
-            let (text, near) = *told;
+            let (text, near) = *printed;
             expect_same(rt, &text_of(&name), &text);
             expect_same(rt, &word_of(&nearest), &near);
             Ok(())
@@ -31,7 +31,7 @@ fn check_told(rt: &impl Abort, fault: Option<TextFault>, told: &Told) -> Result<
 }
 
 /// Steps that name a task which is none.
-const STEPS: &[(&str, Told)] = &[
+const STEPS: &[(&str, Printed)] = &[
     (
         "{\"do\":\"yield\",\"core\":0,\"by\":\"contrl\"}",
         (Some("contrl"), Some("control")),
@@ -82,37 +82,37 @@ const STEPS: &[(&str, Told)] = &[
 ];
 
 /// The step stands first in a session, and behind two others; both are told the same.
-fn check_step(rt: &impl Abort, alloc: Global, step: &str, told: &Told) -> Result<(), Fail> {
+fn check_step(rt: &impl Abort, alloc: Global, step: &str, printed: &Printed) -> Result<(), Fail> {
     let first = session_of(alloc, step)?;
-    check_told(rt, read_session(alloc, first.as_bytes()).err(), told)?;
+    check_printed(rt, read_session(alloc, first.as_bytes()).err(), printed)?;
     let steps = format!(in alloc;
         "{{\"do\":\"tick\"}},{{\"do\":\"yield\",\"core\":0,\"by\":\"net\"}},{step}"
     )?;
     let third = session_of(alloc, steps.as_str())?;
-    check_told(rt, read_session(alloc, third.as_bytes()).err(), told)?;
-    check_session_of_a_bench(rt, alloc, third.as_str(), told)
+    check_printed(rt, read_session(alloc, third.as_bytes()).err(), printed)?;
+    check_session_of_a_bench(rt, alloc, third.as_str(), printed)
 }
 
 fn check_session_of_a_bench(
     rt: &impl Abort,
     alloc: Global,
     session: &str,
-    told: &Told,
+    printed: &Printed,
 ) -> Result<(), Fail> {
     let bench = format!(in alloc; "{{\"session\":{session},\"edits\":[]}}")?;
-    check_told(rt, read_bench(alloc, bench.as_bytes()).err(), told)
+    check_printed(rt, read_bench(alloc, bench.as_bytes()).err(), printed)
 }
 
 #[test]
 fn names_in_steps(rt: HostRuntime) -> Result<(), Fail> {
-    for (step, told) in STEPS {
-        check_step(&rt, rt.alloc(), step, told)?;
+    for (step, printed) in STEPS {
+        check_step(&rt, rt.alloc(), step, printed)?;
     }
     Ok(())
 }
 
 /// Edits that name a task which is none.
-const EDITS: &[(&str, Told)] = &[
+const EDITS: &[(&str, Printed)] = &[
     (
         "{\"edit\":\"change\",\"task\":\"nets\",\"priority\":1,\"mask\":1}",
         (Some("nets"), Some("net")),
@@ -128,15 +128,19 @@ const EDITS: &[(&str, Told)] = &[
 ];
 
 /// The edit stands behind another in a bench document, and by itself.
-fn check_edit(rt: &impl Abort, alloc: Global, edit: &str, told: &Told) -> Result<(), Fail> {
+fn check_edit(rt: &impl Abort, alloc: Global, edit: &str, printed: &Printed) -> Result<(), Fail> {
     let session = session_of(alloc, "{\"do\":\"tick\"}")?;
     let bench = format!(in alloc;
         "{{\"session\":{session},\"edits\":[{{\"edit\":\"remove\",\"at\":0}},{edit}]}}"
     )?;
-    check_told(rt, read_bench(alloc, bench.as_bytes()).err(), told)?;
+    check_printed(rt, read_bench(alloc, bench.as_bytes()).err(), printed)?;
     match read_session(alloc, session.as_bytes()) {
         Ok((header, _steps)) => {
-            check_told(rt, read_edit(alloc, edit.as_bytes(), &header).err(), told)
+            check_printed(
+                rt,
+                read_edit(alloc, edit.as_bytes(), &header).err(),
+                printed,
+            )
         }
         Err(_) => Err(Fail::from("the text is a session")),
     }
@@ -144,8 +148,8 @@ fn check_edit(rt: &impl Abort, alloc: Global, edit: &str, told: &Told) -> Result
 
 #[test]
 fn names_in_edits(rt: HostRuntime) -> Result<(), Fail> {
-    for (edit, told) in EDITS {
-        check_edit(&rt, rt.alloc(), edit, told)?;
+    for (edit, printed) in EDITS {
+        check_edit(&rt, rt.alloc(), edit, printed)?;
     }
     Ok(())
 }
@@ -155,7 +159,7 @@ fn names_in_edits(rt: HostRuntime) -> Result<(), Fail> {
 fn names_in_actions(rt: HostRuntime) -> Result<(), Fail> {
     let alloc = rt.alloc();
     let session = session_of(alloc, "")?;
-    for (action, told) in [
+    for (action, printed) in [
         (
             "{\"do\":\"priority_set\",\"to\":\"logged\",\"priority\":1}",
             (Some("logged"), Some("logger")),
@@ -168,7 +172,7 @@ fn names_in_actions(rt: HostRuntime) -> Result<(), Fail> {
         let rig = format!(in alloc;
             "{{\"session\":{session},\"limit\":10,\"scripts\":[[{{\"do\":\"tick\"}}],[{{\"do\":\"switch\"}},{action}]]}}"
         )?;
-        check_told(&rt, read_rig(alloc, rig.as_bytes()).err(), &told)?;
+        check_printed(&rt, read_rig(alloc, rig.as_bytes()).err(), &printed)?;
     }
     Ok(())
 }

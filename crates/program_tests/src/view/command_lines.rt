@@ -187,7 +187,7 @@ fn most_places_in_help(rt: HostRuntime) -> Result<(), Fail> {
 }
 
 fn check_mistake(rt: &impl Abort, text: &str) {
-    assert_eq!(rt; mistake_told(text), "bad");
+    assert_eq!(rt; mistake_printed(text), "bad");
 }
 
 fn expect_part(rt: &impl Abort, text: &str, part: &str) {
@@ -207,43 +207,43 @@ fn check_line(rt: &impl Abort, alloc: Global, line: &str, asked: &str) -> Result
         words.push(String::from_str(alloc, word)?)?;
     }
     let request = request_of(alloc, Some(words.as_slice()))?;
-    let told = told_of(alloc, &request)?;
-    assert_eq!(rt; told.as_str(), asked, "{line}");
+    let printed = printed_of(alloc, &request)?;
+    assert_eq!(rt; printed.as_str(), asked, "{line}");
     Ok(())
 }
 
-fn told_of(alloc: Global, request: &Request) -> Result<String, AllocError> {
+fn printed_of(alloc: Global, request: &Request) -> Result<String, AllocError> {
     match request {
-        Request::Show(job, file) => view_told(alloc, job, file.as_ref()),
-        Request::Help(text) => help_told(alloc, text.as_str()),
-        Request::Version(text) => version_told(alloc, text.as_str()),
-        Request::Bad(text) => String::from_str(alloc, mistake_told(text.as_str())),
+        Request::Show(job, file) => view_printed(alloc, job, file.as_ref()),
+        Request::Help(text) => help_printed(alloc, text.as_str()),
+        Request::Version(text) => version_printed(alloc, text.as_str()),
+        Request::Bad(text) => String::from_str(alloc, mistake_printed(text.as_str())),
     }
 }
 
-fn help_told(alloc: Global, text: &str) -> Result<String, AllocError> {
+fn help_printed(alloc: Global, text: &str) -> Result<String, AllocError> {
     let first = text.lines().next().unwrap_or("");
     format!(in alloc; "help: {first}")
 }
 
-fn version_told(alloc: Global, text: &str) -> Result<String, AllocError> {
+fn version_printed(alloc: Global, text: &str) -> Result<String, AllocError> {
     let line = text.strip_suffix("\n").unwrap_or("no line feed");
     format!(in alloc; "version: {line}")
 }
 
-fn mistake_told(text: &str) -> &str {
+fn mistake_printed(text: &str) -> &str {
     if text.starts_with("error: ") {
         return "bad";
     }
     text
 }
 
-fn view_told(alloc: Global, job: &Job, file: Option<&FileName>) -> Result<String, AllocError> {
+fn view_printed(alloc: Global, job: &Job, file: Option<&FileName>) -> Result<String, AllocError> {
     let mut text = String::new(alloc);
     if job.strict {
         text.push_str("strict ")?;
     }
-    text.push_str(command_told(alloc, &job.command)?.as_str())?;
+    text.push_str(command_printed(alloc, &job.command)?.as_str())?;
     if let Some(file) = file {
         text.push_str(" file ")?;
         text.push_str(file.text.as_str())?;
@@ -251,24 +251,24 @@ fn view_told(alloc: Global, job: &Job, file: Option<&FileName>) -> Result<String
     Ok(text)
 }
 
-fn command_told(alloc: Global, command: &Command) -> Result<String, AllocError> {
+fn command_printed(alloc: Global, command: &Command) -> Result<String, AllocError> {
     match command {
-        Command::Plain(view) => plain_told(alloc, view),
-        Command::Settled(view) => settled_told(alloc, view),
-        Command::Report(view) => report_told(alloc, *view),
-        Command::Check(view) => check_told(alloc, view),
-        Command::Advise(question) => advice_told(alloc, question),
-        Command::Page(view) => page_told(alloc, *view),
+        Command::Plain(view) => plain_printed(alloc, view),
+        Command::Settled(view) => settled_printed(alloc, view),
+        Command::Report(view) => report_printed(alloc, *view),
+        Command::Check(view) => check_printed(alloc, view),
+        Command::Advise(question) => advice_printed(alloc, question),
+        Command::Page(view) => page_printed(alloc, *view),
     }
 }
 
-fn page_told(alloc: Global, view: PageView) -> Result<String, AllocError> {
+fn page_printed(alloc: Global, view: PageView) -> Result<String, AllocError> {
     let settled = if view.settled { "settled " } else { "" };
-    let drawn = extent_told(alloc, view.extent)?;
+    let drawn = extent_printed(alloc, view.extent)?;
     format!(in alloc; "{settled}page {drawn}")
 }
 
-fn advice_told(alloc: Global, question: &Question) -> Result<String, AllocError> {
+fn advice_printed(alloc: Global, question: &Question) -> Result<String, AllocError> {
     let settled = if question.settled { " settled" } else { "" };
     let mut text = format!(in alloc; "advise{settled} {}", question.name)?;
     let family = question.family;
@@ -285,7 +285,7 @@ fn advice_told(alloc: Global, question: &Question) -> Result<String, AllocError>
     Ok(text)
 }
 
-fn check_told(alloc: Global, view: &CheckView) -> Result<String, AllocError> {
+fn check_printed(alloc: Global, view: &CheckView) -> Result<String, AllocError> {
     let settled = if view.settled { " settled" } else { "" };
     let mut text = format!(in alloc; "check{settled}")?;
     for limit in &view.limits {
@@ -297,7 +297,7 @@ fn check_told(alloc: Global, view: &CheckView) -> Result<String, AllocError> {
     Ok(text)
 }
 
-fn report_told(alloc: Global, view: ReportView) -> Result<String, AllocError> {
+fn report_printed(alloc: Global, view: ReportView) -> Result<String, AllocError> {
     let settled = if view.settled { "settled " } else { "" };
     let form = match view.form {
         Form::Table => "table",
@@ -306,19 +306,19 @@ fn report_told(alloc: Global, view: ReportView) -> Result<String, AllocError> {
     format!(in alloc; "report {settled}{form}")
 }
 
-fn plain_told(alloc: Global, view: &View) -> Result<String, AllocError> {
+fn plain_printed(alloc: Global, view: &View) -> Result<String, AllocError> {
     match view {
-        View::Trace(selection) => trace_told(alloc, selection),
+        View::Trace(selection) => trace_printed(alloc, selection),
         View::Session => String::from_str(alloc, "session"),
         View::Compare => String::from_str(alloc, "compare"),
         View::Timeline(extent) => {
-            let drawn = extent_told(alloc, *extent)?;
+            let drawn = extent_printed(alloc, *extent)?;
             format!(in alloc; "picture {drawn}")
         }
     }
 }
 
-fn extent_told(alloc: Global, extent: Extent) -> Result<String, AllocError> {
+fn extent_printed(alloc: Global, extent: Extent) -> Result<String, AllocError> {
     let Places { from, to } = extent.places;
     match extent.axis {
         Axis::Places => format!(in alloc; "{from} {to}"),
@@ -326,24 +326,24 @@ fn extent_told(alloc: Global, extent: Extent) -> Result<String, AllocError> {
     }
 }
 
-fn settled_told(alloc: Global, view: &SettledView) -> Result<String, AllocError> {
+fn settled_printed(alloc: Global, view: &SettledView) -> Result<String, AllocError> {
     match view {
-        SettledView::Trace(selection) => settled_trace_told(alloc, selection),
+        SettledView::Trace(selection) => settled_trace_printed(alloc, selection),
         SettledView::Session => String::from_str(alloc, "settled"),
         SettledView::Compare => String::from_str(alloc, "settled compare"),
         SettledView::Timeline(extent) => {
-            let drawn = extent_told(alloc, *extent)?;
+            let drawn = extent_printed(alloc, *extent)?;
             format!(in alloc; "settled picture {drawn}")
         }
     }
 }
 
-fn settled_trace_told(alloc: Global, selection: &Selection) -> Result<String, AllocError> {
-    let trace = trace_told(alloc, selection)?;
+fn settled_trace_printed(alloc: Global, selection: &Selection) -> Result<String, AllocError> {
+    let trace = trace_printed(alloc, selection)?;
     format!(in alloc; "settled {trace}")
 }
 
-fn trace_told(alloc: Global, selection: &Selection) -> Result<String, AllocError> {
+fn trace_printed(alloc: Global, selection: &Selection) -> Result<String, AllocError> {
     let places = selection.places;
     let mut text = format!(in alloc; "{} {}", places.from, places.to)?;
     for name in &selection.tasks {

@@ -12,7 +12,8 @@ const BENCH: &str = "{\"session\": {\"format\": 1, \"cores\": 2, \"priorities\":
 {\"name\": \"A\", \"priority\": 9, \"mask\": 3, \"priority\": 2}], \
     \"steps\": [{\"do\": \"tick\"}]}, \"edits\": [{\"edit\": \"remove\", \"at\": 7}]}";
 
-const TOLD: &str = "the member \"priority\" stands twice, and the last one counts: line 2, column 41
+const PRINTED: &str =
+    "the member \"priority\" stands twice, and the last one counts: line 2, column 41
 edit 0 refused J1: the session has 1 step
 ";
 
@@ -28,15 +29,15 @@ fn statuses(rt: HostRuntime) -> Result<(), Fail> {
             BENCH,
             0,
             "place 1, tick 1; core 0 A; core 1 IDLE0\n",
-            TOLD,
+            PRINTED,
         ),
-        ("smp_view check --at-least A.run=0", BENCH, 0, "", TOLD),
+        ("smp_view check --at-least A.run=0", BENCH, 0, "", PRINTED),
         (
             "smp_view check --strict --at-least A.run=0",
             BENCH,
             1,
             "",
-            TOLD,
+            PRINTED,
         ),
         (
             "smp_view trace",

@@ -65,14 +65,14 @@ fn a_page_of_parts(rt: HostRuntime) -> Result<(), Fail> {
         report: String::from_str(alloc, "a \"report\"\n")?.into_bytes(),
     };
     let page = page(alloc, &parts)?;
-    for told in [
+    for printed in [
         "<title>A &lt;run&gt;</title>",
         "<div id='sheet'>\n<svg></svg>\n</div>",
         "<a href='#place-7'>7</a>",
         "<li id='place-7'><pre>place 7 &amp; &#39;more&#39;\n</pre></li>",
         "<pre>a &quot;report&quot;\n</pre>",
     ] {
-        expect_part(&rt, page.as_slice(), told);
+        expect_part(&rt, page.as_slice(), printed);
     }
     Ok(())
 }
@@ -115,12 +115,12 @@ fn expect<R: Threads + Abort + Sync>(
     let ending = run(rt, host, progress, alloc, &mut reader, &mut writer, &job);
     assert_eq!(rt; ending.code(), 0);
     assert!(rt; ending.message() == note.as_bytes());
-    for told in wanted.lines() {
-        expect_part(rt, shown.as_slice(), told);
+    for printed in wanted.lines() {
+        expect_part(rt, shown.as_slice(), printed);
     }
 }
 
-fn expect_part(rt: &impl Abort, page: &[u8], told: &str) {
+fn expect_part(rt: &impl Abort, page: &[u8], printed: &str) {
     let text = std::str::from_utf8(page).unwrap_or("");
-    assert!(rt; text.contains(told), "{told}");
+    assert!(rt; text.contains(printed), "{printed}");
 }

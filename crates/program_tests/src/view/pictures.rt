@@ -10,7 +10,7 @@ use std::process::Abort;
 use std::test::Fail;
 
 /// What a picture of the first run tells on hover.
-const TOLD: &str = "<title>places 0 to 1: core 0 A</title>
+const PRINTED: &str = "<title>places 0 to 1: core 0 A</title>
 <title>places 2 to 5: core 0 C</title>
 <title>places 0 to 5: core 1 B</title>
 <title>place 1: core 0, due by pend</title>
@@ -118,8 +118,8 @@ fn a_picture_of_a_run(rt: HostRuntime) -> Result<(), Fail> {
     let mut meter = Meter::new(&rt);
     match timeline(alloc, &mut meter, ALL, &header, steps.as_slice())? {
         Ok(picture) => {
-            expect_told(&rt, picture.as_str(), TOLD);
-            expect_told(&rt, picture.as_str(), LAID_OUT);
+            expect_printed(&rt, picture.as_str(), PRINTED);
+            expect_printed(&rt, picture.as_str(), LAID_OUT);
             expect_each(&rt, picture.as_str(), &READY);
             assert!(rt; !picture.contains("refused"));
         }
@@ -161,15 +161,15 @@ fn a_picture_of_two_runs_in_columns(rt: HostRuntime) -> Result<(), Fail> {
         ..before
     };
     match timelines(alloc, &mut meter, ALL, &before, &after)? {
-        Ok(picture) => expect_told(&rt, picture.as_str(), IN_COLUMNS),
+        Ok(picture) => expect_printed(&rt, picture.as_str(), IN_COLUMNS),
         Err(_) => panic!(rt; "too long"),
     }
     Ok(())
 }
 
 fn expect_each(rt: &impl Abort, picture: &str, wanted: &[&str]) {
-    for told in wanted {
-        assert!(rt; picture.contains(*told), "{told}");
+    for printed in wanted {
+        assert!(rt; picture.contains(*printed), "{printed}");
     }
 }
 
@@ -200,14 +200,14 @@ fn a_picture_by_ticks(rt: HostRuntime) -> Result<(), Fail> {
         ..ALL
     };
     match timelines(alloc, &mut meter, extent, &run, &run)? {
-        Ok(picture) => expect_told(&rt, picture.as_str(), RULES),
+        Ok(picture) => expect_printed(&rt, picture.as_str(), RULES),
         Err(_) => panic!(rt; "too long"),
     }
     Ok(())
 }
 
-fn expect_told(rt: &impl Abort, picture: &str, wanted: &str) {
-    for told in wanted.lines() {
-        assert!(rt; picture.contains(told), "{told}");
+fn expect_printed(rt: &impl Abort, picture: &str, wanted: &str) {
+    for printed in wanted.lines() {
+        assert!(rt; picture.contains(printed), "{printed}");
     }
 }

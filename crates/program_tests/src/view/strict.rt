@@ -61,7 +61,7 @@ fn statuses(rt: HostRuntime) -> Result<(), Fail> {
 
 /// The last place of the settled run of `LEFT_CALLS`, told beside the calls that are not made.
 #[test]
-fn all_is_told_as_without(rt: HostRuntime) -> Result<(), Fail> {
+fn all_is_printed_as_without(rt: HostRuntime) -> Result<(), Fail> {
     let last = "place 6, tick 1; core 0 spare; core 1 IDLE0\n";
     let errors = "edit 1 refused J1: the session has 7 steps\nnot made: control 2, logger 1\n";
     let line = "smp_view trace --strict --settle --from 6";

@@ -4,7 +4,7 @@ ghost use Rattle.bench_model.specs.History.{IsGrowthBy};
 ghost use Rattle.port_locks.specs.Holds.{hold_after};
 
 use bench_samples::{LARGEST, header_of};
-use bench_types::{Act, Action, MAX_CORES, Note};
+use bench_types::{CoreAction, MAX_CORES, Note, NotifyAction};
 use port_locks::Kept;
 use recordings::Recording;
 use smp_kernel::Meter;
@@ -15,7 +15,7 @@ use std::test::Fail;
 /// A notification of the only user task of a kernel of the most cores.
 const NOTE: Note = Note {
     task: MAX_CORES,
-    action: Action::Increment,
+    action: NotifyAction::Increment,
     index: 0,
 };
 
@@ -67,7 +67,7 @@ impl Log {
             ≡ hold_after self.old.header self.old.entries }
     {
         assert!(rt; core < self.recording.settings().cores);
-        let Ok(()) = Act::Interrupt(NOTE).check(core, self.recording.header()) else {
+        let Ok(()) = CoreAction::Interrupt(NOTE).check(core, self.recording.header()) else {
             panic!(rt; "the interrupt is at fault");
         };
         assert!(rt; self.recording.holder().is_none());

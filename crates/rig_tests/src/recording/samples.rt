@@ -2,7 +2,7 @@
 
 use crate::checks::assert_same;
 use bench_samples::three_tasks;
-use bench_types::{Act, Call, Header, Note, Reply, Step};
+use bench_types::{Call, CoreAction, Header, Note, Reply, Step};
 use recordings::{Answer, RecordRefusal, Recording};
 use smp_kernel::Meter;
 use std::process::Abort;
@@ -50,7 +50,7 @@ pub fn interrupt(
     assert!(rt; core < settings.cores);
     assert!(rt; settings.cores <= note.task && note.task < settings.tasks);
     assert!(rt; note.index < settings.notes);
-    let Ok(()) = Act::Interrupt(note).check(core, recording.header()) else {
+    let Ok(()) = CoreAction::Interrupt(note).check(core, recording.header()) else {
         panic!(rt; "the interrupt is at fault");
     };
     recording.interrupt(core, note)

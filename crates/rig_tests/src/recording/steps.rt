@@ -5,7 +5,7 @@ use crate::recording::samples::{
     assert_answer, at, call, interrupt, recording, recording_of, running, switch,
 };
 use bench_samples::{PLAIN, header_of};
-use bench_types::{Action, Call, Config, Entry, Header, Note, Reply, Step};
+use bench_types::{Call, Config, Entry, Header, Note, NotifyAction, Reply, Step};
 use recordings::{RecordRefusal, Recording};
 use smp_kernel::{Meter, StartFault};
 use std::process::Abort;
@@ -28,7 +28,7 @@ fn check_steps(rt: &impl Abort, recording: &mut Recording) {
     };
     let note_to_a = Note {
         task: 2,
-        action: Action::Increment,
+        action: NotifyAction::Increment,
         index: 0,
     };
     let noted = interrupt(rt, recording, 1, note_to_a);

@@ -78,7 +78,7 @@ impl InTurn {
     }
 
     /// What it was told of each core: 123 where none, one and two of its actions were done.
-    pub fn told(&self) -> (u32, u32) {
+    pub fn heard(&self) -> (u32, u32) {
         let zero = self.zero.load(Ordering::SeqCst);
         (zero, self.one.load(Ordering::SeqCst))
     }
@@ -89,7 +89,7 @@ impl InTurn {
     }
 
     fn may_pass(&self, core: u32) -> bool {
-        let (zero, one) = self.told();
+        let (zero, one) = self.heard();
         if core == 0 { one > 0 } else { zero > 99 }
     }
 
@@ -104,10 +104,10 @@ impl InTurn {
     }
 }
 
-fn keep(told: &AtomicU32, done: u32) {
-    let before = told.load(Ordering::SeqCst);
+fn keep(heard: &AtomicU32, done: u32) {
+    let before = heard.load(Ordering::SeqCst);
     let after = before.wrapping_mul(10).wrapping_add(done).wrapping_add(1);
-    told.store(after, Ordering::SeqCst);
+    heard.store(after, Ordering::SeqCst);
 }
 
 impl Gate for InTurn {

@@ -49,7 +49,7 @@ fn each_action_passes_the_gate_first(rt: HostRuntime) -> Result<(), Fail> {
     let gate = InTurn::new();
     let text = document(rt.alloc(), THREE, 10, FIVE)?;
     let recorded = played(&rt, &rt, text.as_str(), &gate)?;
-    assert_same(&rt, "told", &gate.told(), &(123, 12));
+    assert_same(&rt, "told", &gate.heard(), &(123, 12));
     assert_same(&rt, "late", &gate.is_late(), &false);
     check_two_ticks(&rt, &recorded);
     Ok(())

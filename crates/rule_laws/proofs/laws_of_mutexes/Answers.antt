@@ -1,6 +1,7 @@
 use Rattle.order_laws.proofs.FirstWaiters.{first_waiter_seen}
 use Rattle.order_laws.proofs.SeenMoves.{deadline_left_seen, forget_deadline_seen}
-use Rattle.rule_laws.proofs.Mutexes.{inherited_seen, inherited_sound, take_seen, take_sound, finished_seen, finished_sound, give_seen, give_sound, after_disinherit_seen, after_disinherit_sound}
+use Rattle.rule_laws.proofs.Mutexes.{inherited_seen, inherited_sound, take_seen, take_sound, finished_seen, finished_sound, give_seen, give_sound}
+use Rattle.rule_laws.proofs.Mutexes.{after_disinherit_seen, after_disinherit_sound}
 use Rattle.std.proofs.Common.{arith}
 use Rattle.rule_laws.proofs.CoresAlone.{inherited_on, after_disinherit_on}
 use Rattle.rule_laws.proofs.laws_of_mutexes.Goals as goal
@@ -24,13 +25,15 @@ pub returns-clause-take_simulates : goal.returns-clause-take_simulates
 returns-clause-take_simulates c = take_seen
 
 pub returns-clause-take_keeps_consistent : goal.returns-clause-take_keeps_consistent
-returns-clause-take_keeps_consistent c = λ table core task mutex ticks sound place user. take_sound table core task mutex ticks sound place (omega (arith, sound.sized.cores, user))
+returns-clause-take_keeps_consistent c = λ table core task mutex ticks sound place user. take_sound table core task mutex ticks sound place
+    (omega (arith, sound.sized.cores, user))
 
 pub returns-clause-finish_simulates : goal.returns-clause-finish_simulates
 returns-clause-finish_simulates c = finished_seen
 
 pub returns-clause-finish_keeps_consistent : goal.returns-clause-finish_keeps_consistent
-returns-clause-finish_keeps_consistent c = λ table core task call sound place checked user. finished_sound table core task call sound place checked (omega (arith, sound.sized.cores, user))
+returns-clause-finish_keeps_consistent c = λ table core task call sound place checked user. finished_sound table core task call sound place checked
+    (omega (arith, sound.sized.cores, user))
 
 pub returns-clause-give_simulates : goal.returns-clause-give_simulates
 returns-clause-give_simulates c = give_seen

@@ -1,8 +1,7 @@
-use Rattle.rule_laws.proofs.PriorityAffinity.{runs_on_some, its_core_seen, after_priority_set_seen, after_affinity_set_seen, priority_seen, affinity_seen, off_seen, on_seen, its_core_sound, after_priority_set_sound, after_affinity_set_sound, priority_sound, affinity_sound, off_sound, on_sound}
+use Rattle.rule_laws.proofs.PriorityAffinity.{its_core_seen, after_priority_set_seen, after_affinity_set_seen, priority_seen, affinity_seen, off_seen, on_seen}
+use Rattle.rule_laws.proofs.PriorityAffinity.{its_core_sound, after_priority_set_sound, after_affinity_set_sound, priority_sound, affinity_sound, off_sound}
+use Rattle.rule_laws.proofs.PriorityAffinity.{on_sound}
 use Rattle.rule_laws.proofs.laws_of_priority_and_affinity.Goals as goal
-
-pub returns-clause-runs_on_some_core : goal.returns-clause-runs_on_some_core
-returns-clause-runs_on_some_core c = runs_on_some
 
 pub returns-clause-ask_its_core_simulates : goal.returns-clause-ask_its_core_simulates
 returns-clause-ask_its_core_simulates c = its_core_seen

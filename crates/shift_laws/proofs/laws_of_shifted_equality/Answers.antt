@@ -1,5 +1,5 @@
 use Rattle.shift_laws.proofs.PairsShifted.{pairs_from_shifted, shifted_from_pairs}
-use Rattle.shift_laws.proofs.ShiftTests.{met_told, same_at_one_tick, same_shifted_told}
+use Rattle.shift_laws.proofs.ShiftTests.{met_decided, same_at_one_tick, same_shifted_decided}
 use Rattle.shift_laws.proofs.Steps.{not_shifted, same_from_shifted, shifted_from_same, unshifted}
 use Rattle.shift_laws.proofs.laws_of_shifted_equality.Goals as goal
 
@@ -10,10 +10,10 @@ pub returns-clause-shifted_is_same_shifted : goal.returns-clause-shifted_is_same
 returns-clause-shifted_is_same_shifted c = same_from_shifted
 
 pub returns-clause-same_shifted_is_tested : goal.returns-clause-same_shifted_is_tested
-returns-clause-same_shifted_is_tested c = same_shifted_told
+returns-clause-same_shifted_is_tested c = same_shifted_decided
 
 pub returns-clause-met_is_tested : goal.returns-clause-met_is_tested
-returns-clause-met_is_tested c = met_told
+returns-clause-met_is_tested c = met_decided
 
 pub returns-clause-same_is_same_tick : goal.returns-clause-same_is_same_tick
 returns-clause-same_is_same_tick c = same_at_one_tick

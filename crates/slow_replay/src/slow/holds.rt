@@ -85,9 +85,9 @@ impl SlowTable {
                 ticks,
                 index,
                 ..
-            } => { notes::wait_begun(entry, self.note(task, index)).0 && 0 < ticks }
+            } => { notes::wait_entered(entry, self.note(task, index)).0 && 0 < ticks }
             Call::NotifyTake { ticks, index, .. } => {
-                notes::take_begun(self.note(task, index)).0 && 0 < ticks
+                notes::take_entered(self.note(task, index)).0 && 0 < ticks
             }
             Call::MutexTake { mutex, ticks } => self.holder(mutex).is_some() && 0 < ticks,
             _ => false,

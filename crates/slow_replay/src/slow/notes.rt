@@ -1,15 +1,15 @@
 //! Notifying a task and waiting for that, each as it is defined.
 ghost use Rattle.std.specs.Prelude.{◌≡◌, ◌<◌, ◌+◌, ◌^◌, length, slice_set, Ok};
-ghost use Rattle.bench_types.specs.declared.step.Call.TheVariants.{NotifyTake, NotifyWait};
-ghost use Rattle.bench_types.specs.Step.{call_check};
+ghost use Rattle.bench_types.specs.declared.step.BlockingCall.TheVariants.{NotifyTake, NotifyWait};
+ghost use Rattle.bench_types.specs.Step.{as_call, call_check};
 ghost use Rattle.bench_model.specs.Control.{core_at};
-ghost use Rattle.bench_model.specs.Notes.{note_at, is_received, is_waiting, without_bits, passes, acted, notified, wait_begun, wait_ended, take_begun, take_ended, state_cleared, value_cleared, of_slot, slot_of};
+ghost use Rattle.bench_model.specs.Notes.{note_at, is_received, is_waiting, without_bits, passes, acted, notified, wait_entered, wait_ended, take_entered, take_ended, state_cleared, value_cleared, of_slot, slot_of};
 ghost use Rattle.bench_model.specs.Notifying.{timeout_of, is_passed, state_forgotten, bits_cleared, completed, notify, interrupted, awaited};
 ghost use Rattle.bench_model.specs.Table.{stamp_queues};
 
 use super::SlowTable;
 use bench_model::notes::{is_received, is_waiting, notified, passes, without_bits};
-use bench_types::{Action, Call, Note, NoteState, Notification, Reply, Unfinished};
+use bench_types::{BlockingCall, Note, NoteState, Notification, NotifyAction, Reply, Unfinished};
 
 impl SlowTable {
     // Where the notification stands.
@@ -50,7 +50,7 @@ impl SlowTable {
         requires index { note.index < self.old.settings.notes }
         requires room { self.old.orders.next + 1 < 2 ^ 128 }
         ensures passed { result ≡ is_passed note self.old }
-        ensures told { self.new ≡ notify stamp_queues acting note self.old }
+        ensures known { self.new ≡ notify stamp_queues acting note self.old }
         ensures settings { self.new.settings ≡ self.old.settings }
     {
         let before = self.note(note.task, note.index);
@@ -107,32 +107,39 @@ impl SlowTable {
 
     // A call that waited for a notification answers with that.
     #[tactic(auto, unfolding(bench_model::specs::Notifying::completed))]
-    pub(super) fn complete(&mut self, task: u32, call: Call) -> Reply
+    pub(super) fn complete(&mut self, task: u32, call: BlockingCall) -> Reply
         requires task { task < length self.old.orders.rows }
-        requires checked { call_check self.old.settings call ≡ Ok tt }
+        requires checked { call_check self.old.settings (as_call call) ≡ Ok tt }
         ensures { (result, self.new) ≡ completed task call self.old }
     {
         match call {
-            Call::NotifyWait { exit, index, .. } => {
+            BlockingCall::NotifyWait { exit, index, .. } => {
                 let ((ok, value), note) = wait_ended(exit, self.note(task, index));
                 self.set_note(task, index, note);
                 Reply::Waited { ok, value }
             }
-            Call::NotifyTake { clear, index, .. } => {
+            BlockingCall::NotifyTake { clear, index, .. } => {
                 let (value, note) = take_ended(clear, self.note(task, index));
                 self.set_note(task, index, note);
                 Reply::Value(value)
             }
-            _ => Reply::Done,
+            BlockingCall::Delay(_) | BlockingCall::DelayUntil { .. } => Reply::Done,
         }
     }
 
     // Blocks a call that has nothing to complete with and some ticks to wait.
     #[tactic(auto, unfolding(bench_model::specs::Notifying::awaited))]
-    fn await_note(&mut self, core: u32, task: u32, call: Call, ticks: u32, waits: bool) -> Reply
+    fn await_note(
+        &mut self,
+        core: u32,
+        task: u32,
+        call: BlockingCall,
+        ticks: u32,
+        waits: bool,
+    ) -> Reply
         requires core { core < length self.old.control.cores }
         requires task { task < length self.old.orders.rows }
-        requires checked { call_check self.old.settings call ≡ Ok tt }
+        requires checked { call_check self.old.settings (as_call call) ≡ Ok tt }
         requires room { self.old.orders.next + 1 < 2 ^ 128 }
         requires time { self.old.orders.tick + 2 ^ 32 < 2 ^ 128 }
         ensures { (result, self.new)
@@ -162,12 +169,12 @@ impl SlowTable {
         requires time { self.old.orders.tick + 2 ^ 32 < 2 ^ 128 }
         ensures { (result, self.new)
             ≡ awaited stamp_queues core task (NotifyWait entry exit ticks index) ticks
-            (of_slot (slot_of self.old.settings task index) (wait_begun entry) self.old.notes)
+            (of_slot (slot_of self.old.settings task index) (wait_entered entry) self.old.notes)
             self.old }
     {
-        let (waits, note) = wait_begun(entry, self.note(task, index));
+        let (waits, note) = wait_entered(entry, self.note(task, index));
         self.set_note(task, index, note);
-        let call = Call::NotifyWait {
+        let call = BlockingCall::NotifyWait {
             entry,
             exit,
             ticks,
@@ -192,11 +199,11 @@ impl SlowTable {
         requires time { self.old.orders.tick + 2 ^ 32 < 2 ^ 128 }
         ensures { (result, self.new)
             ≡ awaited stamp_queues core task (NotifyTake clear ticks index) ticks
-            (of_slot (slot_of self.old.settings task index) take_begun self.old.notes) self.old }
+            (of_slot (slot_of self.old.settings task index) take_entered self.old.notes) self.old }
     {
-        let (waits, note) = take_begun(self.note(task, index));
+        let (waits, note) = take_entered(self.note(task, index));
         self.set_note(task, index, note);
-        let call = Call::NotifyTake {
+        let call = BlockingCall::NotifyTake {
             clear,
             ticks,
             index,
@@ -211,9 +218,9 @@ pub(super) fn timeout_of(ticks: u32) -> Option<u32>
     (ticks != u32::MAX).then_some(ticks)
 }
 
-#[tactic(auto, unfolding(bench_model::specs::Notes::wait_begun))]
-pub(super) fn wait_begun(entry: u32, note: Notification) -> (bool, Notification)
-    ensures { result ≡ wait_begun entry note }
+#[tactic(auto, unfolding(bench_model::specs::Notes::wait_entered))]
+pub(super) fn wait_entered(entry: u32, note: Notification) -> (bool, Notification)
+    ensures { result ≡ wait_entered entry note }
 {
     if is_received(note.state) {
         return (false, note);
@@ -237,9 +244,9 @@ fn wait_ended(exit: u32, note: Notification) -> ((bool, u32), Notification)
     ((come, note.value), Notification { value, state })
 }
 
-#[tactic(auto, unfolding(bench_model::specs::Notes::take_begun))]
-pub(super) fn take_begun(note: Notification) -> (bool, Notification)
-    ensures { result ≡ take_begun note }
+#[tactic(auto, unfolding(bench_model::specs::Notes::take_entered))]
+pub(super) fn take_entered(note: Notification) -> (bool, Notification)
+    ensures { result ≡ take_entered note }
 {
     if note.value != 0 {
         return (false, note);

@@ -42,8 +42,7 @@ impl SlowTable {
     fn is_running(&self, task: u32) -> bool
         ensures { result ≡ is_running self.now.control task }
     {
-        self.core_numbers()
-            .any(|core| self.keeps_running(core, task))
+        self.its_core(task).is_some()
     }
 
     pub(super) fn has_preemption_on(&self, task: u32) -> bool

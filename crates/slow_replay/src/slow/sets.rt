@@ -9,7 +9,7 @@ use super::SlowTable;
 use bench_types::{TaskControl, cores_of_mask};
 
 impl SlowTable {
-    fn its_core(&self, task: u32) -> Option<u32>
+    pub(super) fn its_core(&self, task: u32) -> Option<u32>
         ensures core { result ≡ runs_on self.now.control task }
         ensures below { IfSome result (λ core. core < length self.now.control.cores) }
     {

@@ -1,14 +1,14 @@
 //! Notifying a task, and the calls that wait for a notification.
 ghost use Rattle.std.specs.Prelude.{◌≡◌, ◌<◌, true, Ok};
 ghost use Rattle.list_orders.specs.Search.{has};
-ghost use Rattle.bench_types.specs.declared.step.Call.TheVariants.{NotifyTake, NotifyWait};
-ghost use Rattle.bench_types.specs.Step.{call_check};
-ghost use Rattle.bench_model.specs.Notes.{of_slot, slot_of, wait_begun, take_begun};
+ghost use Rattle.bench_types.specs.declared.step.BlockingCall.TheVariants.{NotifyTake, NotifyWait};
+ghost use Rattle.bench_types.specs.Step.{as_call, call_check};
+ghost use Rattle.bench_model.specs.Notes.{of_slot, slot_of, wait_entered, take_entered};
 ghost use Rattle.bench_model.specs.Notifying.{notify, is_passed, interrupted, state_forgotten, bits_cleared, completed, awaited, timeout_of};
 ghost use Rattle.bench_model.specs.Lists.{list_queues};
 
 use super::Scheduler;
-use bench_types::{Call, Note, Reply};
+use bench_types::{BlockingCall, Note, Reply};
 
 impl Scheduler {
     // Notifies a task, by the acting core; one that waits for it is woken. Returns whether the
@@ -61,22 +61,22 @@ impl Scheduler {
         Reply::Value(self.notes.clear_value(task, index, bits))
     }
 
-    // A call completes: one that waited for a notification answers with that, every other is done.
+    // A call completes: one that waited for a notification answers with that, a delay is done.
     #[tactic(auto, unfolding(bench_model::specs::Notifying::completed))]
-    pub(super) fn complete(&mut self, task: u32, call: Call) -> Reply
+    pub(super) fn complete(&mut self, task: u32, call: BlockingCall) -> Reply
         requires task { task < self.old.settings.tasks }
-        requires checked { call_check self.old.settings call ≡ Ok tt }
+        requires checked { call_check self.old.settings (as_call call) ≡ Ok tt }
         ensures { (result, self.new) ≡ completed task call self.old }
     {
         match call {
-            Call::NotifyWait { exit, index, .. } => {
+            BlockingCall::NotifyWait { exit, index, .. } => {
                 let (ok, value) = self.notes.end_wait(task, index, exit);
                 Reply::Waited { ok, value }
             }
-            Call::NotifyTake { clear, index, .. } => {
+            BlockingCall::NotifyTake { clear, index, .. } => {
                 Reply::Value(self.notes.end_take(task, index, clear))
             }
-            _ => Reply::Done,
+            BlockingCall::Delay(_) | BlockingCall::DelayUntil { .. } => Reply::Done,
         }
     }
 
@@ -84,15 +84,22 @@ impl Scheduler {
     // where that found nothing to complete with and there are some ticks to wait, the task is
     // blocked, else the call completes at once.
     #[tactic(auto, unfolding(bench_model::specs::Notifying::awaited))]
-    fn await_note(&mut self, core: u32, task: u32, call: Call, ticks: u32, begun: bool) -> Reply
+    fn await_note(
+        &mut self,
+        core: u32,
+        task: u32,
+        call: BlockingCall,
+        ticks: u32,
+        entered: bool,
+    ) -> Reply
         requires core { core < self.old.settings.cores }
         requires task { task < self.old.settings.tasks }
         requires ready { has task self.old.orders.ready ≡ true }
-        requires checked { call_check self.old.settings call ≡ Ok tt }
+        requires checked { call_check self.old.settings (as_call call) ≡ Ok tt }
         ensures { (result, self.new)
-            ≡ awaited list_queues core task call ticks (begun, self.old.notes) self.old }
+            ≡ awaited list_queues core task call ticks (entered, self.old.notes) self.old }
     {
-        if begun && ticks > 0 {
+        if entered && ticks > 0 {
             self.block(core, task, call, timeout_of(ticks));
             return Reply::Blocked;
         }
@@ -116,17 +123,17 @@ impl Scheduler {
         requires ready { has task self.old.orders.ready ≡ true }
         ensures { (result, self.new)
             ≡ awaited list_queues core task (NotifyWait entry exit ticks index) ticks
-            (of_slot (slot_of self.old.settings task index) (wait_begun entry) self.old.notes)
+            (of_slot (slot_of self.old.settings task index) (wait_entered entry) self.old.notes)
             self.old }
     {
-        let begun = self.notes.begin_wait(task, index, entry);
-        let call = Call::NotifyWait {
+        let entered = self.notes.begin_wait(task, index, entry);
+        let call = BlockingCall::NotifyWait {
             entry,
             exit,
             ticks,
             index,
         };
-        self.await_note(core, task, call, ticks, begun)
+        self.await_note(core, task, call, ticks, entered)
     }
 
     // A call that takes the value of the index.
@@ -145,15 +152,15 @@ impl Scheduler {
         requires ready { has task self.old.orders.ready ≡ true }
         ensures { (result, self.new)
             ≡ awaited list_queues core task (NotifyTake clear ticks index) ticks
-            (of_slot (slot_of self.old.settings task index) take_begun self.old.notes) self.old }
+            (of_slot (slot_of self.old.settings task index) take_entered self.old.notes) self.old }
     {
-        let begun = self.notes.begin_take(task, index);
-        let call = Call::NotifyTake {
+        let entered = self.notes.begin_take(task, index);
+        let call = BlockingCall::NotifyTake {
             clear,
             ticks,
             index,
         };
-        self.await_note(core, task, call, ticks, begun)
+        self.await_note(core, task, call, ticks, entered)
     }
 }
 

@@ -108,7 +108,7 @@ impl Scheduler {
     }
 
     // Whether the call would make its task wait: for some ticks, or for what is not there.
-    #[tactic(auto, unfolding(bench_model::specs::Refusals::would_block, bench_model::specs::Notes::wait_begun, bench_model::specs::Notes::take_begun))]
+    #[tactic(auto, unfolding(bench_model::specs::Refusals::would_block, bench_model::specs::Notes::wait_entered, bench_model::specs::Notes::take_entered))]
     fn would_block(&self, task: u32, call: Call) -> bool
         requires task { task < self.now.settings.tasks }
         requires checked { call_check self.now.settings call ≡ Ok tt }

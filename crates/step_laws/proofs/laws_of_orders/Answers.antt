@@ -19,7 +19,8 @@ pub returns-clause-pick_simulates : goal.returns-clause-pick_simulates
 returns-clause-pick_simulates c = pick_seen
 
 pub returns-clause-switch_simulates : goal.returns-clause-switch_simulates
-returns-clause-switch_simulates c = λ table core sound low. after_select_seen core table sound.stamped (sound.in_place.is_task core (omega (arith, sound.sized.cores)))
+returns-clause-switch_simulates c = λ table core sound low. after_select_seen core table sound.stamped
+    (sound.in_place.is_task core (omega (arith, sound.sized.cores)))
 
 pub returns-clause-delay_simulates : goal.returns-clause-delay_simulates
 returns-clause-delay_simulates c = λ control stamps task ticks wait stamped. delay_seen control stamps task ticks wait stamped.given
@@ -31,10 +32,12 @@ pub returns-clause-woken_simulates : goal.returns-clause-woken_simulates
 returns-clause-woken_simulates c = λ table tasks stamped below. woken_seen tasks table stamped.given below
 
 pub returns-clause-block_simulates : goal.returns-clause-block_simulates
-returns-clause-block_simulates c = λ table core task call ticks wait sound place. blocked_seen core task call ticks wait table sound.stamped.given place.2 place.3
+returns-clause-block_simulates c = λ table core task call ticks wait sound place. blocked_seen core task call ticks wait table sound.stamped.given place.2
+    place.3
 
 pub returns-clause-block_keeps_consistent : goal.returns-clause-block_keeps_consistent
-returns-clause-block_keeps_consistent c = λ table core task call ticks wait sound place checked user fits there takes. blocked_sound core task call ticks wait table sound place checked (omega (arith, sound.sized.cores, user)) fits there takes
+returns-clause-block_keeps_consistent c = λ table core task call ticks wait sound place checked user fits there takes. blocked_sound core task call ticks wait
+    table sound place checked (omega (arith, sound.sized.cores, user)) fits there takes
 
 pub returns-clause-cores_are_apart : goal.returns-clause-cores_are_apart
 returns-clause-cores_are_apart c = λ control acting core stamps. lists_of_cores control _ stamps

@@ -6,4 +6,5 @@ use Rattle.bench_commands.specs.Command.{default_span}
 use Rattle.bench_commands.proofs.command.span_in.Goals as goal
 
 pub returns : goal.returns
-returns c = c.unwrap_or.ensures ∙ number_is_read 32 1 max_span (omega arith) (found_of c.args.options.now) (codes "span") default_span c.requires.span c.get_one.result c.get_one.ensures.none c.get_one.ensures.value
+returns c = c.unwrap_or.ensures ∙ number_is_read 32 1 max_span (omega arith) (found_of c.args.options.now) (codes "span") default_span c.requires.span
+    c.get_one.result c.get_one.ensures.none c.get_one.ensures.value

@@ -4,4 +4,5 @@ use Rattle.command_words.proofs.OptionsRead.{flag_is_read}
 use Rattle.bench_commands.proofs.command.tally_in.Goals as goal
 
 pub returns : goal.returns
-returns c = flag_is_read (found_of c.args.options.now) (codes "tally") c.requires.tally c.get_flag.result c.get_flag.ensures.none c.get_flag.ensures.value c.get_flag.ensures.other
+returns c = flag_is_read (found_of c.args.options.now) (codes "tally") c.requires.tally c.get_flag.result c.get_flag.ensures.none c.get_flag.ensures.value
+    c.get_flag.ensures.other

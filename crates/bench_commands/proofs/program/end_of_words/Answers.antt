@@ -10,14 +10,16 @@ pub returns-in-Ok-Run : goal.returns-in-Ok-Run
 returns-in-Ok-Run g c =
     let read = g.R.CountedRead.seen in
     let write = g.W.CountedWrite.seen in
-    subst (λ (what : Asked). EndsOver (EndsAsked what) c.end_of_run.result (read c.args.reader.now) (read c.end_of_run.new.reader) (write c.args.writer.now) (write c.end_of_run.new.writer))
+    subst (λ (what : Asked). EndsOver (EndsAsked what) c.end_of_run.result (read c.args.reader.now) (read c.end_of_run.new.reader) (write c.args.writer.now)
+    (write c.end_of_run.new.writer))
     (rw c.in-Ok-Run.field-0-is at c.in-Ok-Run.ensures.asked) c.end_of_run.ensures
 
 pub returns-in-Ok-Record : goal.returns-in-Ok-Record
 returns-in-Ok-Record g c =
     let read = g.R.CountedRead.seen in
     let write = g.W.CountedWrite.seen in
-    subst (λ (what : Asked). EndsOver (EndsAsked what) c.end_of_recording.result (read c.args.reader.now) (read c.end_of_recording.new.reader) (write c.args.writer.now) (write c.end_of_recording.new.writer))
+    subst (λ (what : Asked). EndsOver (EndsAsked what) c.end_of_recording.result (read c.args.reader.now) (read c.end_of_recording.new.reader)
+    (write c.args.writer.now) (write c.end_of_recording.new.writer))
     (rw c.in-Ok-Record.field-0-is at c.in-Ok-Record.ensures.asked) c.end_of_recording.ensures
 
 pub returns-in-Ok-Help : goal.returns-in-Ok-Help
@@ -26,7 +28,8 @@ returns-in-Ok-Help g c =
     let write = g.W.CountedWrite.seen in
     subst (λ (what : Asked). EndsOver (EndsAsked what) c.show_text.result read read (write c.args.writer.now) (write c.show_text.new.writer))
     (rw c.in-Ok-Help.field-0-is at c.in-Ok-Help.ensures.asked)
-    (shown_over c.as_str.result.now c.show_text.result read (write c.args.writer.now) (write c.show_text.new.writer) c.show_text.ensures.bytes c.show_text.ensures.reads c.show_text.ensures.writes)
+    (shown_over c.as_str.result.now c.show_text.result read (write c.args.writer.now) (write c.show_text.new.writer) c.show_text.ensures.bytes
+    c.show_text.ensures.reads c.show_text.ensures.writes)
 
 pub returns-in-Err : goal.returns-in-Err
 returns-in-Err g c =

@@ -7,19 +7,30 @@ use Rattle.bench_commands.proofs.Statuses.{of_run, reads_by_status, recording_en
 use Rattle.bench_commands.proofs.recording.record.Goals as goal
 
 pub of-requires : goal.of-requires
-of-requires g c = of_run IsRecording c.end_of_recording.result (g.I.CountedRead.seen c.args.reader.now).bytes (g.I.CountedRead.seen c.end_of_recording.new.reader).bytes (g.O.CountedWrite.seen c.args.writer.now).bytes (g.O.CountedWrite.seen c.end_of_recording.new.writer).bytes c.end_of_recording.ensures.bytes
+of-requires g c = of_run IsRecording c.end_of_recording.result (g.I.CountedRead.seen c.args.reader.now).bytes
+    (g.I.CountedRead.seen c.end_of_recording.new.reader).bytes (g.O.CountedWrite.seen c.args.writer.now).bytes
+    (g.O.CountedWrite.seen c.end_of_recording.new.writer).bytes c.end_of_recording.ensures.bytes
 
 pub returns-clause-bytes : goal.returns-clause-bytes
 returns-clause-bytes g c =
-    subst (λ (status : Status). EndsRecord status (g.I.CountedRead.seen c.args.reader.now).bytes (g.I.CountedRead.seen c.end_of_recording.new.reader).bytes (g.O.CountedWrite.seen c.args.writer.now).bytes (g.O.CountedWrite.seen c.end_of_recording.new.writer).bytes) (sym c.of.ensures)
-    (recording_ended (g.I.CountedRead.seen c.args.reader.now).bytes (g.I.CountedRead.seen c.end_of_recording.new.reader).bytes (g.O.CountedWrite.seen c.args.writer.now).bytes (g.O.CountedWrite.seen c.end_of_recording.new.writer).bytes c.end_of_recording.result c.end_of_recording.ensures.bytes)
+    subst (λ (status : Status). EndsRecord status (g.I.CountedRead.seen c.args.reader.now).bytes (g.I.CountedRead.seen c.end_of_recording.new.reader).bytes
+    (g.O.CountedWrite.seen c.args.writer.now).bytes (g.O.CountedWrite.seen c.end_of_recording.new.writer).bytes) (sym c.of.ensures)
+    (recording_ended (g.I.CountedRead.seen c.args.reader.now).bytes (g.I.CountedRead.seen c.end_of_recording.new.reader).bytes
+    (g.O.CountedWrite.seen c.args.writer.now).bytes (g.O.CountedWrite.seen c.end_of_recording.new.writer).bytes c.end_of_recording.result
+    c.end_of_recording.ensures.bytes)
 
 pub returns-clause-reads : goal.returns-clause-reads
 returns-clause-reads g c =
-    let is = of_run IsRecording c.end_of_recording.result (g.I.CountedRead.seen c.args.reader.now).bytes (g.I.CountedRead.seen c.end_of_recording.new.reader).bytes (g.O.CountedWrite.seen c.args.writer.now).bytes (g.O.CountedWrite.seen c.end_of_recording.new.writer).bytes c.end_of_recording.ensures.bytes in
-    c.end_of_recording.ensures.reads ∙ sym (ap (λ well. failures_after well (g.I.CountedRead.seen c.args.reader.now).failures) (ap reads_well c.of.ensures ∙ reads_by_status c.end_of_recording.result is))
+    let is = of_run IsRecording c.end_of_recording.result (g.I.CountedRead.seen c.args.reader.now).bytes
+    (g.I.CountedRead.seen c.end_of_recording.new.reader).bytes (g.O.CountedWrite.seen c.args.writer.now).bytes
+    (g.O.CountedWrite.seen c.end_of_recording.new.writer).bytes c.end_of_recording.ensures.bytes in
+    c.end_of_recording.ensures.reads ∙ sym (ap (λ well. failures_after well (g.I.CountedRead.seen c.args.reader.now).failures)
+    (ap reads_well c.of.ensures ∙ reads_by_status c.end_of_recording.result is))
 
 pub returns-clause-writes : goal.returns-clause-writes
 returns-clause-writes g c =
-    let is = of_run IsRecording c.end_of_recording.result (g.I.CountedRead.seen c.args.reader.now).bytes (g.I.CountedRead.seen c.end_of_recording.new.reader).bytes (g.O.CountedWrite.seen c.args.writer.now).bytes (g.O.CountedWrite.seen c.end_of_recording.new.writer).bytes c.end_of_recording.ensures.bytes in
-    c.end_of_recording.ensures.writes ∙ sym (ap (λ well. failures_after well (g.O.CountedWrite.seen c.args.writer.now).failures) (ap writes_well c.of.ensures ∙ writes_by_status c.end_of_recording.result is))
+    let is = of_run IsRecording c.end_of_recording.result (g.I.CountedRead.seen c.args.reader.now).bytes
+    (g.I.CountedRead.seen c.end_of_recording.new.reader).bytes (g.O.CountedWrite.seen c.args.writer.now).bytes
+    (g.O.CountedWrite.seen c.end_of_recording.new.writer).bytes c.end_of_recording.ensures.bytes in
+    c.end_of_recording.ensures.writes ∙ sym (ap (λ well. failures_after well (g.O.CountedWrite.seen c.args.writer.now).failures)
+    (ap writes_well c.of.ensures ∙ writes_by_status c.end_of_recording.result is))

@@ -8,13 +8,15 @@ use Rattle.bench_commands.proofs.recording.recorded.Goals as goal
 pub write_session-requires : goal.write_session-requires
 write_session-requires g c =
     let recorded = c.in_ok-recorded in
-    subst (λ steps. IsSession (record { header = recorded.recorded.header; steps = steps })) (sym (c.as_slice.ensures.value ∙ c.in_ok-steps.ensures)) recorded.ensures.session
+    subst (λ steps. IsSession (record { header = recorded.recorded.header; steps = steps })) (sym (c.as_slice.ensures.value ∙ c.in_ok-steps.ensures))
+    recorded.ensures.session
 
 pub returns : goal.returns
 returns g c =
     let recorded = c.in_ok-recorded in
     let header = recorded.recorded.header in
-    is_recorded c.args.rig.now header recorded.recorded.entries c.in_ok-steps.steps.items c.in_ok-text.text.items c.push.new.self.items recorded.ensures.header recorded.ensures.legal
+    is_recorded c.args.rig.now header recorded.recorded.entries c.in_ok-steps.steps.items c.in_ok-text.text.items c.push.new.self.items recorded.ensures.header
+    recorded.ensures.legal
     recorded.ensures.current recorded.ensures.few recorded.ensures.unheld
     (subst (λ scripts. ArePlayed header c.args.rig.now.limit recorded.recorded.entries scripts) c.as_slice-scripts.ensures recorded.ensures.played)
     c.in_ok-steps.ensures

@@ -17,7 +17,8 @@ add_task_counts-requires c =
     let sum : ℕ → Tally = λ task. added_counts (counts_of old task) (counts_of more task) in
     let low : task < length old = c.loop-task-test.true in
     let kept : counts_of c.loop-task.counts task ≡ counts_of old task = c.loop-task.invariant.others task (omega arith) in
-    let room : CountsFit (get_or (all_added_counts old more) task (no_counts 0)) = All-get_or CountsFit (all_added_counts old more) task (no_counts 0) (omega (arith, low, length_each sum (length old))) c.requires.sums in
+    let room : CountsFit (get_or (all_added_counts old more) task (no_counts 0)) = All-get_or CountsFit (all_added_counts old more) task (no_counts 0)
+    (omega (arith, low, length_each sum (length old))) c.requires.sums in
     subst CountsFit (each_at sum (length old) task (no_counts 0) low ∙ ap (λ t. added_counts t (counts_of more task)) (sym kept)) room
 
 pub loop-task-preserved : goal.loop-task-preserved
@@ -36,4 +37,5 @@ pub returns : goal.returns
 returns c =
     let old = c.args.counts.now in
     let more = c.args.more.now in
-    set_all (λ task. added_counts (counts_of old task) (counts_of more task)) (no_counts 0) old c.loop-task.counts c.loop-task.task c.loop-task.invariant c.loop-task-test.false
+    set_all (λ task. added_counts (counts_of old task) (counts_of more task)) (no_counts 0) old c.loop-task.counts c.loop-task.task c.loop-task.invariant
+    c.loop-task-test.false

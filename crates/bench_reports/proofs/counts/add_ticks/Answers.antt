@@ -16,7 +16,8 @@ overflow_add-runs c =
     let place = c.loop-place.place in
     let sum : ℕ → ℕ = λ place. get_or old place 0 + get_or more place 0 in
     let low : place < length old = omega (arith, c.loop-place-test.true) in
-    let below : get_or (sums_of old more) place 0 < 2 ^ 32 = All-get_or (λ n. n < 2 ^ 32) (sums_of old more) place 0 (omega (arith, low, length_each sum (length old))) c.requires.sums in
+    let below : get_or (sums_of old more) place 0 < 2 ^ 32 = All-get_or (λ n. n < 2 ^ 32) (sums_of old more) place 0
+    (omega (arith, low, length_each sum (length old))) c.requires.sums in
     omega (arith, below, each_at sum (length old) place 0 low, c.loop-place.invariant.others place (omega arith))
 
 pub loop-place-preserved : goal.loop-place-preserved
@@ -30,4 +31,5 @@ loop-place-preserved c =
     (set_more sum 0 old c.loop-place.runs place c.loop-place.invariant (omega (arith, c.loop-place-test.true, c.loop-place.invariant.size)))
 
 pub returns : goal.returns
-returns c = set_all (λ place. get_or c.args.runs.now place 0 + get_or c.args.more.now place 0) 0 c.args.runs.now c.loop-place.runs c.loop-place.place c.loop-place.invariant (omega (arith, c.loop-place-test.false))
+returns c = set_all (λ place. get_or c.args.runs.now place 0 + get_or c.args.more.now place 0) 0 c.args.runs.now c.loop-place.runs c.loop-place.place
+    c.loop-place.invariant (omega (arith, c.loop-place-test.false))

@@ -17,7 +17,8 @@ add_run-requires-clause-core c =
     let old = c.args.tasks.now in
     let task = c.running.result in
     let low : task < length old = omega (arith, c.running.ensures.task, shape_length old kernel.settings c.requires.shape) in
-    kept_cores old c.loop-core.tasks kernel.control c.loop-core.core task c.loop-core.invariant low kernel.settings.cores (shape_runs old kernel.settings task c.requires.shape low)
+    kept_cores old c.loop-core.tasks kernel.control c.loop-core.core task c.loop-core.invariant low kernel.settings.cores
+    (shape_runs old kernel.settings task c.requires.shape low)
     (omega (arith, c.loop-core-test.true, ap (λ (s : Settings). s.cores) c.settings-core-end.ensures.settings))
 
 pub add_run-requires-clause-room : goal.add_run-requires-clause-room
@@ -27,7 +28,13 @@ add_run-requires-clause-room c =
     let task = c.running.result in
     let low : task < length old = omega (arith, c.running.ensures.task, shape_length old kernel.settings c.requires.shape) in
     kept_ticks old c.loop-core.tasks kernel.control c.loop-core.core task c.loop-core.invariant low (2 ^ 32 - 1) c.requires.room
-    (omega (arith, c.loop-core-test.true, shape_runs old kernel.settings task c.requires.shape low, ap (λ (s : Settings). s.cores) c.settings-core-end.ensures.settings))
+    (omega (
+      arith,
+      c.loop-core-test.true,
+      shape_runs old kernel.settings task c.requires.shape low,
+      ap (λ (s : Settings). s.cores)
+          c.settings-core-end.ensures.settings,
+    ))
 
 pub loop-core-preserved : goal.loop-core-preserved
 loop-core-preserved c =
@@ -37,7 +44,8 @@ loop-core-preserved c =
     let task = c.running.result in
     let core = c.loop-core.core in
     let low : task < length old = omega (arith, c.running.ensures.task, shape_length old kernel.settings c.requires.shape) in
-    let inside = kept_cores old now kernel.control core task c.loop-core.invariant low kernel.settings.cores (shape_runs old kernel.settings task c.requires.shape low)
+    let inside = kept_cores old now kernel.control core task c.loop-core.invariant low kernel.settings.cores
+    (shape_runs old kernel.settings task c.requires.shape low)
     (omega (arith, c.loop-core-test.true, ap (λ (s : Settings). s.cores) c.settings-core-end.ensures.settings)) in
     subst (IsRunTo kernel.control old (core + 1)) (sym c.add_run.ensures)
     (run_on kernel.control old now core task c.loop-core.invariant c.running.ensures.seen (omega (arith, low, c.loop-core.invariant.size)) inside)
@@ -47,4 +55,10 @@ returns c =
     let kernel = c.args.kernel.now in
     let old = c.args.tasks.now in
     run_all kernel.control old c.loop-core.tasks c.loop-core.core c.loop-core.invariant
-    (λ task low. omega (arith, c.loop-core-test.false, shape_runs old kernel.settings task c.requires.shape low, ap (λ (s : Settings). s.cores) c.settings-core-end.ensures.settings))
+    (λ task low. omega (
+      arith,
+      c.loop-core-test.false,
+      shape_runs old kernel.settings task c.requires.shape low,
+      ap (λ (s : Settings). s.cores)
+          c.settings-core-end.ensures.settings,
+    ))

@@ -11,7 +11,15 @@ use Rattle.bench_reports.proofs.tallies.add_waits.Goals as goal
 pub bounds-waiting-task : goal.bounds-waiting-task
 bounds-waiting-task c =
     let kernel = c.args.kernel.now in
-    omega (arith, c.loop-task-test.true, c.len-task-end.ensures, c.requires.tasks, ap length c.waiting-waiting.ensures, length_each (wants_core kernel) kernel.settings.tasks)
+    omega (
+      arith,
+      c.loop-task-test.true,
+      c.len-task-end.ensures,
+      c.requires.tasks,
+      ap length c.waiting-waiting.ensures,
+      length_each (wants_core kernel)
+          kernel.settings.tasks,
+    )
 
 pub loop-task-preserved : goal.loop-task-preserved
 loop-task-preserved c =
@@ -21,15 +29,18 @@ loop-task-preserved c =
     let task = c.loop-task.task in
     let f : ℕ → TaskTally = λ task. with_wait (wants_core kernel task) (tally_at old task) in
     let waits : get_or c.waiting-waiting.result.now task false ≡ wants_core kernel task =
-    ap (λ flags. get_or flags task false) c.waiting-waiting.ensures ∙ each_at (wants_core kernel) kernel.settings.tasks task false (omega (arith, c.loop-task-test.true, c.len-task-end.ensures, c.requires.tasks)) in
+    ap (λ flags. get_or flags task false) c.waiting-waiting.ensures ∙ each_at (wants_core kernel) kernel.settings.tasks task false
+    (omega (arith, c.loop-task-test.true, c.len-task-end.ensures, c.requires.tasks)) in
     let made : c.add_wait.new.self ≡ slice_set now task (f task) =
     c.add_wait.ensures ∙ ap (λ b. slice_set now task (with_wait b (tally_at now task))) waits
     ∙ ap (λ t. slice_set now task (with_wait (wants_core kernel task) t)) (c.loop-task.invariant.others task (omega arith)) in
-    subst (IsSetTo f nothing old (task + 1)) (sym made) (set_more f nothing old now task c.loop-task.invariant (omega (arith, c.loop-task-test.true, c.len-task-end.ensures, c.loop-task.invariant.size)))
+    subst (IsSetTo f nothing old (task + 1)) (sym made) (set_more f nothing old now task c.loop-task.invariant
+    (omega (arith, c.loop-task-test.true, c.len-task-end.ensures, c.loop-task.invariant.size)))
 
 pub returns : goal.returns
 unfolding waited
 returns c =
     let kernel = c.args.kernel.now in
     let old = c.args.tasks.now in
-    set_all (λ task. with_wait (wants_core kernel task) (tally_at old task)) nothing old c.loop-task.tasks c.loop-task.task c.loop-task.invariant (omega (arith, c.loop-task-test.false, c.len-task-end.ensures))
+    set_all (λ task. with_wait (wants_core kernel task) (tally_at old task)) nothing old c.loop-task.tasks c.loop-task.task c.loop-task.invariant
+    (omega (arith, c.loop-task-test.false, c.len-task-end.ensures))

@@ -10,7 +10,8 @@ returns-in-Some c =
     let tasks = c.args.tasks.now in
     let control = c.args.kernel.now.control in
     let task = c.in-Some.task in
-    let inside : task < c.args.kernel.now.settings.tasks = subst (λ raised. IfSome raised (λ (task : ℕ). task < c.args.kernel.now.settings.tasks)) c.in-Some.is c.requires.raised in
+    let inside : task < c.args.kernel.now.settings.tasks = subst (λ raised. IfSome raised (λ (task : ℕ). task < c.args.kernel.now.settings.tasks)) c.in-Some.is
+    c.requires.raised in
     let low : task < length tasks = omega (arith, c.requires.tasks, inside) in
     c.raise_top.ensures
     ∙ sym (topped_one control task tasks (tally_at tasks task) low refl (subst (λ raised. HasOtherTops raised control tasks) c.in-Some.is c.requires.tops))

@@ -5,4 +5,5 @@ use Rattle.bench_tests.proofs.reports.add_part.Goals as goal
 
 pub add-requires-clause-sums : goal.add-requires-clause-sums
 add-requires-clause-sums c =
-    wider_room (added c.args.tallies.now c.args.more.now) (omega arith) (sum_room c.args.tallies.now c.args.more.now 999 999 c.requires.shapes c.requires.room c.requires.more)
+    wider_room (added c.args.tallies.now c.args.more.now) (omega arith) (sum_room c.args.tallies.now c.args.more.now 999 999 c.requires.shapes c.requires.room
+    c.requires.more)

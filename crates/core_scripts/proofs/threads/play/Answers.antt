@@ -5,7 +5,8 @@ use Rattle.core_scripts.proofs.threads.play.Goals as goal
 
 pub unreachable-requires-in_default : goal.unreachable-requires-in_default
 unreachable-requires-in_default g c =
-    let closes = may_close c.in-Ok.made.0 c.args.scripts.now c.in_ok-seats.seats.items c.in_ok-seats.ensures c.in-Ok.made.0.cores (c.requires.scripts.one_per_core ∙ sym c.in-Ok.ensures.rig.1) in
+    let closes = may_close c.in-Ok.made.0 c.args.scripts.now c.in_ok-seats.seats.items c.in_ok-seats.ensures c.in-Ok.made.0.cores
+    (c.requires.scripts.one_per_core ∙ sym c.in-Ok.ensures.rig.1) in
     let refused = c.in_default.ensures.refused.2 in
     absurd (cc (closes, refused))
 

@@ -1,10 +1,11 @@
 use Rattle.std.proofs.Common.{◌++◌, codes, decimal, string_bytes}
 use Rattle.edit_notes.specs.Notes.{count_text, plural}
-use Rattle.edit_notes.proofs.Told.{ending_told}
+use Rattle.edit_notes.proofs.Printed.{ending_printed}
 use Rattle.edit_notes.proofs.notes.push_count.Goals as goal
 
 pub returns : goal.returns
 unfolding count_text
 returns c =
-    ending_told c.push_str.result (string_bytes c.args.text.now) _ _ (codes ": the session has " ++ decimal c.args.steps ++ codes " step") (plural c.args.steps) _
+    ending_printed c.push_str.result (string_bytes c.args.text.now) _ _ (codes ": the session has " ++ decimal c.args.steps ++ codes " step")
+    (plural c.args.steps) _
     c.in_ok-write.ensures.bytes c.push_str.ensures.bytes c.plural.ensures

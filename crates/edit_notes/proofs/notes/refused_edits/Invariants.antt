@@ -1,7 +1,7 @@
 use Rattle.std.proofs.Common.{string_bytes}
 use Rattle.bench_types.specs.Session.{Session}
 use Rattle.edit_notes.specs.Refused.{IsCounted}
-use Rattle.edit_notes.proofs.Told.{IsOnTheWay}
+use Rattle.edit_notes.proofs.Printed.{IsOnTheWay}
 use Rattle.edit_notes.proofs.notes.refused_edits.Given as goal
 
 abbrev pub invariant-loop-index : goal.invariant-loop-index

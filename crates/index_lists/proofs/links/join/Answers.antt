@@ -10,7 +10,12 @@ returns-clause-nexts c =
     let none : Link = record { prev = 0; next = 0 } in
     let links = c.args.links.now in
     let one = set links c.args.prev (record { prev = (get_or links c.args.prev none).prev; next = c.args.next }) in
-    let low : c.args.next < length one = omega (arith, c.requires.next, length-set links c.args.prev (record { prev = (get_or links c.args.prev none).prev; next = c.args.next })) in
+    let low : c.args.next < length one = omega (
+      arith,
+      c.requires.next,
+      length-set links c.args.prev
+          (record { prev = (get_or links c.args.prev none).prev; next = c.args.next }),
+    ) in
     map-set next one c.args.next _
     ∙ ap (set (nexts one) c.args.next) (sym (get_or-map next one c.args.next none 0 low))
     ∙ set-get_or (nexts one) c.args.next 0

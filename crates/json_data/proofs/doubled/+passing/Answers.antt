@@ -1,5 +1,6 @@
 use Rattle.std.proofs.Common.{arith}
-use Rattle.json_data.proofs.Twice.{array_passed, goes_on, items_closed, items_past, items_turn, items_twice, leaf_passed, members_begin, members_closed, members_past, members_turn, members_twice, name_again, object_passed, value_past}
+use Rattle.json_data.proofs.Twice.{array_passed, goes_on, items_closed, items_past, items_turn, items_twice, leaf_passed, members_begin, members_closed}
+use Rattle.json_data.proofs.Twice.{members_past, members_turn, members_twice, name_doubled, object_passed, value_past}
 use Rattle.json_data.proofs.doubled.+passing.Goals as goal
 
 pub passed_value-returns-then-at-nodes-clause-passed :
@@ -48,7 +49,7 @@ passed_items-loop-next-preserved t c =
     let goes = goes_on c.in_ok-item.item _ _ c.in-Next.after c.in-Next.is
     (c.in_ok-item.ensures.further c.loop-next-test.true) in
     record {
-      begun = omega (arith, goes.0, l.invariant.begun);
+      ordered = omega (arith, goes.0, l.invariant.ordered);
       within = goes.1;
       left = λ all rest reads. items_turn c.args.nodes.now c.args.at l.next c.in-Next.after
           c.in_ok-item.item all rest (l.invariant.left all rest reads) c.loop-next-test.true
@@ -63,7 +64,7 @@ passed_items-returns-clause-passed t c all rest reads =
 
 pub passed_members-loop-next-init : goal.passed_members-loop-next-init
 passed_members-loop-next-init t c = record {
-  begun = omega arith;
+  ordered = omega arith;
   within = c.requires;
   left = λ all rest reads. members_begin _ c.args.at c.none-names.result all rest
       c.none-names.ensures reads;
@@ -75,14 +76,14 @@ passed_members-returns-in_default t c =
     record {
       passed = λ all rest reads. members_closed c.args.nodes.now c.args.at l.next l.names all rest
           (l.invariant.left all rest reads) c.loop-next-test.true (λ key is. grind arith);
-      within = (omega (arith, l.invariant.begun), omega arith);
+      within = (omega (arith, l.invariant.ordered), omega arith);
     }
 
 pub passed_members-returns-then-branch-clause-passed :
     goal.passed_members-returns-then-branch-clause-passed
 passed_members-returns-then-branch-clause-passed t c all rest reads =
     let l = c.loop-next in
-    name_again c.args.nodes.now c.args.at l.next c.in-Key.name l.names all rest
+    name_doubled c.args.nodes.now c.args.at l.next c.in-Key.name l.names all rest
     (l.invariant.left all rest reads) c.loop-next-test.true c.in-Key.is (grind arith)
 
 pub passed_members-returns-in-Twice-clause-passed :
@@ -101,7 +102,7 @@ passed_members-loop-next-preserved t c =
     let goes = goes_on c.in_ok-member.member _ _ c.in-Next.after c.in-Next.is
     c.in_ok-member.ensures.within in
     record {
-      begun = omega (arith, goes.0, l.invariant.begun);
+      ordered = omega (arith, goes.0, l.invariant.ordered);
       within = goes.1;
       left = λ all rest reads. members_turn c.args.nodes.now c.args.at l.next c.in-Next.after
           c.in_ok-member.member c.in-Key.name l.names c.add.new.self all rest

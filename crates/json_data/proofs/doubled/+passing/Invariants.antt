@@ -23,7 +23,7 @@ decreases-passed_members-loop-next l = length l.nodes - l.next
 
 abbrev pub invariant-passed_items-loop-next : goal.invariant-passed_items-loop-next
 invariant-passed_items-loop-next l = record {
-  begun : l.at ≤ l.next;
+  ordered : l.at ≤ l.next;
   within : l.next ≤ length l.nodes;
   left : (all : Items) (rest : List Token) → drop l.at (map node_token l.nodes)
       ≡ items_tokens all ++ rest → ItemsLeft (map node_token l.nodes) l.at l.next all rest;
@@ -31,7 +31,7 @@ invariant-passed_items-loop-next l = record {
 
 abbrev pub invariant-passed_members-loop-next : goal.invariant-passed_members-loop-next
 invariant-passed_members-loop-next l = record {
-  begun : l.at ≤ l.next;
+  ordered : l.at ≤ l.next;
   within : l.next ≤ length l.nodes;
   left : (all : Members) (rest : List Token) → drop l.at (map node_token l.nodes)
       ≡ members_tokens all ++ rest

@@ -11,4 +11,5 @@ decreases-loop-key l = length l.members
 abbrev pub invariant-loop-key : goal.invariant-loop-key
 invariant-loop-key l =
     let names = map (λ name. name.now) l.names in
-    (all : json.Members) → InMembers l.fn.members all → (rest : json.Members) × InMembers l.members rest × (taken names all None ≡ taken names rest (option_map (λ name. name.now) l.least))
+    (all : json.Members) → InMembers l.fn.members all → (rest : json.Members) × InMembers l.members rest ×
+    (taken names all None ≡ taken names rest (option_map (λ name. name.now) l.least))

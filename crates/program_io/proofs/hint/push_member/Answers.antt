@@ -5,11 +5,12 @@ use Rattle.program_io.proofs.hint.push_member.Goals as goal
 
 pub returns-in_ok-push_str-in-Text : goal.returns-in_ok-push_str-in-Text
 returns-in_ok-push_str-in-Text c =
-    let begun = c.in_ok-push_str-in-Text.ensures.bytes in
+    let initial = c.in_ok-push_str-in-Text.ensures.bytes in
     let is = c.in-Text.is in
     let name = c.as_str.ensures in
     let there = string_bytes c.args.text.now in
     rw c.in-Text.is
     (on_ok_weaker c.push_quoted.result
-    (λ pushed. pushed ∙ ap (λ (t : List ℕ). t ++ quoted c.as_str.result.now) begun ∙ append_assoc there (codes "there is no member ") (quoted c.as_str.result.now)
+    (λ pushed. pushed ∙ ap (λ (t : List ℕ). t ++ quoted c.as_str.result.now) initial ∙ append_assoc there (codes "there is no member ")
+    (quoted c.as_str.result.now)
     ∙ ap (λ (word : List ℕ). there ++ (codes "there is no member " ++ quoted word)) name) c.push_quoted.ensures)

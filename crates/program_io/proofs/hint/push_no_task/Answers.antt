@@ -8,4 +8,5 @@ returns c =
     let name = no_name_text c.args.name.now in
     let near = nearest_name_text c.args.nearest.now in
     on_ok_weaker c.push_nearest_name.result
-    (λ pushed. pushed ∙ ap (λ (t : List ℕ). t ++ near) c.in_ok-push_no_name.ensures ∙ append_assoc (string_bytes c.args.text.now) name near) c.push_nearest_name.ensures
+    (λ pushed. pushed ∙ ap (λ (t : List ℕ). t ++ near) c.in_ok-push_no_name.ensures ∙ append_assoc (string_bytes c.args.text.now) name near)
+    c.push_nearest_name.ensures

@@ -8,4 +8,5 @@ pushed (Ok done) new old more is = is
 pushed (Err fault) new old more is = tt
 
 pub returns-in-HasSteps : goal.returns-in-HasSteps
-returns-in-HasSteps c = rw c.in-HasSteps.is (pushed c.push_str-in-HasSteps.result (string_bytes c.push_str-in-HasSteps.new.self) (string_bytes c.args.text.now) (codes "the session of a rig has no steps") c.push_str-in-HasSteps.ensures.bytes)
+returns-in-HasSteps c = rw c.in-HasSteps.is (pushed c.push_str-in-HasSteps.result (string_bytes c.push_str-in-HasSteps.new.self) (string_bytes c.args.text.now)
+    (codes "the session of a rig has no steps") c.push_str-in-HasSteps.ensures.bytes)

@@ -8,4 +8,5 @@ returns c =
     let stray = c.args.stray.now in
     let words = words_text stray (codes "; these may stand here: ") in
     on_ok_weaker c.push_words.result
-    (λ pushed. pushed ∙ ap (λ (t : List ℕ). t ++ words) c.in_ok-push_member.ensures ∙ append_assoc (string_bytes c.args.text.now) (member_text stray.text) words) c.push_words.ensures
+    (λ pushed. pushed ∙ ap (λ (t : List ℕ). t ++ words) c.in_ok-push_member.ensures ∙ append_assoc (string_bytes c.args.text.now) (member_text stray.text)
+    words) c.push_words.ensures

@@ -1,9 +1,9 @@
 use Rattle.std.proofs.Common.{List, ℕ, Ok, sym, ap, subst, ◌∙◌}
 use Rattle.std.specs.Fn.{FnOnceReturns, FnOnceReturnsAt}
 use Rattle.program_io.specs.Device.{failures_after}
-use Rattle.program_io.specs.Outputs.{Told}
-use Rattle.program_io.proofs.Ended.{told_ended}
-use Rattle.program_io.proofs.Told.{where_ok}
+use Rattle.program_io.specs.Outputs.{Printed}
+use Rattle.program_io.proofs.Ended.{printed_ended}
+use Rattle.program_io.proofs.Printed.{where_ok}
 use Rattle.program_io.proofs.telling.tell_of_input.Goals as goal
 
 pub returns-in-Ok : goal.returns-in-Ok
@@ -12,10 +12,11 @@ returns-in-Ok g c =
     let read_new = g.R.CountedRead.seen c.read_input.new.reader in
     let write_old = g.W.CountedWrite.seen c.args.writer.now in
     let write_new = g.W.CountedWrite.seen c.write_output.new.writer in
-    let told = where_ok c.tell.result
-    (λ told is. (c.deref.result, subst (λ r. FnOnceReturns g.F.FnOnce c.args.tell (c.deref.result, tt) r) is c.tell.ensures, c.deref.ensures.value)) in
+    let printed = where_ok c.tell.result
+    (λ printed is. (c.deref.result, subst (λ r. FnOnceReturns g.F.FnOnce c.args.tell (c.deref.result, tt) r) is c.tell.ensures, c.deref.ensures.value)) in
     record {
-      bytes = told_ended (λ input told. FnOnceReturnsAt g.F.FnOnce c.args.tell input (Ok told)) read_old.bytes read_new.bytes write_old.bytes write_new.bytes c.in-Ok.input.items c.tell.result c.write_output.result c.in-Ok.ensures.input told c.write_output.ensures.bytes;
+      bytes = printed_ended (λ input printed. FnOnceReturnsAt g.F.FnOnce c.args.tell input (Ok printed)) read_old.bytes read_new.bytes write_old.bytes
+          write_new.bytes c.in-Ok.input.items c.tell.result c.write_output.result c.in-Ok.ensures.input printed c.write_output.ensures.bytes;
       reads = c.in-Ok.ensures.failures ∙ sym (ap (λ well. failures_after well read_old.failures) c.write_output.ensures.reads);
       writes = c.write_output.ensures.writes;
     }

@@ -6,4 +6,6 @@ use Rattle.ready_core.proofs.first.first_seats.Goals as goal
 
 pub loop-task-preserved : goal.loop-task-preserved
 loop-task-preserved c =
-    c.in_ok-push.ensures.items ∙ ap (λ seats. seats ++ c.first_seat.result ∷ []) c.loop-task.invariant ∙ ap (λ (seat : ℕ). map (first_seat c.args.cores) (numbers c.loop-task.task) ++ seat ∷ []) c.first_seat.ensures ∙ sym (seats_more c.args.cores c.loop-task.task)
+    c.in_ok-push.ensures.items ∙ ap (λ seats. seats ++ c.first_seat.result ∷ []) c.loop-task.invariant ∙ ap
+    (λ (seat : ℕ). map (first_seat c.args.cores) (numbers c.loop-task.task) ++ seat ∷ []) c.first_seat.ensures ∙ sym
+    (seats_more c.args.cores c.loop-task.task)

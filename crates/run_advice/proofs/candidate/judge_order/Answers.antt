@@ -11,5 +11,6 @@ verdict_of-requires-clause-session c =
     let session : Session = record { header = c.args.header.now; steps = c.args.steps.now } in
     let made : Session = record { header = c.args.header.now; steps = c.as_slice.result.now } in
     let same : changed session c.args.change ≡ made =
-    ap₂ (λ (header : Header) (steps : List Step). record { header = header; steps = steps }) c.requires.same (sym (c.as_slice.ensures.value ∙ c.in_ok-made.ensures)) in
+    ap₂ (λ (header : Header) (steps : List Step). record { header = header; steps = steps }) c.requires.same
+    (sym (c.as_slice.ensures.value ∙ c.in_ok-made.ensures)) in
     subst IsSession same (changed_session session c.args.change c.requires.session c.requires.allowed)

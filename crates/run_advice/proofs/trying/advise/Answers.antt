@@ -29,10 +29,13 @@ returns-clause-ranked g c =
     let verdicts : List (Result Verdict AllocError) = c.in_ok-verdicts.verdicts.items in
     let judged = subst (λ (changes : List Change). AreVerdicts c.args.judge session changes verdicts) c.as_slice.ensures.value c.in_ok-verdicts.ensures in
     let read = subst (λ (changes : List Change). AreRead c.args.header.now changes verdicts c.in_ok-entries.entries.items) c.as_slice-2.ensures.value
-    (subst (λ (verdicts : List (Result Verdict AllocError)). AreRead c.args.header.now c.as_slice-2.result.now verdicts c.in_ok-entries.entries.items) c.as_slice-3.ensures.value c.in_ok-entries.ensures.read) in
+    (subst (λ (verdicts : List (Result Verdict AllocError)). AreRead c.args.header.now c.as_slice-2.result.now verdicts c.in_ok-entries.entries.items)
+    c.as_slice-3.ensures.value c.in_ok-entries.ensures.read) in
     let count : length c.in_ok-entries.entries.items ≡ length changes = c.in_ok-entries.ensures.count ∙ ap length c.as_slice-2.ensures.value in
-    ranking c.args.judge session changes verdicts c.in_ok-entries.entries.items c.in_ok-ranked.ranked.items judged read count c.in_ok-ranked.ensures.moved c.in_ok-ranked.ensures.ordered
+    ranking c.args.judge session changes verdicts c.in_ok-entries.entries.items c.in_ok-ranked.ranked.items judged read count c.in_ok-ranked.ensures.moved
+    c.in_ok-ranked.ensures.ordered
 
 pub returns-clause-places : goal.returns-clause-places
 returns-clause-places g c =
-    places_there c.args.judge (record { header = c.args.header.now; steps = c.args.steps.now }) c.in_ok-changes.changes.items c.in_ok-ranked.ranked.items (returns-clause-ranked g c)
+    places_there c.args.judge (record { header = c.args.header.now; steps = c.args.steps.now }) c.in_ok-changes.changes.items c.in_ok-ranked.ranked.items
+    (returns-clause-ranked g c)

@@ -16,4 +16,5 @@ returns g c =
     let slice = ap (λ it. it.slice.now) c.map.ensures.base ∙ c.par_iter.ensures in
     IfOk-then c.collect.result _ _ c.collect.ensures (λ v h.
     let chain = rw (c.with_min_len.ensures.base, c.map.ensures.f) at h.1 in
-    rw h.2 (slice-AllZip chain.0 c.args.changes.now (chain.1 ∙ slice) (λ (made : Change) (verdict : Result Verdict AllocError). IfOk verdict (IsVerdict c.args.judge (changed session made))) h.0 chain.2))
+    rw h.2 (slice-AllZip chain.0 c.args.changes.now (chain.1 ∙ slice) (λ (made : Change) (verdict : Result Verdict AllocError). IfOk verdict
+    (IsVerdict c.args.judge (changed session made))) h.0 chain.2))

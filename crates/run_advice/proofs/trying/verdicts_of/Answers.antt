@@ -18,7 +18,8 @@ loop-done-preserved g c =
     let more : done ≤ end = omega arith in
     record {
       within = omega arith;
-      judged = subst (λ (verdicts : List (Result Verdict AllocError)). AreVerdicts c.args.judge session (take end c.args.changes.now) verdicts) (sym c.in_ok-append.ensures.items)
+      judged = subst (λ (verdicts : List (Result Verdict AllocError)). AreVerdicts c.args.judge session (take end c.args.changes.now) verdicts)
+          (sym c.in_ok-append.ensures.items)
           (part_more (λ (made : Change) (verdict : Result Verdict AllocError). IfOk verdict (IsVerdict c.args.judge (changed session made)))
           c.args.changes.now c.loop-done.verdicts.items c.in_ok-more.more.items done end more c.loop-done.invariant.judged c.in_ok-more.ensures);
     }

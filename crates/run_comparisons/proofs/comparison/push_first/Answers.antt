@@ -7,4 +7,5 @@ pub returns : goal.returns
 unfolding first_text
 returns c =
     on_ok_then c.push_places.result c.push_places.ensures
-    (λ told. told ∙ ap (λ all. all ++ places_text c.args.row) c.in_ok-push_str.ensures.bytes ∙ append_assoc (string_bytes c.args.text.now) (codes "the runs differ first at") (places_text c.args.row))
+    (λ printed. printed ∙ ap (λ all. all ++ places_text c.args.row) c.in_ok-push_str.ensures.bytes ∙ append_assoc (string_bytes c.args.text.now)
+    (codes "the runs differ first at") (places_text c.args.row))

@@ -8,4 +8,5 @@ unfolding not_made_text
 returns c =
     let more = flat_map further_text c.args.places.now in
     on_ok_then c.push_further.result c.push_further.ensures
-    (λ told. told ∙ ap (λ all. all ++ more) c.in_ok-write.ensures.bytes ∙ append_assoc (string_bytes c.args.text.now) (codes "no step differs; refused and not made: edit " ++ decimal c.args.place) more)
+    (λ printed. printed ∙ ap (λ all. all ++ more) c.in_ok-write.ensures.bytes ∙ append_assoc (string_bytes c.args.text.now)
+    (codes "no step differs; refused and not made: edit " ++ decimal c.args.place) more)

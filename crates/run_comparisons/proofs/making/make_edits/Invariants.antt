@@ -6,5 +6,5 @@ use Rattle.run_comparisons.proofs.making.make_edits.Given as goal
 abbrev pub invariant-loop-index : goal.invariant-loop-index
 invariant-loop-index l = record {
   way : IsOnTheWay l.fn.store.session l.fn.origins.items l.edits l.store.session l.origins.items l.index;
-  told : l.refused.items ++ places_of (refused_from l.index l.store.session (drop l.index l.edits)) ≡ refused_places l.fn.store.session l.edits;
+  printed : l.refused.items ++ places_of (refused_from l.index l.store.session (drop l.index l.edits)) ≡ refused_places l.fn.store.session l.edits;
 }

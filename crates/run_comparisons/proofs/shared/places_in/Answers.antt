@@ -32,7 +32,8 @@ loop-step-preserved c =
             let one : count (comes_from_outside (get_or session index Tick)) ≡ 1 = ap count (sym c.comes_from_outside.ensures ∙ w.if-comes_from_outside.true) in
             omega (arith, w.come-is, more, one, c.loop-step.invariant.come)
         | else-comes_from_outside w ↦
-            let none : count (comes_from_outside (get_or session index Tick)) ≡ 0 = ap count (sym c.comes_from_outside.ensures ∙ w.if-comes_from_outside.false) in
+            let none : count (comes_from_outside (get_or session index Tick)) ≡ 0 = ap count (sym c.comes_from_outside.ensures ∙ w.if-comes_from_outside.false)
+            in
             omega (arith, w.come-is, more, none, c.loop-step.invariant.come)
       ];
     }

@@ -13,4 +13,5 @@ returns c =
     let place = c.args.place in
     let rest = ap (λ (it : Iter Step). it.rest.now) c.take.ensures.source ∙ c.iter.ensures.rest in
     let ahead = rest ∙ take_rest steps (place + 1) ∙ ap (λ n. drop n steps) (add-one place) in
-    position_from_yields_List (are_alike c.args.step.now) _ _ c.position.result c.position.ensures.ran (YieldsList-from_take look_ahead (YieldsList-from_slice (drop (suc place) steps) ahead) c.take.ensures.count) (λ x b q k. search (rules, tests))
+    position_from_yields_List (are_alike c.args.step.now) _ _ c.position.result c.position.ensures.ran
+    (YieldsList-from_take look_ahead (YieldsList-from_slice (drop (suc place) steps) ahead) c.take.ensures.count) (λ x b q k. search (rules, tests))

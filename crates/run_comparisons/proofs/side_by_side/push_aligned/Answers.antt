@@ -20,14 +20,16 @@ pub loop-row-smaller : goal.loop-row-smaller
 loop-row-smaller c =
     let next = sym c.next_row.ensures ∙ c.in-Some.is in
     let fewer = fewer_left c.args.before.now c.args.after.now c.loop-row.at c.in-Some.row next in
-    subst (λ (at : PlacePair). length c.args.before.now - at.before + (length c.args.after.now - at.after) < length c.args.before.now - c.loop-row.at.before + (length c.args.after.now - c.loop-row.at.after)) (sym c.past-at.ensures) fewer
+    subst (λ (at : PlacePair). length c.args.before.now - at.before + (length c.args.after.now - at.after) < length c.args.before.now - c.loop-row.at.before +
+    (length c.args.after.now - c.loop-row.at.after)) (sym c.past-at.ensures) fewer
 
 pub loop-row-preserved : goal.loop-row-preserved
 loop-row-preserved c =
     let next = sym c.next_row.ensures ∙ c.in-Some.is in
     let made = c.loop-row.invariant.0 in (
       made ++ c.in-Some.row ∷ [],
-      c.in_ok-push.ensures.items ∙ ap (λ (rows : List Row). rows ++ c.in-Some.row ∷ []) c.loop-row.invariant.1 ∙ append_assoc c.args.rows.now.items made (c.in-Some.row ∷ []),
+      c.in_ok-push.ensures.items ∙ ap (λ (rows : List Row). rows ++ c.in-Some.row ∷ []) c.loop-row.invariant.1 ∙ append_assoc c.args.rows.now.items made
+          (c.in-Some.row ∷ []),
       row_on c.args.before.now c.args.after.now c.args.from c.loop-row.at c.past-at.result made c.in-Some.row c.loop-row.invariant.2 next c.past-at.ensures,
     )
 

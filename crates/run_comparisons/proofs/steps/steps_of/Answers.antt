@@ -14,5 +14,6 @@ loop-place-preserved c =
     subst (λ count. c.push.new.self.items ≡ take count steps) more
     (c.in_ok-push.ensures.items
     ∙ ap (λ (items : List Step). items ++ c.in-Some.step ∷ []) c.loop-place.invariant
-    ∙ ap (λ (step : Step). take c.loop-place.place steps ++ step ∷ []) (sym (get_or_from_slice_get steps c.loop-place.place c.in-Some.step c.in-Some.step found))
+    ∙ ap (λ (step : Step). take c.loop-place.place steps ++ step ∷ []) (sym
+    (get_or_from_slice_get steps c.loop-place.place c.in-Some.step c.in-Some.step found))
     ∙ sym (take-suc steps c.loop-place.place c.in-Some.step within))

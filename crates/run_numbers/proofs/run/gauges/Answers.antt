@@ -45,11 +45,14 @@ loop-place-preserved c =
     let are = subst (AreGauges header steps place c.args.subjects.now) (sym c.deref_mut.ensures.value) before.2 in
     let known = subst (λ (s : Settings). All (IsSubjectOf s) c.args.subjects.now) (sym before.1) c.requires.known in
     let grown =
-    more_gauges header steps place _ c.loop-place.kernel c.step_all.new.kernel c.args.subjects.now old made (slice_get-get_or steps place _ (omega (arith, low))) before.0 stood (sym next)
+    more_gauges header steps place _ c.loop-place.kernel c.step_all.new.kernel c.args.subjects.now old made
+    (slice_get-get_or steps place _ (omega (arith, low))) before.0 stood (sym next)
     known are (c.step_all.ensures.counted (state_at header steps place) before.0) in
     let size : length made ≡ n = omega (arith, grown.size, are.size, c.deref_mut.ensures.len) in
-    let all : take n (made ++ drop (length made) c.loop-place.gauges.items) ≡ made = take-append-le n made _ (omega (arith, size)) ∙ take_all n made (omega (arith, size)) in (
+    let all : take n (made ++ drop (length made) c.loop-place.gauges.items) ≡ made = take-append-le n made _ (omega (arith, size)) ∙ take_all n made
+    (omega (arith, size)) in (
       subst (λ next. StandsFor c.step_all.new.kernel (state_at header steps next)) (sym (add-one place)) stood,
       c.step_all.ensures.shape ∙ before.1,
-      subst (AreGauges header steps (place + 1) c.args.subjects.now) (sym all) (subst (λ next. AreGauges header steps next c.args.subjects.now made) (sym (add-one place)) grown),
+      subst (AreGauges header steps (place + 1) c.args.subjects.now) (sym all)
+          (subst (λ next. AreGauges header steps next c.args.subjects.now made) (sym (add-one place)) grown),
     )

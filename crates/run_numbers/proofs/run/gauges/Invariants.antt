@@ -7,4 +7,5 @@ use Rattle.run_numbers.proofs.run.gauges.Given as goal
 
 abbrev pub invariant-loop-place : goal.invariant-loop-place
 invariant-loop-place l =
-    StandsFor l.kernel (state_at l.header l.steps l.place) × (l.kernel.settings ≡ settings_of l.header) × AreGauges l.header l.steps l.place l.subjects l.gauges.items
+    StandsFor l.kernel (state_at l.header l.steps l.place) × (l.kernel.settings ≡ settings_of l.header) × AreGauges l.header l.steps l.place l.subjects
+    l.gauges.items

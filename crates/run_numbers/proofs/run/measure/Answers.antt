@@ -10,4 +10,5 @@ returns c =
     let steps = c.args.steps.now in
     let subjects = c.args.subjects.now in
     let are = subst (AreGauges header steps (length steps) subjects) (sym c.as_slice.ensures.value) c.in_ok-gauges.ensures in
-    IfOk-weaker c.all_measured.result _ _ (λ found told. told ∙ all_measured header steps c.args.left.now subjects c.as_slice.result.now are) c.all_measured.ensures
+    IfOk-weaker c.all_measured.result _ _ (λ found known. known ∙ all_measured header steps c.args.left.now subjects c.as_slice.result.now are)
+    c.all_measured.ensures

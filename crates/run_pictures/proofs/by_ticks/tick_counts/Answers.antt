@@ -11,8 +11,10 @@ count_step-requires c =
 
 pub loop-step-preserved : goal.loop-step-preserved
 loop-step-preserved c =
-    step_counted c.args.steps.now c.loop-step.step-index _ c.loop-step.counts.items c.count_step.new.counts.items c.loop-step.so_far c.in_ok-so_far.so_far c.loop-step-test.true c.loop-step.invariant c.in_ok-so_far.ensures.counts c.in_ok-so_far.ensures.next
+    step_counted c.args.steps.now c.loop-step.step-index _ c.loop-step.counts.items c.count_step.new.counts.items c.loop-step.so_far c.in_ok-so_far.so_far
+    c.loop-step-test.true c.loop-step.invariant c.in_ok-so_far.ensures.counts c.in_ok-so_far.ensures.next
 
 pub returns : goal.returns
 returns c =
-    all_counted c.args.steps.now c.loop-step.counts.items c.push.new.self.items c.loop-step.so_far c.loop-step.step-index (omega (arith, c.loop-step-test.false, c.loop-step.auto.step-index-end)) c.loop-step.invariant c.in_ok-push.ensures.items
+    all_counted c.args.steps.now c.loop-step.counts.items c.push.new.self.items c.loop-step.so_far c.loop-step.step-index
+    (omega (arith, c.loop-step-test.false, c.loop-step.auto.step-index-end)) c.loop-step.invariant c.in_ok-push.ensures.items

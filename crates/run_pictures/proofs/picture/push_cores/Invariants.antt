@@ -5,4 +5,5 @@ use Rattle.run_pictures.specs.CoreBands.{core_row}
 use Rattle.run_pictures.proofs.picture.push_cores.Given as goal
 
 abbrev pub invariant-loop-core : goal.invariant-loop-core
-invariant-loop-core l = string_bytes l.text ≡ string_bytes l.initial.text ++ flat_map (λ core. core_row l.header l.frame (l.y + CORE_ROW * core) l.looks core) (numbers l.core)
+invariant-loop-core l = string_bytes l.text ≡ string_bytes l.initial.text ++ flat_map (λ core. core_row l.header l.frame (l.y + CORE_ROW * core) l.looks core)
+    (numbers l.core)

@@ -8,4 +8,5 @@ use Rattle.run_pictures.proofs.signs.push_entries.Goals as goal
 pub loop-k-preserved : goal.loop-k-preserved
 loop-k-preserved c =
     let k = c.loop-k.k in
-    row_more (λ k. entry_text c.args.y k (slice_index_or c.args.signs.now k Running)) k (string_bytes c.args.text.now) (string_bytes c.loop-k.text) (string_bytes c.push_entry.new.text) c.loop-k.invariant c.in_ok-push_entry.ensures
+    row_more (λ k. entry_text c.args.y k (slice_index_or c.args.signs.now k Running)) k (string_bytes c.args.text.now) (string_bytes c.loop-k.text)
+    (string_bytes c.push_entry.new.text) c.loop-k.invariant c.in_ok-push_entry.ensures

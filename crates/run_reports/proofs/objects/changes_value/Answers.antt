@@ -5,4 +5,5 @@ use Rattle.run_reports.proofs.objects.changes_value.Goals as goal
 
 pub loop-index-preserved : goal.loop-index-preserved
 loop-index-preserved c =
-    next_folded (with_change c.args.header.now c.args.before.now c.args.after.now) no_members _ _ c.loop-index.index c.loop-index.invariant c.in_ok-put_change.ensures
+    next_folded (with_change c.args.header.now c.args.before.now c.args.after.now) no_members _ _ c.loop-index.index c.loop-index.invariant
+    c.in_ok-put_change.ensures

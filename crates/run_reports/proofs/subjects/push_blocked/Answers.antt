@@ -7,5 +7,6 @@ use Rattle.run_reports.proofs.subjects.push_blocked.Goals as goal
 
 pub loop-mutex-preserved : goal.loop-mutex-preserved
 loop-mutex-preserved c =
-    next_item (λ mutex. Ticks (Blocked c.args.task (Mutex mutex))) c.args.subjects.now.items c.loop-mutex.subjects.items _ c.loop-mutex.mutex c.loop-mutex.invariant
+    next_item (λ mutex. Ticks (Blocked c.args.task (Mutex mutex))) c.args.subjects.now.items c.loop-mutex.subjects.items _ c.loop-mutex.mutex
+    c.loop-mutex.invariant
     (c.in_ok-push.ensures.items ∙ ap (λ blocked. c.loop-mutex.subjects.items ++ Ticks blocked ∷ []) c.blocked.ensures)

@@ -5,4 +5,5 @@ use Rattle.run_reports.proofs.subjects.push_tasks.Goals as goal
 
 pub loop-user-preserved : goal.loop-user-preserved
 loop-user-preserved c =
-    next_items (λ user. task_subjects c.args.config (c.args.config.cores + user)) c.args.subjects.now.items c.loop-user.subjects.items _ c.loop-user.user c.loop-user.invariant c.in_ok-push_task.ensures
+    next_items (λ user. task_subjects c.args.config (c.args.config.cores + user)) c.args.subjects.now.items c.loop-user.subjects.items _ c.loop-user.user
+    c.loop-user.invariant c.in_ok-push_task.ensures

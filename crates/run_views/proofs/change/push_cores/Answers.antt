@@ -12,7 +12,9 @@ loop-core-preserved c =
     let news = c.args.news.now in
     elim c.if-core-news.branch [
       | then-core-news+in_ok-push_core w ↦
-          item_named Core core_changes i olds news _ _ c.loop-core.changes.items c.if-core-news.changes.items _ c.loop-core-test.true w.if-core-news.true (ap (λ changes. changes.items) w.changes-is ∙ w.in_ok-push_core.ensures) c.loop-core.invariant
+          item_named Core core_changes i olds news _ _ c.loop-core.changes.items c.if-core-news.changes.items _ c.loop-core-test.true w.if-core-news.true
+          (ap (λ changes. changes.items) w.changes-is ∙ w.in_ok-push_core.ensures) c.loop-core.invariant
       | else-core-news w ↦
-          item_missing Core core_changes i olds news c.loop-core.changes.items c.if-core-news.changes.items _ w.if-core-news.false (ap (λ changes. changes.items) w.changes-is) c.loop-core.invariant
+          item_missing Core core_changes i olds news c.loop-core.changes.items c.if-core-news.changes.items _ w.if-core-news.false
+          (ap (λ changes. changes.items) w.changes-is) c.loop-core.invariant
     ]

@@ -12,7 +12,9 @@ loop-mutex-preserved c =
     let news = c.args.news.now in
     elim c.if-mutex-news.branch [
       | then-mutex-news+in_ok-push_mutex w ↦
-          item_named Mutex mutex_changes i olds news _ _ c.loop-mutex.changes.items c.if-mutex-news.changes.items _ c.loop-mutex-test.true w.if-mutex-news.true (ap (λ changes. changes.items) w.changes-is ∙ w.in_ok-push_mutex.ensures) c.loop-mutex.invariant
+          item_named Mutex mutex_changes i olds news _ _ c.loop-mutex.changes.items c.if-mutex-news.changes.items _ c.loop-mutex-test.true w.if-mutex-news.true
+          (ap (λ changes. changes.items) w.changes-is ∙ w.in_ok-push_mutex.ensures) c.loop-mutex.invariant
       | else-mutex-news w ↦
-          item_missing Mutex mutex_changes i olds news c.loop-mutex.changes.items c.if-mutex-news.changes.items _ w.if-mutex-news.false (ap (λ changes. changes.items) w.changes-is) c.loop-mutex.invariant
+          item_missing Mutex mutex_changes i olds news c.loop-mutex.changes.items c.if-mutex-news.changes.items _ w.if-mutex-news.false
+          (ap (λ changes. changes.items) w.changes-is) c.loop-mutex.invariant
     ]

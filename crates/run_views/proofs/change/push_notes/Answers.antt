@@ -12,7 +12,9 @@ loop-task-preserved c =
     let news = c.args.news.now in
     elim c.if-task-news.branch [
       | then-task-news+in_ok-push_note w ↦
-          item_named (Further c.args.index) note_changes i olds news _ _ c.loop-task.changes.items c.if-task-news.changes.items _ c.loop-task-test.true w.if-task-news.true (ap (λ changes. changes.items) w.changes-is ∙ w.in_ok-push_note.ensures) c.loop-task.invariant
+          item_named (Further c.args.index) note_changes i olds news _ _ c.loop-task.changes.items c.if-task-news.changes.items _ c.loop-task-test.true
+          w.if-task-news.true (ap (λ changes. changes.items) w.changes-is ∙ w.in_ok-push_note.ensures) c.loop-task.invariant
       | else-task-news w ↦
-          item_missing (Further c.args.index) note_changes i olds news c.loop-task.changes.items c.if-task-news.changes.items _ w.if-task-news.false (ap (λ changes. changes.items) w.changes-is) c.loop-task.invariant
+          item_missing (Further c.args.index) note_changes i olds news c.loop-task.changes.items c.if-task-news.changes.items _ w.if-task-news.false
+          (ap (λ changes. changes.items) w.changes-is) c.loop-task.invariant
     ]

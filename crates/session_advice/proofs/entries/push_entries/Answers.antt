@@ -10,4 +10,5 @@ pub loop-place-preserved : goal.loop-place-preserved
 loop-place-preserved c =
     let none : Ranked = record { verdict = Number 0; size = Priority 0; index = 0 } in
     let within : c.loop-place.place < length c.args.best.now = omega arith in
-    entry_more (basis_of c.args.base.now) c.args.changes.now c.args.best.now c.loop-place.place none (string_bytes c.args.text.now) (string_bytes c.loop-place.text) (string_bytes c.push_entry.new.text) within c.loop-place.invariant c.in_ok-push_entry.ensures
+    entry_more (basis_of c.args.base.now) c.args.changes.now c.args.best.now c.loop-place.place none (string_bytes c.args.text.now)
+    (string_bytes c.loop-place.text) (string_bytes c.push_entry.new.text) within c.loop-place.invariant c.in_ok-push_entry.ensures

@@ -9,7 +9,8 @@ use Rattle.session_reports.proofs.figures.settled_figures.Goals as goal
 pub figures_of_steps-requires-clause-session : goal.figures_of_steps-requires-clause-session
 figures_of_steps-requires-clause-session c =
     let settled = c.in_ok-settled.settled in
-    let session = settled_run_is_session (record { header = c.args.header.now; steps = c.args.steps.now }) c.requires.session settled.run.items settled.left.items c.in_ok-settled.ensures.settled in
+    let session = settled_run_is_session (record { header = c.args.header.now; steps = c.args.steps.now }) c.requires.session settled.run.items
+    settled.left.items c.in_ok-settled.ensures.settled in
     subst (λ (steps : List Step). IsSession (record { header = c.args.header.now; steps = steps })) (sym c.as_slice-run.ensures.value) session
 
 pub figures_of_steps-requires-clause-left : goal.figures_of_steps-requires-clause-left

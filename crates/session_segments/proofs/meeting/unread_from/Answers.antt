@@ -26,10 +26,12 @@ loop-from-preserved g c =
     let next : c.loop-from.from ≡ suc k = omega (arith, c.loop-from-test.true) in
     let found = slice_get-get_or segments k c.index-segments-from.result (omega (arith, c.loop-from.invariant.within, c.loop-from-test.true)) in
     let segment = slice_index_or segments k c.index-segments-from.result in
-    let own : some_delays_until segment.steps ≡ false = ap (λ (s : SegmentView). some_delays_until s.steps) (sym c.index-segments-from.is) ∙ sym c.delays_until.ensures ∙ c.if-not-delays_until.true in
+    let own : some_delays_until segment.steps ≡ false = ap (λ (s : SegmentView). some_delays_until s.steps) (sym c.index-segments-from.is) ∙ sym
+    c.delays_until.ensures ∙ c.if-not-delays_until.true in
     record {
       within = omega (arith, c.loop-from.invariant.within);
-      unread = unread_more segments k segment found own (subst (λ n. some_delays_until (all_steps (drop n segments)) ≡ false) next c.loop-from.invariant.unread);
+      unread = unread_more segments k segment found own (subst (λ n. some_delays_until (all_steps (drop n segments)) ≡ false) next
+          c.loop-from.invariant.unread);
     }
 
 pub returns-else-not-delays_until : goal.returns-else-not-delays_until
@@ -39,7 +41,8 @@ returns-else-not-delays_until g c =
     let next : c.loop-from.from ≡ suc k = omega (arith, c.loop-from-test.true) in
     let found = slice_get-get_or segments k c.index-segments-from.result (omega (arith, c.loop-from.invariant.within, c.loop-from-test.true)) in
     let segment = slice_index_or segments k c.index-segments-from.result in
-    let own : some_delays_until segment.steps ≡ true = ap (λ (s : SegmentView). some_delays_until s.steps) (sym c.index-segments-from.is) ∙ sym c.delays_until.ensures ∙ c.if-not-delays_until.false in
+    let own : some_delays_until segment.steps ≡ true = ap (λ (s : SegmentView). some_delays_until s.steps) (sym c.index-segments-from.is) ∙ sym
+    c.delays_until.ensures ∙ c.if-not-delays_until.false in
     unread_from segments c.loop-from.from c.loop-from.invariant.unread
     (λ j is.
     let same : k ≡ j = omega (arith, is, next) in

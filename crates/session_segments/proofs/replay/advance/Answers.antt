@@ -10,7 +10,8 @@ loop-step-preserved c =
     let steps = c.args.steps.now in
     let place = c.loop-step.step-index in
     record {
-      state = λ table stands. subst (λ t. StandsFor c.step.new.self t) (sym (state_after_more table steps place (omega arith))) (c.step.ensures.state (state_after table (take place steps)) (c.loop-step.invariant.state table stands));
+      state = λ table stands. subst (λ t. StandsFor c.step.new.self t) (sym (state_after_more table steps place (omega arith)))
+          (c.step.ensures.state (state_after table (take place steps)) (c.loop-step.invariant.state table stands));
       settings = c.step.ensures.shape ∙ c.loop-step.invariant.settings;
       meter = c.step.ensures.meter ∙ ap (λ count. min (count + 1) (2 ^ 64 - 1)) c.loop-step.invariant.meter ∙ counted_more place c.args.meter.now;
     }

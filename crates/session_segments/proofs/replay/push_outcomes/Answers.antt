@@ -12,7 +12,8 @@ use Rattle.session_segments.proofs.replay.push_outcomes.Goals as goal
 pub make_next-requires-clause-room : goal.make_next-requires-clause-room
 make_next-requires-clause-room c =
     let stands = c.requires.stands in
-    tallied_room c.args.kernel.now.settings stands.0 c.args.steps.now c.loop-step.step-index c.loop-step.tallies (omega arith) c.requires.few_steps (c.loop-step.invariant.counted stands.0 stands.1)
+    tallied_room c.args.kernel.now.settings stands.0 c.args.steps.now c.loop-step.step-index c.loop-step.tallies (omega arith) c.requires.few_steps
+    (c.loop-step.invariant.counted stands.0 stands.1)
 
 pub running-requires : goal.running-requires
 running-requires c =
@@ -20,7 +21,8 @@ running-requires c =
     let settings = c.args.kernel.now.settings in
     let stands = c.requires.stands in
     let sized = stands.1.sound.consistent.sized in
-    let low = own_core settings (get_or c.args.steps.now place Tick) (omega (arith, sized.some_core, ap (λ (v : _). v.settings.cores) stands.1.shows)) (c.requires.steps place Tick (omega arith)) in
+    let low = own_core settings (get_or c.args.steps.now place Tick) (omega (arith, sized.some_core, ap (λ (v : _). v.settings.cores) stands.1.shows))
+    (c.requires.steps place Tick (omega arith)) in
     omega (arith, c.core.ensures, low, ap (λ (s : Settings). s.cores) (c.make_next.ensures.shape ∙ c.loop-step.invariant.settings))
 
 pub loop-step-preserved : goal.loop-step-preserved
@@ -32,12 +34,16 @@ loop-step-preserved c =
       so_far = λ table stands.
           let before = state_after table (take place steps) in
           let here = (so_far.so_far table stands).stands in
-          replayed_goes table steps place c.loop-step.kernel c.make_next.new.kernel c.loop-step.replies.items c.push_reserved.new.self.items c.loop-step.currents.items c.push_reserved-in-loop-step.new.self.items c.make_next.result c.running.result (omega arith)
-          (c.make_next.ensures.reply before here) (c.make_next.ensures.state before here) c.push_reserved.ensures.items (c.running.ensures.seen ∙ ap (current c.make_next.new.kernel.control) c.core.ensures) c.push_reserved-in-loop-step.ensures.items (so_far.so_far table stands);
+          replayed_goes table steps place c.loop-step.kernel c.make_next.new.kernel c.loop-step.replies.items c.push_reserved.new.self.items
+          c.loop-step.currents.items c.push_reserved-in-loop-step.new.self.items c.make_next.result c.running.result (omega arith)
+          (c.make_next.ensures.reply before here) (c.make_next.ensures.state before here) c.push_reserved.ensures.items
+          (c.running.ensures.seen ∙ ap (current c.make_next.new.kernel.control) c.core.ensures) c.push_reserved-in-loop-step.ensures.items
+          (so_far.so_far table stands);
       counted = λ table stands.
           let before = state_after table (take place steps) in
           let here = (so_far.so_far table stands).stands in
-          tallied_goes c.args.kernel.now.settings table steps place c.loop-step.kernel c.make_next.new.kernel c.make_next.result c.loop-step.tallies c.make_next.new.self (omega arith) (sym so_far.settings)
+          tallied_goes c.args.kernel.now.settings table steps place c.loop-step.kernel c.make_next.new.kernel c.make_next.result c.loop-step.tallies
+          c.make_next.new.self (omega arith) (sym so_far.settings)
           here (c.make_next.ensures.reply before here) (c.make_next.ensures.state before here) c.make_next.ensures.counted (so_far.counted table stands);
       tops = c.make_next.ensures.tops;
       settings = c.make_next.ensures.shape ∙ so_far.settings;

@@ -21,12 +21,15 @@ loop-step-preserved c =
     let place = c.loop-step.step-index in
     let so_far = c.loop-step.invariant in
     record {
-      state = λ table stands. subst (λ t. StandsFor c.make_next.new.kernel t) (sym (state_after_more table steps place (omega arith))) (c.make_next.ensures.state (state_after table (take place steps)) (so_far.state table stands));
+      state = λ table stands. subst (λ t. StandsFor c.make_next.new.kernel t) (sym (state_after_more table steps place (omega arith)))
+          (c.make_next.ensures.state (state_after table (take place steps)) (so_far.state table stands));
       counted = λ table stands.
           let before = state_after table (take place steps) in
           let here = so_far.state table stands in
-          counted_goes c.args.kernel.now.settings table steps place c.loop-step.kernel c.make_next.new.kernel c.make_next.result c.args.tallies.now c.loop-step.tallies c.make_next.new.self (omega arith) (sym so_far.settings)
-          here (c.make_next.ensures.reply before here) (c.make_next.ensures.state before here) c.make_next.ensures.counted so_far.sizes (so_far.counted table stands);
+          counted_goes c.args.kernel.now.settings table steps place c.loop-step.kernel c.make_next.new.kernel c.make_next.result c.args.tallies.now
+          c.loop-step.tallies c.make_next.new.self (omega arith) (sym so_far.settings)
+          here (c.make_next.ensures.reply before here) (c.make_next.ensures.state before here) c.make_next.ensures.counted so_far.sizes
+          (so_far.counted table stands);
       settings = c.make_next.ensures.shape ∙ so_far.settings;
       sizes = c.make_next.ensures.kept ∙ so_far.sizes;
       grown = λ bound below.

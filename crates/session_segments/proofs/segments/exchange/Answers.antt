@@ -9,4 +9,5 @@ returns-clause-exchanged g c =
     let spliced = c.in_ok-splice.ensures.items in
     let drains = spliced.3 in
     parts_made c.args.from c.args.to c.args.segments.now.items c.args.made.items spliced.1 c.splice.new.self.items
-    (items_from_drains {v = λ y. y} spliced.1 (drains.1.0, drains.1.1, λ _. (drains.0, drains.1.2)) (YieldsList-from_vec c.args.made.items spliced.2.0 (spliced.2.1 ∙ c.args.made.ok.0))) spliced.4
+    (items_from_drains {v = λ y. y} spliced.1 (drains.1.0, drains.1.1, λ _. (drains.0, drains.1.2))
+    (YieldsList-from_vec c.args.made.items spliced.2.0 (spliced.2.1 ∙ c.args.made.ok.0))) spliced.4

@@ -32,7 +32,8 @@ overflow_add-next g c =
     let base = length (all_steps (take c.args.from segments)) in
     let rest = take (length segments - c.args.from) (drop c.args.from segments) in
     let few : base + length (all_steps rest) < 2 ^ 32 = omega (arith, front_end c.args.from segments, c.requires.few) in
-    let fits = place_fits base c.loop-segment.next (take c.args.from c.args.places.now.items) c.loop-segment.places.items rest c.loop-segment.segment-index c.segment-item.result c.steps.result.now c.loop-segment-test.true c.segment-item.is c.steps.ensures.steps few c.loop-segment.invariant.placed in
+    let fits = place_fits base c.loop-segment.next (take c.args.from c.args.places.now.items) c.loop-segment.places.items rest c.loop-segment.segment-index
+    c.segment-item.result c.steps.result.now c.loop-segment-test.true c.segment-item.is c.steps.ensures.steps few c.loop-segment.invariant.placed in
     omega (arith, fits)
 
 pub loop-segment-preserved : goal.loop-segment-preserved
@@ -41,11 +42,14 @@ loop-segment-preserved g c =
     let base = length (all_steps (take c.args.from segments)) in
     let rest = take (length segments - c.args.from) (drop c.args.from segments) in
     record {
-      placed = place_more base (take c.args.from c.args.places.now.items) c.loop-segment.places.items c.loop-segment.next rest c.loop-segment.segment-index c.segment-item.result c.steps.result.now c.push_reserved.new.self.items c.loop-segment-test.true c.segment-item.is c.steps.ensures.steps c.push_reserved.ensures.items c.loop-segment.invariant.placed;
+      placed = place_more base (take c.args.from c.args.places.now.items) c.loop-segment.places.items c.loop-segment.next rest c.loop-segment.segment-index
+          c.segment-item.result c.steps.result.now c.push_reserved.new.self.items c.loop-segment-test.true c.segment-item.is c.steps.ensures.steps
+          c.push_reserved.ensures.items c.loop-segment.invariant.placed;
       len = omega (arith, c.push_reserved.ensures.len, c.loop-segment.invariant.len);
       room = c.push_reserved.ensures.capacity ∙ c.loop-segment.invariant.room;
     }
 
 pub returns : goal.returns
 returns g c =
-    all_placed c.args.from c.loop-segment.segment-index (take c.args.from c.args.places.now.items) c.loop-segment.places.items c.loop-segment.next c.args.segments.now c.requires.placed (omega (arith, c.loop-segment-test.false)) c.loop-segment.invariant.placed
+    all_placed c.args.from c.loop-segment.segment-index (take c.args.from c.args.places.now.items) c.loop-segment.places.items c.loop-segment.next
+    c.args.segments.now c.requires.placed (omega (arith, c.loop-segment-test.false)) c.loop-segment.invariant.placed

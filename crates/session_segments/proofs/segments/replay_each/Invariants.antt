@@ -5,7 +5,7 @@ use Rattle.bench_model.specs.Table.{Table}
 use Rattle.segment_laws.specs.Segments.{all_steps}
 use Rattle.session_segments.specs.Counting.{meter_after}
 use Rattle.session_segments.specs.Meetings.{IsUnreadFrom}
-use Rattle.session_segments.proofs.Again.{IsReplaying}
+use Rattle.session_segments.proofs.Replaying.{IsReplaying}
 use Rattle.session_segments.proofs.segments.replay_each.Given as goal
 
 abbrev pub invariant-loop-index : goal.invariant-loop-index

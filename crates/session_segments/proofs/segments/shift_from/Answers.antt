@@ -17,7 +17,8 @@ shift-requires g c =
     let early : index < length old = c.loop-index-test.true in
     let segment = slice_index_or segments index c.index-segments-index.result in
     let found = slice_get-get_or segments index c.index-segments-index.result (omega (arith, early, c.loop-index.auto.segments)) in
-    let there = sym (ap (λ xs. slice_get xs index) c.loop-index.invariant ∙ shift_found c.args.by old c.args.from index c.loop-index.auto.index early) ∙ found in
+    let there = sym (ap (λ xs. slice_get xs index) c.loop-index.invariant ∙ shift_found c.args.by old c.args.from index c.loop-index.auto.index early) ∙ found
+    in
     ⊎_elim (λ none. absurd (c.if-by-eq0.false none)) (λ unread. unread_one (drop c.args.from old) (index - c.args.from) segment there unread) c.requires.unread
 
 pub loop-index-preserved : goal.loop-index-preserved
@@ -28,7 +29,8 @@ loop-index-preserved g c =
     let early : index < length old = c.loop-index-test.true in
     let segment = slice_index_or segments index c.index-segments-index.result in
     let found = slice_get-get_or segments index c.index-segments-index.result (omega (arith, early, c.loop-index.auto.segments)) in
-    let there = sym (ap (λ xs. slice_get xs index) c.loop-index.invariant ∙ shift_found c.args.by old c.args.from index c.loop-index.auto.index early) ∙ found in
+    let there = sym (ap (λ xs. slice_get xs index) c.loop-index.invariant ∙ shift_found c.args.by old c.args.from index c.loop-index.auto.index early) ∙ found
+    in
     ap (slice_set segments index) c.shift.ensures
     ∙ ap (λ xs. slice_set xs index (later_segment c.args.by segment)) c.loop-index.invariant
     ∙ shift_goes c.args.by old c.args.from index c.loop-index.auto.index early segment there

@@ -9,7 +9,8 @@ pub returns-clause-state : goal.returns-clause-state
 returns-clause-state g c =
     let steps = c.args.steps.now in
     on_ok_weaker c.push_segment-2.result
-    (λ moves table stands. subst (StandsFor c.push_segment-2.new.kernel) (state_of_slices table c.args.span steps) (moves (state_after table (take c.args.span steps)) (c.in_ok-push_segment.ensures.state table stands)))
+    (λ moves table stands. subst (StandsFor c.push_segment-2.new.kernel) (state_of_slices table c.args.span steps)
+    (moves (state_after table (take c.args.span steps)) (c.in_ok-push_segment.ensures.state table stands)))
     c.push_segment-2.ensures.state
 
 pub returns-clause-some : goal.returns-clause-some
@@ -18,5 +19,6 @@ returns-clause-some g c =
     let span = c.args.span in
     let all = length_of_slices span steps in
     on_err_weaker c.push_segment-2.result
-    (some_later (length (take span steps)) (length (take (length steps - span) (drop span steps))) (length steps) c.args.meter.now c.push_segment.new.meter c.push_segment-2.new.meter (omega (arith, all)) c.in_ok-push_segment.ensures.meter)
+    (some_later (length (take span steps)) (length (take (length steps - span) (drop span steps))) (length steps) c.args.meter.now c.push_segment.new.meter
+    c.push_segment-2.new.meter (omega (arith, all)) c.in_ok-push_segment.ensures.meter)
     c.push_segment-2.ensures.some

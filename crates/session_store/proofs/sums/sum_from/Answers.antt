@@ -21,11 +21,13 @@ returns-then-next-segments c =
     let has : HasSums segments sums = search rules in
     let next : k * block ≡ c.in_ok-next.next = sym c.in_ok-next.ensures.1 in
     let low : k * block < length segments = omega (arith, next, c.if-next-segments.true) in
-    let found = slice_get_read sums.after (length sums.after) k c.index.result.now refl (has.are_sums.after.all k low) (c.index.ensures ∙ ap (λ (sums : CheckpointSums). get_or sums.after k c.index.result.now) c.sums.view_is) in
+    let found = slice_get_read sums.after (length sums.after) k c.index.result.now refl (has.are_sums.after.all k low)
+    (c.index.ensures ∙ ap (λ (sums : CheckpointSums). get_or sums.after k c.index.result.now) c.sums.view_is) in
     record {
       header = has.header;
       replay = has.replay;
       order = omega (arith, next, c.div_ceil-block.ensures, div_ceil_times c.args.from 16);
       within = c.if-next-segments.true;
-      tallied = subst (λ (n : ℕ). AreTalliedFrom has.header (take n segments) (drop n segments) c.index.result.now) next (has.are_sums.after.each k c.index.result.now low found);
+      tallied = subst (λ (n : ℕ). AreTalliedFrom has.header (take n segments) (drop n segments) c.index.result.now) next
+          (has.are_sums.after.each k c.index.result.now low found);
     }

@@ -20,6 +20,8 @@ returns-clause-tallied c = λ header rest replay.
     let block = (length front - 1) / 16 in
     let low : block * 16 < length front = omega (arith, c.requires.some) in
     let first = first_of front c.requires.some in
-    let found = slice_get_read c.args.sums.now.before (length c.args.sums.now.before) block c.index.result.now refl (sums.are_sums.all block low) (c.index.ensures ∙ ap (λ (sums : CheckpointSums). get_or sums.before block c.index.result.now) c.sums.view_is) in
+    let found = slice_get_read c.args.sums.now.before (length c.args.sums.now.before) block c.index.result.now refl (sums.are_sums.all block low)
+    (c.index.ensures ∙ ap (λ (sums : CheckpointSums). get_or sums.before block c.index.result.now) c.sums.view_is) in
     subst (AreTallied header (take (block * 16) front)) (sym c.in_ok-sum.ensures)
-    (other_header sums.header header front sums.rest rest first.0 (block * 16) c.index.result.now first.1 sums.replay replay (sums.are_sums.each block c.index.result.now low found))
+    (other_header sums.header header front sums.rest rest first.0 (block * 16) c.index.result.now first.1 sums.replay replay
+    (sums.are_sums.each block c.index.result.now low found))

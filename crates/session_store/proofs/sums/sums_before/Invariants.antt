@@ -9,7 +9,8 @@ use Rattle.session_store.proofs.sums.sums_before.Given as goal
 abbrev pub invariant-loop-index : goal.invariant-loop-index
 invariant-loop-index l = record {
   total : (header : Header) → IsReplay header l.segments → AreTallied header (take l.index l.segments) l.total;
-  each : (header : Header) → IsReplay header l.segments → (k : ℕ) (sum : List TaskTally) → slice_get l.before.items k ≡ Some sum → AreTallied header (take (k * block) l.segments) sum;
+  each : (header : Header) → IsReplay header l.segments → (k : ℕ) (sum : List TaskTally) → slice_get l.before.items k ≡ Some sum → AreTallied header
+      (take (k * block) l.segments) sum;
   many : l.index ≤ length l.before.items * block;
   few : length l.before.items * block < l.index + block;
 }

@@ -16,9 +16,12 @@ tally_segments-count-requires-clause-room c =
     wider_room c.tally_steps.new.tallies within (c.tally_steps.ensures.grown 1 c.in_ok-tallies.ensures.room)
 
 pub returns-clause-meeting : goal.returns-clause-meeting
-returns-clause-meeting c = λ table stands. meeting_later table c.args.steps.now c.args.after.now c.tally_segments-count.result (c.tally_segments-count.ensures.meeting (state_after table c.args.steps.now) (c.tally_steps.ensures.state table stands))
+returns-clause-meeting c = λ table stands. meeting_later table c.args.steps.now c.args.after.now c.tally_segments-count.result
+    (c.tally_segments-count.ensures.meeting (state_after table c.args.steps.now) (c.tally_steps.ensures.state table stands))
 
 pub returns-clause-tallies : goal.returns-clause-tallies
 returns-clause-tallies c = λ table stands.
-    tallied_later c.args.kernel.now table c.args.steps.now (all_steps (take c.tally_segments-count.result c.args.after.now)) c.in_ok-tallies.tallies c.tally_steps.new.tallies c.tally_segments-count.new.tallies
-    stands c.in_ok-tallies.ensures.tallies (c.tally_steps.ensures.counted table stands) (c.tally_segments-count.ensures.counted (state_after table c.args.steps.now) (c.tally_steps.ensures.state table stands))
+    tallied_later c.args.kernel.now table c.args.steps.now (all_steps (take c.tally_segments-count.result c.args.after.now)) c.in_ok-tallies.tallies
+    c.tally_steps.new.tallies c.tally_segments-count.new.tallies
+    stands c.in_ok-tallies.ensures.tallies (c.tally_steps.ensures.counted table stands)
+    (c.tally_segments-count.ensures.counted (state_after table c.args.steps.now) (c.tally_steps.ensures.state table stands))

@@ -11,7 +11,7 @@ use Rattle.session_text.proofs.accepted.item_accepted.Goals as goal
 
 pub returns-in-Some-clause-reading : goal.returns-in-Some-clause-reading
 returns-in-Some-clause-reading g c =
-    let at = item_path (path_of c.args.source.now.place.now) c.args.index in
+    let at = item_path (path_of c.args.source.now.location.now) c.args.index in
     let value = item_of c.args.index (option_map view c.args.source.now.value) in
     let names = user_names (g.H.HasHeader.header_of c.args.header.now) in
     let fault_of : Header → Result ⊤ TextFault = λ header. Err (item_fault (user_names header) at value c.in-Some.flaw) in

@@ -9,11 +9,11 @@ use Rattle.session_text.proofs.accepted.items_accepted.Given as goal
 -- no item so far is at fault, so that only those from here on are left to look at
 abbrev pub invariant-loop-index : goal.invariant-loop-index
 invariant-loop-index g l =
-    let flaw_of = g.T.Judged.flaw_of l.header in
+    let flaw_of = g.T.HasCheck.flaw_of l.header in
     let names = user_names (g.H.HasHeader.header_of l.header) in
-    let at = path_of l.source.place.now in
+    let at = path_of l.source.location.now in
     let array = option_map view l.source.value in
     record {
       reading : items_accepted flaw_of names at array l.index (drop l.index l.items) ≡ items_accepted flaw_of names at array 0 l.items;
-      checked : All (g.T.Judged.IsChecked l.header) (take l.index l.items);
+      checked : All (g.T.HasCheck.IsChecked l.header) (take l.index l.items);
     }

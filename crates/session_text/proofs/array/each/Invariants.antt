@@ -13,5 +13,5 @@ decreases-loop-value g l = items_len (items_view l.items)
 abbrev pub invariant-loop-value : goal.invariant-loop-value
 invariant-loop-value g l =
     let reading = g.R.ReadItem.reading l.reader in
-    let at = path_of l.place in
+    let at = path_of l.location in
     with_front l.read.items (each_at reading at (length l.read.items) (items_view l.items)) ≡ each_at reading at 0 (items_view l.fn.items)

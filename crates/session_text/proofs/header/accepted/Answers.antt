@@ -1,6 +1,6 @@
 use Rattle.std.proofs.Common.{◌≡◌, Some, Vec, ap, sym, ◌∙◌}
 use Rattle.std.specs.declared.alloc.Global.{Global}
-use Rattle.bench_types.specs.Flaw.{place_of_no_name}
+use Rattle.bench_types.specs.Flaw.{location_of_no_name}
 use Rattle.bench_types.specs.declared.header.TaskArgs.{TaskArgs}
 use Rattle.bench_types.proofs.Passes.{names_decide, numbers_decide}
 use Rattle.bench_types.specs.declared.header.Header.{Header}
@@ -16,5 +16,7 @@ returns-in-Some-clause-value c =
 pub returns-in-Err-clause-value : goal.returns-in-Err-clause-value
 returns-in-Err-clause-value c =
     let header : Header = record { config = c.args.config; tasks = c.args.shapes.now } in
-    let place = of_refused (λ (tasks : Vec TaskArgs Global). tasks.items ≡ c.args.shapes.now) (λ place. place_of_no_name c.args.shapes.now ≡ Some place) c.in_ok-tasks-in-None.field-0 c.in-Err.place c.in-Err.is c.in_ok-tasks-in-None.ensures in
-    sym (ap (verdict header) (names_decide header c.in-Err.place (sym c.flaw.ensures ∙ c.in-None.is) place))
+    let location = of_refused (λ (tasks : Vec TaskArgs Global). tasks.items ≡ c.args.shapes.now)
+    (λ location. location_of_no_name c.args.shapes.now ≡ Some location) c.in_ok-tasks-in-None.field-0 c.in-Err.location c.in-Err.is
+    c.in_ok-tasks-in-None.ensures in
+    sym (ap (verdict header) (names_decide header c.in-Err.location (sym c.flaw.ensures ∙ c.in-None.is) location))

@@ -13,8 +13,10 @@ loop-word-preserved c =
     let word = get_or words c.loop-word.word-index (record { ref_ptr = (0, 0); now = [] }) in
     let more = map_more (λ (word : Bor (List ℕ)). word.now) words c.loop-word.word-index (record { ref_ptr = (0, 0); now = [] }) c.loop-word-test.true in
     elim c.if-is_nearer.branch [
-      | then-is_nearer w ↦ rw (more, w.best-is) (holds_next text seen c.loop-word.best (record { word = word; distance = c.in_ok-distance.distance }) c.loop-word.invariant c.in_ok-distance.ensures.value (sym w.if-is_nearer.ensures))
-      | else-is_nearer w ↦ rw (more, w.best-is) (holds_same text seen c.loop-word.best (record { word = word; distance = c.in_ok-distance.distance }) c.loop-word.invariant c.in_ok-distance.ensures.value (sym w.if-is_nearer.ensures))
+      | then-is_nearer w ↦ rw (more, w.best-is) (holds_next text seen c.loop-word.best (record { word = word; distance = c.in_ok-distance.distance })
+          c.loop-word.invariant c.in_ok-distance.ensures.value (sym w.if-is_nearer.ensures))
+      | else-is_nearer w ↦ rw (more, w.best-is) (holds_same text seen c.loop-word.best (record { word = word; distance = c.in_ok-distance.distance })
+          c.loop-word.invariant c.in_ok-distance.ensures.value (sym w.if-is_nearer.ensures))
     ]
 
 pub returns : goal.returns

@@ -1,8 +1,8 @@
 use Rattle.std.proofs.Common.{subst, arith}
 use Rattle.std.specs.Prelude.{All}
 use Rattle.bench_types.specs.Step.{settings_of, IsCheckedStep}
-use Rattle.session_text.specs.Node.{data_of, place_of}
-use Rattle.session_text.specs.Outcome.{Ends}
+use Rattle.session_text.specs.Node.{data_of, location_of}
+use Rattle.session_text.specs.ReadingRules.{Ends}
 use Rattle.session_text.specs.Session.{steps_accepted}
 use Rattle.session_text.proofs.Accepting.{steps_end}
 use Rattle.session_text.proofs.session.session_accepted.Goals as goal
@@ -15,7 +15,7 @@ returns-in_ok-steps_accepted-in-Ok-clause-checked c = record {
 
 pub returns-in_err-steps_accepted-in-Ok-clause-reading : goal.returns-in_err-steps_accepted-in-Ok-clause-reading
 returns-in_err-steps_accepted-in-Ok-clause-reading c =
-    let at = place_of c.args.node.now in
+    let at = location_of c.args.node.now in
     let d = data_of c.args.node.now in
     let end = c.in_err-steps_accepted-in-Ok.field-0.0 in
     let first = subst (λ steps. Ends end (steps_accepted c.in-Ok.header at d steps)) c.as_slice.ensures.value c.in_err-steps_accepted-in-Ok.ensures.reading in

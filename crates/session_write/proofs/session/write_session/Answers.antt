@@ -12,7 +12,8 @@ pub returns : goal.returns
 returns c =
     let header = c.args.header.now in
     let steps = c.args.steps.now in
-    let float : has_float (session_data header steps) ≡ false = no_float (session_data header steps) (session_plain header steps (writable header steps c.requires)) in
+    let float : has_float (session_data header steps) ≡ false = no_float (session_data header steps)
+    (session_plain header steps (writable header steps c.requires)) in
     let texts = rw c.in_ok-session_value.ensures at c.to_vec.ensures.text in
     record {
       text = IfOk-weaker c.to_vec.result _ _ (λ text is. is float) texts;

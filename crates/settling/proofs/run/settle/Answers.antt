@@ -7,13 +7,17 @@ use Rattle.settling.proofs.Progress.{settled_at}
 use Rattle.settling.proofs.run.settle.Goals as goal
 
 -- the fault that is handed on is the one that was told
-fault_told : {T : Type 0} (result : Result T SettleFault) (fault : SettleFault) → IsErrAnd result (λ told. told ≡ fault)
+fault_known : {T : Type 0} (result : Result T SettleFault) (fault : SettleFault) → IsErrAnd result (λ known. known ≡ fault)
     → {U : Type 0} {why : SettleFault} → result ≡ Err why → ◌≡◌ {A = Result U SettleFault} (Err fault) (Err why)
-fault_told (Ok value) fault told is = absurd told
-fault_told (Err other) fault told {U} is = ap Err (sym told ∙ cc is)
+fault_known (Ok value) fault known is = absurd known
+fault_known (Err other) fault known {U} is = ap Err (sym known ∙ cc is)
 
 pub loop-settling-init : goal.loop-settling-init
-loop-settling-init c = (c.in_ok-work.ensures.rests c.args.header.now c.in_ok-settling.ensures.begun, c.in_ok-work.ensures.counted c.args.meter.now (none_counted c.args.meter.now c.in_ok-settling.settling c.in_ok-settling.ensures.empty))
+loop-settling-init c = (
+  c.in_ok-work.ensures.rests c.args.header.now c.in_ok-settling.ensures.entered,
+  c.in_ok-work.ensures.counted c.args.meter.now
+      (none_counted c.args.meter.now c.in_ok-settling.settling c.in_ok-settling.ensures.empty),
+)
 
 pub work-requires-in-loop-settling : goal.work-requires-in-loop-settling
 work-requires-in-loop-settling c = (c.args.header.now, c.in_ok-come.ensures.come c.args.header.now c.loop-settling.invariant.0)
@@ -31,18 +35,19 @@ returns-clause-settled c =
 
 pub returns-in_err-come-clause-long : goal.returns-in_err-come-clause-long
 returns-in_err-come-clause-long c = λ long.
-    let told = fault_told c.from_residual-in_err-come.result c.in_err-come.field-0.0 c.from_residual-in_err-come.ensures.1 long in
-    c.in_err-come.ensures.long told c.args.header.now c.loop-settling.invariant.0
+    let known = fault_known c.from_residual-in_err-come.result c.in_err-come.field-0.0 c.from_residual-in_err-come.ensures.1 long in
+    c.in_err-come.ensures.long known c.args.header.now c.loop-settling.invariant.0
 
 pub returns-in_err-work-2-clause-long : goal.returns-in_err-work-2-clause-long
 returns-in_err-work-2-clause-long c = λ long.
-    let told = fault_told c.from_residual-in_err-work-2.result c.in_err-work-2.field-0.0 c.from_residual-in_err-work-2.ensures.1 long in
+    let known = fault_known c.from_residual-in_err-work-2.result c.in_err-work-2.field-0.0 c.from_residual-in_err-work-2.ensures.1 long in
     let come = c.in_ok-come.ensures.come c.args.header.now c.loop-settling.invariant.0 in
-    c.in_err-work-2.ensures.long told c.args.header.now come
+    c.in_err-work-2.ensures.long known c.args.header.now come
 
 pub returns-in_err-come-clause-some : goal.returns-in_err-come-clause-some
 returns-in_err-come-clause-some c = on_err c.from_residual-in_err-come.result
-    (few_counted c.args.header.now c.args.steps.now c.loop-settling.settling c.loop-settling.invariant.0.here c.args.meter.now c.come.new.meter (c.in_err-come.ensures.uncounted ∙ c.loop-settling.invariant.1))
+    (few_counted c.args.header.now c.args.steps.now c.loop-settling.settling c.loop-settling.invariant.0.here c.args.meter.now c.come.new.meter
+    (c.in_err-come.ensures.uncounted ∙ c.loop-settling.invariant.1))
 
 pub returns-in_err-work-2-clause-some : goal.returns-in_err-work-2-clause-some
 returns-in_err-work-2-clause-some c = on_err c.from_residual-in_err-work-2.result
@@ -50,7 +55,8 @@ returns-in_err-work-2-clause-some c = on_err c.from_residual-in_err-work-2.resul
 
 pub returns-in_err-left-clause-some : goal.returns-in_err-left-clause-some
 returns-in_err-left-clause-some c = on_err c.from_residual-in_err-left.result
-    (few_counted c.args.header.now c.args.steps.now c.loop-settling.settling c.loop-settling.invariant.0.here c.args.meter.now c.loop-settling.meter c.loop-settling.invariant.1)
+    (few_counted c.args.header.now c.args.steps.now c.loop-settling.settling c.loop-settling.invariant.0.here c.args.meter.now c.loop-settling.meter
+    c.loop-settling.invariant.1)
 
 pub returns-clause-counted : goal.returns-clause-counted
 returns-clause-counted c = c.loop-settling.invariant.1

@@ -5,7 +5,7 @@ use Rattle.bench_types.specs.declared.step.Step.TheVariants as steps
 use Rattle.bench_types.specs.declared.step.Call.TheVariants.{Finish}
 use Rattle.bench_model.specs.Control.{current}
 use Rattle.settled_runs.specs.Settled.{is_open, finish_on, runs_user_task}
-use Rattle.settling.proofs.Finds.{and_left, finish_found, no_finish_found, open_told, same_cores, user_told}
+use Rattle.settling.proofs.Finds.{and_left, finish_found, no_finish_found, open_known, same_cores, user_known}
 use Rattle.settling.proofs.searches.open_finish.Goals.{then-cores-task+else-is_none, else-cores-task}
 use Rattle.settling.proofs.searches.open_finish.Goals as goal
 
@@ -17,8 +17,8 @@ returns-then-is_none c table stands =
     let cores = same_cores c.args.kernel.now table stands in
     let runs = c.running-task.ensures.current table stands in
     let user : table.settings.cores ≤ task = omega (arith, cores, count, c.if-cores-task.true) in
-    let free = open_told table (steps.Call core task Finish) c.refusal.result true (c.refusal.ensures table stands) c.if-is_none.ensures in
-    let both : (runs_user_task table core && is_open table (finish_on table core)) ≡ true = user_told table core task true runs user free in
+    let free = open_known table (steps.Call core task Finish) c.refusal.result true (c.refusal.ensures table stands) c.if-is_none.ensures in
+    let both : (runs_user_task table core && is_open table (finish_on table core)) ≡ true = user_known table core task true runs user free in
     ap (λ task. Some (steps.Call core task Finish)) runs
     ∙ finish_found table core (omega (arith, cores, count, c.loop-core-test.true)) both (c.loop-core.invariant table stands)
 
@@ -33,8 +33,8 @@ loop-core-preserved c table stands =
     (elim c.if-cores-task.branch [
       | then-cores-task+else-is_none w ↦
           let user : table.settings.cores ≤ task = omega (arith, cores, count, w.if-cores-task.true) in
-          user_told table core task false runs user
-          (open_told table (steps.Call core task Finish) w.refusal.result false (w.refusal.ensures table stands) w.if-is_none.ensures)
+          user_known table core task false runs user
+          (open_known table (steps.Call core task Finish) w.refusal.result false (w.refusal.ensures table stands) w.if-is_none.ensures)
       | else-cores-task w ↦
           let idle : leb table.settings.cores (current table.control core) ≡ false = grind (arith, nat_tests, cores, count, runs, w.if-cores-task.false) in
           and_left _ (is_open table (finish_on table core)) idle

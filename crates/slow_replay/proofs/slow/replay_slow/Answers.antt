@@ -6,18 +6,26 @@ use Rattle.slow_replay.proofs.SlowRuns.{IsReplaying, replaying_starts, replaying
 use Rattle.slow_replay.proofs.slow.replay_slow.Goals as goal
 
 pub loop-step-init : goal.loop-step-init
-loop-step-init c = replaying_starts c.args.header.now c.args.steps.now c.in_ok-table.table c.in_ok-outcomes.outcomes.items c.requires.header c.in_ok-table.ensures c.in_ok-outcomes.ensures.items
+loop-step-init c = replaying_starts c.args.header.now c.args.steps.now c.in_ok-table.table c.in_ok-outcomes.outcomes.items c.requires.header
+    c.in_ok-table.ensures c.in_ok-outcomes.ensures.items
 
 pub step-reply-requires-clause-time : goal.step-reply-requires-clause-time
-step-reply-requires-clause-time c = (can_step c.args.header.now c.args.steps.now c.loop-step.step-index c.loop-step.table c.loop-step.outcomes.items c.requires.header c.loop-step.invariant (omega arith) (omega arith)).time
+step-reply-requires-clause-time c = (can_step c.args.header.now c.args.steps.now c.loop-step.step-index c.loop-step.table c.loop-step.outcomes.items
+    c.requires.header c.loop-step.invariant (omega arith) (omega arith)).time
 
 pub loop-step-preserved : goal.loop-step-preserved
 loop-step-preserved c =
     subst (λ os. IsReplaying c.args.header.now c.args.steps.now (c.loop-step.step-index + 1) c.step-reply.new.self os) (sym c.in_ok-push.ensures.items)
-    (replaying_goes c.args.header.now c.args.steps.now c.loop-step.step-index c.loop-step.table c.step-reply.new.self c.loop-step.outcomes.items _ c.step-reply.result c.in_ok-row.row c.requires.header c.loop-step.invariant
+    (replaying_goes c.args.header.now c.args.steps.now c.loop-step.step-index c.loop-step.table c.step-reply.new.self c.loop-step.outcomes.items _
+    c.step-reply.result c.in_ok-row.row c.requires.header c.loop-step.invariant
     (drop_more c.args.steps.now c.loop-step.step-index _ (omega arith))
-    (record { passes = subst (λ settings. step_check settings (get_or c.args.steps.now c.loop-step.step-index Tick) ≡ Ok tt) (sym c.loop-step.invariant.settings) (c.requires.steps c.loop-step.step-index Tick (omega arith)); words = c.step-reply.ensures.words })
+    (record {
+      passes = subst (λ settings. step_check settings (get_or c.args.steps.now c.loop-step.step-index Tick) ≡ Ok tt)
+          (sym c.loop-step.invariant.settings) (c.requires.steps c.loop-step.step-index Tick (omega arith));
+      words = c.step-reply.ensures.words;
+    })
     c.step-reply.ensures.outcome c.in_ok-row.ensures)
 
 pub returns : goal.returns
-returns c = replaying_ends c.args.header.now c.args.steps.now c.loop-step.step-index c.loop-step.table c.loop-step.outcomes.items c.loop-step.invariant (omega arith)
+returns c = replaying_ends c.args.header.now c.args.steps.now c.loop-step.step-index c.loop-step.table c.loop-step.outcomes.items c.loop-step.invariant
+    (omega arith)

@@ -13,7 +13,8 @@ pub loop-core-init : goal.loop-core-init
 loop-core-init c = starting_starts c.args.header.now c.in_ok-table.table c.requires c.in_ok-table.ensures
 
 pub loop-core-preserved : goal.loop-core-preserved
-loop-core-preserved c = starting_goes c.args.header.now c.loop-core.core c.loop-core.table c.switch.new.self c.loop-core.invariant (omega arith) c.switch.ensures
+loop-core-preserved c = starting_goes c.args.header.now c.loop-core.core c.loop-core.table c.switch.new.self c.loop-core.invariant (omega arith)
+    c.switch.ensures
 
 pub returns : goal.returns
 returns c =

@@ -1,4 +1,5 @@
-use Rattle.std.proofs.Common.{◌≡◌, ℕ, zero, suc, ◌+◌, ◌-◌, ◌*◌, ◌<◌, ◌≤◌, ◌^◌, false, List, ◌++◌, length, map, replicate, Option, Some, None, refl, ap, sym, ◌∙◌, arith}
+use Rattle.std.proofs.Common.{◌≡◌, ℕ, zero, suc, ◌+◌, ◌-◌, ◌*◌, ◌<◌, ◌≤◌, ◌^◌, false, List, ◌++◌, length, map, replicate, Option, Some, None, refl, ap, sym}
+use Rattle.std.proofs.Common.{◌∙◌, arith}
 use Rattle.std.specs.Prelude.{slice_index_or}
 use Rattle.std.proofs.lemmas.List.{length-replicate}
 use Rattle.std.proofs.lemmas.List.FromFn.{length-map-range_with_len, get_or-map-range_with_len}
@@ -32,7 +33,8 @@ none_held : (n mutex task : ℕ) → slice_index_or {A = Option ℕ} (replicate 
 none_held n mutex task held = cc (none_at n mutex, held)
 
 -- a checked header has not too many notifications to be named
-few_notes : (header : Header) (settings : Settings) → settings ≡ settings_of header → header.config.cores ≤ max_cores → length header.tasks ≤ max_tasks → header.config.notes ≤ max_notes → settings.tasks * settings.notes < 2 ^ 32
+few_notes : (header : Header) (settings : Settings) → settings ≡ settings_of header → header.config.cores ≤ max_cores → length header.tasks ≤ max_tasks →
+    header.config.notes ≤ max_notes → settings.tasks * settings.notes < 2 ^ 32
 few_notes header settings same cores users notes =
     let most = mul-le-mul (let few : header.config.cores + length header.tasks ≤ max_cores + max_tasks = omega (arith, cores, users) in few) notes in
     let whole = ap (λ (s : Settings). s.tasks * s.notes) same in
@@ -54,13 +56,16 @@ invariant_of-result c =
       holders = ap length c.in_ok-holders.ensures ∙ length-replicate settings.mutexes _;
       rows = ap length c.in_ok-rows.ensures ∙ length_ranges _ _ settings.cores (settings.tasks - settings.cores) ∙ sum;
       deadlines = ap length c.in_ok-deadlines.ensures ∙ length-replicate settings.tasks _;
-      held_by_tasks = λ mutex task held. absurd (none_held settings.mutexes mutex task (ap (λ holders. slice_index_or holders mutex None) (sym c.in_ok-holders.ensures) ∙ held));
+      held_by_tasks = λ mutex task held. absurd (none_held settings.mutexes mutex task
+          (ap (λ holders. slice_index_or holders mutex None) (sym c.in_ok-holders.ensures) ∙ held));
       runs_tasks = λ core low.
-          let look = ap (λ looks. slice_index_or looks core no_look) c.in_ok-cores.ensures ∙ get_or-map-range_with_len first_look 0 settings.cores core core no_look low (omega arith) in
+          let look = ap (λ looks. slice_index_or looks core no_look) c.in_ok-cores.ensures ∙ get_or-map-range_with_len first_look 0 settings.cores core core
+          no_look low (omega arith) in
           omega (arith, ap (λ (l : CoreLook). l.current) look, cores, tasks);
     }
 
-abbrev table_of : Settings → List CoreLook → List TaskControl → List (Option Unfinished) → List Notification → List (Option ℕ) → List TaskRow → List (Option ℕ) → ℕ → ℕ → Table
+abbrev table_of : Settings → List CoreLook → List TaskControl → List (Option Unfinished) → List Notification → List (Option ℕ) → List TaskRow → List (Option ℕ)
+    → ℕ → ℕ → Table
 table_of settings cores tasks calls notes holders rows deadlines tick next = record {
   settings = settings;
   control = record { cores = cores; tasks = tasks };
@@ -71,7 +76,9 @@ table_of settings cores tasks calls notes holders rows deadlines tick next = rec
   orders = record { rows = rows; deadlines = deadlines; tick = tick; next = next };
 }
 
-same_table : {s t : Settings} {cs ds : List CoreLook} {bs es : List TaskControl} {us vs : List (Option Unfinished)} {ns ms : List Notification} {hs gs : List (Option ℕ)} {rs qs : List TaskRow} {xs ys : List (Option ℕ)} {i j k l : ℕ} → s ≡ t → cs ≡ ds → bs ≡ es → us ≡ vs → ns ≡ ms → hs ≡ gs → rs ≡ qs → xs ≡ ys → i ≡ j → k ≡ l → table_of s cs bs us ns hs rs xs i k ≡ table_of t ds es vs ms gs qs ys j l
+same_table : {s t : Settings} {cs ds : List CoreLook} {bs es : List TaskControl} {us vs : List (Option Unfinished)} {ns ms : List Notification}
+    {hs gs : List (Option ℕ)} {rs qs : List TaskRow} {xs ys : List (Option ℕ)} {i j k l : ℕ} → s ≡ t → cs ≡ ds → bs ≡ es → us ≡ vs → ns ≡ ms → hs ≡ gs → rs ≡ qs
+    → xs ≡ ys → i ≡ j → k ≡ l → table_of s cs bs us ns hs rs xs i k ≡ table_of t ds es vs ms gs qs ys j l
 same_table a b c d e f g h i j = cc
 
 abbrev rows_for : ℕ → ℕ → List TaskRow

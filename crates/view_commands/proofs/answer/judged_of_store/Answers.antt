@@ -1,14 +1,15 @@
 use Rattle.std.proofs.Common.{rules, ◌≡◌, true, false}
-use Rattle.view_commands.proofs.Judged.{judged_loosely, judged_so}
+use Rattle.view_commands.proofs.StrictOutputs.{judged_loosely, judged_so}
 use Rattle.view_commands.proofs.answer.judged_of_store.Goals as goal
 
 pub returns-then-not-job : goal.returns-then-not-job
 returns-then-not-job g c =
     let loose : c.args.job.now.strict ≡ false = search rules in
-    judged_loosely c.args.job.now c.args.store.now.session c.args.edits.now c.told_of_store.result loose c.told_of_store.ensures
+    judged_loosely c.args.job.now c.args.store.now.session c.args.edits.now c.printed_of_store.result loose c.printed_of_store.ensures
 
 pub returns : goal.returns
 returns g c =
     let strict : c.args.job.now.strict ≡ true = search rules in
-    judged_so c.args.job.now c.args.store.now.session c.in_ok-twin.twin.session c.args.edits.now c.is_settled.result c.in_ok-told.told c.judged_strictly.result strict
-    c.in_ok-told.ensures c.in_ok-twin.ensures c.is_settled.ensures c.judged_strictly.ensures
+    judged_so c.args.job.now c.args.store.now.session c.in_ok-twin.twin.session c.args.edits.now c.is_settled.result c.in_ok-printed.printed
+    c.judged_strictly.result strict
+    c.in_ok-printed.ensures c.in_ok-twin.ensures c.is_settled.ensures c.judged_strictly.ensures

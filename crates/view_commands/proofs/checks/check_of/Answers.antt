@@ -1,11 +1,11 @@
 use Rattle.std.proofs.Common.{◌≡◌, rules, inl}
 use Rattle.std.specs.Prelude.{string_bytes}
-use Rattle.session_reports.specs.Asked.{Told as CheckTold}
-use Rattle.view_commands.specs.CheckViews.{told_of_check}
+use Rattle.session_reports.specs.Asked.{Printed as CheckPrinted}
+use Rattle.view_commands.specs.CheckViews.{printed_of_check}
 use Rattle.view_commands.proofs.checks.check_of.Goals as goal
 
 pub returns-in-Ok : goal.returns-in-Ok
 returns-in-Ok c =
-    let checked : CheckTold = record { status = c.in-Ok.status; text = string_bytes c.in-Ok.text } in
-    let told : c.told_of_check.result ≡ told_of_check checked.status checked.text = search rules in
-    inl (record { checked = checked; is_check = search rules; is_told = told })
+    let checked : CheckPrinted = record { status = c.in-Ok.status; text = string_bytes c.in-Ok.text } in
+    let printed : c.printed_of_check.result ≡ printed_of_check checked.status checked.text = search rules in
+    inl (record { checked = checked; is_check = search rules; is_printed = printed })

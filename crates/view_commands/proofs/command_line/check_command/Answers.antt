@@ -1,15 +1,19 @@
 use Rattle.std.proofs.Common.{rules, refl, codes}
 use Rattle.std.proofs.lemmas.Result.{IfOk-weaker}
 use Rattle.clap.specs.Words.{new_app}
-use Rattle.command_words.specs.Told.{IsTold}
-use Rattle.command_words.proofs.Told.{more_told}
+use Rattle.command_words.specs.Printed.{IsPrinted}
+use Rattle.command_words.proofs.Printed.{more_printed}
 use Rattle.view_commands.proofs.command_line.check_command.Goals as goal
 
 pub returns : goal.returns
 returns c =
-    let bare : IsTold c.about.result (new_app (codes "check")) = (search rules, search rules) in
-    let settle_flags = more_told c.about.result c.in_ok-arg.field-0 _ c.settle_flag.result _ bare c.settle_flag.ensures refl c.in_ok-arg.ensures in
-    let most_limits = more_told c.in_ok-arg.field-0 c.in_ok-arg-2.field-0 _ c.at_most_option.result _ settle_flags c.at_most_option.ensures refl c.in_ok-arg-2.ensures in
-    let least_limits = more_told c.in_ok-arg-2.field-0 c.in_ok-arg-3.field-0 _ c.at_least_option.result _ most_limits c.at_least_option.ensures refl c.in_ok-arg-3.ensures in
-    let strict_flags = more_told c.in_ok-arg-3.field-0 c.in_ok-arg-4.field-0 _ c.strict_flag.result _ least_limits c.strict_flag.ensures refl c.in_ok-arg-4.ensures in
-    IfOk-weaker c.arg-5.result _ _ (λ command added. more_told c.in_ok-arg-4.field-0 command _ c.file_argument.result _ strict_flags c.file_argument.ensures refl added) c.arg-5.ensures
+    let bare : IsPrinted c.about.result (new_app (codes "check")) = (search rules, search rules) in
+    let settle_flags = more_printed c.about.result c.in_ok-arg.field-0 _ c.settle_flag.result _ bare c.settle_flag.ensures refl c.in_ok-arg.ensures in
+    let most_limits = more_printed c.in_ok-arg.field-0 c.in_ok-arg-2.field-0 _ c.at_most_option.result _ settle_flags c.at_most_option.ensures refl
+    c.in_ok-arg-2.ensures in
+    let least_limits = more_printed c.in_ok-arg-2.field-0 c.in_ok-arg-3.field-0 _ c.at_least_option.result _ most_limits c.at_least_option.ensures refl
+    c.in_ok-arg-3.ensures in
+    let strict_flags = more_printed c.in_ok-arg-3.field-0 c.in_ok-arg-4.field-0 _ c.strict_flag.result _ least_limits c.strict_flag.ensures refl
+    c.in_ok-arg-4.ensures in
+    IfOk-weaker c.arg-5.result _ _ (λ command added. more_printed c.in_ok-arg-4.field-0 command _ c.file_argument.result _ strict_flags c.file_argument.ensures
+    refl added) c.arg-5.ensures

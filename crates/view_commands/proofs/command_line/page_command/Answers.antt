@@ -1,16 +1,20 @@
 use Rattle.std.proofs.Common.{rules, refl, codes}
 use Rattle.std.proofs.lemmas.Result.{IfOk-weaker}
 use Rattle.clap.specs.Words.{new_app}
-use Rattle.command_words.specs.Told.{IsTold}
-use Rattle.command_words.proofs.Told.{more_told}
+use Rattle.command_words.specs.Printed.{IsPrinted}
+use Rattle.command_words.proofs.Printed.{more_printed}
 use Rattle.view_commands.proofs.command_line.page_command.Goals as goal
 
 pub returns : goal.returns
 returns c =
-    let bare : IsTold c.about.result (new_app (codes "page")) = (search rules, search rules) in
-    let settle_flags = more_told c.about.result c.in_ok-arg.field-0 _ c.settle_flag.result _ bare c.settle_flag.ensures refl c.in_ok-arg.ensures in
-    let axes = more_told c.in_ok-arg.field-0 c.in_ok-arg-2.field-0 _ c.axis_option.result _ settle_flags c.axis_option.ensures refl c.in_ok-arg-2.ensures in
-    let from_options = more_told c.in_ok-arg-2.field-0 c.in_ok-arg-3.field-0 _ c.from_option.result _ axes c.from_option.ensures refl c.in_ok-arg-3.ensures in
-    let to_options = more_told c.in_ok-arg-3.field-0 c.in_ok-arg-4.field-0 _ c.to_option.result _ from_options c.to_option.ensures refl c.in_ok-arg-4.ensures in
-    let strict_flags = more_told c.in_ok-arg-4.field-0 c.in_ok-arg-5.field-0 _ c.strict_flag.result _ to_options c.strict_flag.ensures refl c.in_ok-arg-5.ensures in
-    IfOk-weaker c.arg-6.result _ _ (λ command added. more_told c.in_ok-arg-5.field-0 command _ c.file_argument.result _ strict_flags c.file_argument.ensures refl added) c.arg-6.ensures
+    let bare : IsPrinted c.about.result (new_app (codes "page")) = (search rules, search rules) in
+    let settle_flags = more_printed c.about.result c.in_ok-arg.field-0 _ c.settle_flag.result _ bare c.settle_flag.ensures refl c.in_ok-arg.ensures in
+    let axes = more_printed c.in_ok-arg.field-0 c.in_ok-arg-2.field-0 _ c.axis_option.result _ settle_flags c.axis_option.ensures refl c.in_ok-arg-2.ensures in
+    let from_options = more_printed c.in_ok-arg-2.field-0 c.in_ok-arg-3.field-0 _ c.from_option.result _ axes c.from_option.ensures refl c.in_ok-arg-3.ensures
+    in
+    let to_options = more_printed c.in_ok-arg-3.field-0 c.in_ok-arg-4.field-0 _ c.to_option.result _ from_options c.to_option.ensures refl c.in_ok-arg-4.ensures
+    in
+    let strict_flags = more_printed c.in_ok-arg-4.field-0 c.in_ok-arg-5.field-0 _ c.strict_flag.result _ to_options c.strict_flag.ensures refl
+    c.in_ok-arg-5.ensures in
+    IfOk-weaker c.arg-6.result _ _ (λ command added. more_printed c.in_ok-arg-5.field-0 command _ c.file_argument.result _ strict_flags c.file_argument.ensures
+    refl added) c.arg-6.ensures

@@ -1,12 +1,13 @@
 use Rattle.std.proofs.Common.{rules, refl, codes}
 use Rattle.std.proofs.lemmas.Result.{IfOk-weaker}
 use Rattle.clap.specs.Words.{new_app}
-use Rattle.command_words.specs.Told.{IsTold}
-use Rattle.command_words.proofs.Told.{more_told}
+use Rattle.command_words.specs.Printed.{IsPrinted}
+use Rattle.command_words.proofs.Printed.{more_printed}
 use Rattle.view_commands.proofs.command_line.settle_command.Goals as goal
 
 pub returns : goal.returns
 returns c =
-    let bare : IsTold c.about.result (new_app (codes "settle")) = (search rules, search rules) in
-    let strict_flags = more_told c.about.result c.in_ok-arg.field-0 _ c.strict_flag.result _ bare c.strict_flag.ensures refl c.in_ok-arg.ensures in
-    IfOk-weaker c.arg-2.result _ _ (λ command added. more_told c.in_ok-arg.field-0 command _ c.file_argument.result _ strict_flags c.file_argument.ensures refl added) c.arg-2.ensures
+    let bare : IsPrinted c.about.result (new_app (codes "settle")) = (search rules, search rules) in
+    let strict_flags = more_printed c.about.result c.in_ok-arg.field-0 _ c.strict_flag.result _ bare c.strict_flag.ensures refl c.in_ok-arg.ensures in
+    IfOk-weaker c.arg-2.result _ _ (λ command added. more_printed c.in_ok-arg.field-0 command _ c.file_argument.result _ strict_flags c.file_argument.ensures
+    refl added) c.arg-2.ensures

@@ -12,5 +12,6 @@ returns c =
     let task = c.get_str-task.ensures ∙ first_value-rows found (codes "judged") in
     let rest = c.get_str-rest.ensures ∙ first_value-rows found (codes "less") in
     IfOk-weaker c.advice_with.result _ _
-    (λ command is. is ∙ ap₂ (λ task rest. advice_with task rest c.in_ok-family.family rows) task rest ∙ ap (λ family. advice_with (first_of (codes "judged") rows) (first_of (codes "less") rows) family rows) c.in_ok-family.ensures)
+    (λ command is. is ∙ ap₂ (λ task rest. advice_with task rest c.in_ok-family.family rows) task rest ∙ ap
+    (λ family. advice_with (first_of (codes "judged") rows) (first_of (codes "less") rows) family rows) c.in_ok-family.ensures)
     c.advice_with.ensures

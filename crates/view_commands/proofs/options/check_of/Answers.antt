@@ -11,7 +11,8 @@ use Rattle.view_commands.proofs.options.check_of.Goals as goal
 -- whether limits that are lent are well written
 abbrev are_lent : List (Bor Text) → List (Bor Text) → Bool
 are_lent most least =
-    if length most == 0 && length least == 0 then false else (list_all (λ (t : Bor Text). is_limit t.now) most && list_all (λ (t : Bor Text). is_limit t.now) least)
+    if length most == 0 && length least == 0 then false else (list_all (λ (t : Bor Text). is_limit t.now) most && list_all (λ (t : Bor Text). is_limit t.now)
+    least)
 
 abbrev lent : List (Bor Text) → List (Bor Text) → List Asked
 lent most least = flat_map (λ (t : Bor Text). limits_from AtMost t.now) most ++ flat_map (λ (t : Bor Text). limits_from AtLeast t.now) least

@@ -26,7 +26,8 @@ loop-number-init c =
 
 pub loop-number-preserved : goal.loop-number-preserved
 loop-number-preserved c =
-    absurd (none_fails 32 0 (2 ^ 32 - 1) (omega arith) (values_left c.loop-number.number-iterator) (values_left c.next.new.self) c.in-Some-number.number c.in_default-number.field-0 c.in-Some-number.ensures.steps c.loop-number.invariant.taken c.in_default-number.is)
+    absurd (none_fails 32 0 (2 ^ 32 - 1) (omega arith) (values_left c.loop-number.number-iterator) (values_left c.next.new.self) c.in-Some-number.number
+    c.in_default-number.field-0 c.in-Some-number.ensures.steps c.loop-number.invariant.taken c.in_default-number.is)
 
 pub returns : goal.returns
 returns c =

@@ -14,11 +14,13 @@ pub returns-then-eq : goal.returns-then-eq
 returns-then-eq c =
     let row = c.get_str.ensures ∙ first_value-rows (found_of c.args.options.now) (codes "file") in
     let named : bytes_eq c.in-Some.name.now (codes "-") ≡ true = search rules in
-    sym (ap (λ (is : Bool). if is then None else Some c.in-Some.name.now) named) ∙ ap (option_and_then file_named) (ap (option_map (λ s. s.now)) (sym c.in-Some.is) ∙ row)
+    sym (ap (λ (is : Bool). if is then None else Some c.in-Some.name.now) named) ∙ ap (option_and_then file_named)
+    (ap (option_map (λ s. s.now)) (sym c.in-Some.is) ∙ row)
 
 pub returns : goal.returns
 returns c =
     let row = c.get_str.ensures ∙ first_value-rows (found_of c.args.options.now) (codes "file") in
     let named : bytes_eq c.in-Some.name.now (codes "-") ≡ false = search rules in
     let text : c.in_ok-text.text.bytes.items ≡ c.in-Some.name.now = search rules in
-    ap Some text ∙ sym (ap (λ (is : Bool). if is then None else Some c.in-Some.name.now) named) ∙ ap (option_and_then file_named) (ap (option_map (λ s. s.now)) (sym c.in-Some.is) ∙ row)
+    ap Some text ∙ sym (ap (λ (is : Bool). if is then None else Some c.in-Some.name.now) named) ∙ ap (option_and_then file_named)
+    (ap (option_map (λ s. s.now)) (sym c.in-Some.is) ∙ row)

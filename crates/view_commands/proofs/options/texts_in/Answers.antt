@@ -7,7 +7,8 @@ use Rattle.view_commands.proofs.options.texts_in.Goals as goal
 pub returns-in_default : goal.returns-in_default
 returns-in_default c =
     let row = c.get_strs.ensures ∙ raw_values-rows (found_of c.args.options.now) c.args.id.now in
-    ap (map (λ text. text.now)) c.new-texts.ensures.items ∙ ap (λ all. unwrap_or all []) (ap (option_map (λ texts. map (λ text. text.now) texts.now)) (sym c.in_default.is) ∙ row)
+    ap (map (λ text. text.now)) c.new-texts.ensures.items ∙ ap (λ all. unwrap_or all [])
+    (ap (option_map (λ texts. map (λ text. text.now) texts.now)) (sym c.in_default.is) ∙ row)
 
 pub returns : goal.returns
 returns c =

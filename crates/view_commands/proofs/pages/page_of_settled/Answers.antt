@@ -3,7 +3,7 @@ use Rattle.bench_types.specs.declared.step.Step.{Step}
 use Rattle.bench_types.specs.Session.{Session, IsSession}
 use Rattle.settling.specs.declared.run.SettleFault.{SettleFault}
 use Rattle.settled_runs.proofs.Rests.{settled_run_is_session}
-use Rattle.view_commands.proofs.PagesTold.{long_page}
+use Rattle.view_commands.proofs.PagesPrinted.{long_page}
 use Rattle.view_commands.proofs.pages.page_of_settled.Goals as goal
 
 pub page_of_run-requires-clause-session : goal.page_of_run-requires-clause-session

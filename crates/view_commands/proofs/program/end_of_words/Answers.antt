@@ -19,5 +19,6 @@ returns-in-Ok g c =
     let read = g.R.CountedRead.seen in
     let write = g.W.CountedWrite.seen in
     subst
-    (λ (what : Asked). EndsOver (EndsAsked what (g.R.Source.file c.args.reader.now)) c.carry_out.result (read c.args.reader.now) (read c.carry_out.new.reader) (write c.args.writer.now) (write c.carry_out.new.writer))
+    (λ (what : Asked). EndsOver (EndsAsked what (g.R.Source.file c.args.reader.now)) c.carry_out.result (read c.args.reader.now) (read c.carry_out.new.reader)
+    (write c.args.writer.now) (write c.carry_out.new.writer))
     c.in-Ok.ensures c.carry_out.ensures

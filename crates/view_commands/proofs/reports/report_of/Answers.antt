@@ -5,13 +5,13 @@ use Rattle.settling.specs.declared.run.SettleFault.{SettleFault}
 use Rattle.session_reports.specs.Figures.{IsTooLong}
 use Rattle.session_reports.specs.Reports.{IsReportOfRun}
 use Rattle.program_io.specs.Outputs.{fine}
-use Rattle.view_commands.proofs.ReportsTold.{long_report}
+use Rattle.view_commands.proofs.ReportsPrinted.{long_report}
 use Rattle.view_commands.proofs.reports.report_of.Goals as goal
 
 pub returns-in-Ok : goal.returns-in-Ok
 returns-in-Ok c =
-    let told : c.fine.result ≡ fine (string_bytes c.in-Ok.text) = search rules in
-    inl (record { text = string_bytes c.in-Ok.text; is_text = c.in-Ok.ensures.text; is_told = told })
+    let printed : c.fine.result ≡ fine (string_bytes c.in-Ok.text) = search rules in
+    inl (record { text = string_bytes c.in-Ok.text; is_text = c.in-Ok.ensures.text; is_printed = printed })
 
 pub returns-in-Err : goal.returns-in-Err
 returns-in-Err c =

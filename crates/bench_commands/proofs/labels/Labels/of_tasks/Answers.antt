@@ -9,6 +9,7 @@ pub loop-task-preserved : goal.loop-task-preserved
 loop-task-preserved c =
     let so_far = c.loop-task.invariant in
     record {
-      labels = labels_more string_bytes c.args.header.now c.loop-task.texts.items c.push.new.self.items c.in_ok-label_of.field-0 c.in_ok-push.ensures.items (c.in_ok-label_of.ensures ∙ ap (λ n. spaced (name_of c.args.header.now n)) (sym so_far.many)) so_far.labels;
+      labels = labels_more string_bytes c.args.header.now c.loop-task.texts.items c.push.new.self.items c.in_ok-label_of.field-0 c.in_ok-push.ensures.items
+          (c.in_ok-label_of.ensures ∙ ap (λ n. spaced (name_of c.args.header.now n)) (sym so_far.many)) so_far.labels;
       many = ap length c.in_ok-push.ensures.items ∙ length-append c.loop-task.texts.items _ ∙ ap (λ n. n + 1) so_far.many;
     }

@@ -10,6 +10,8 @@ returns-in-Some c =
     let there = slice_get_read lent (length lent) c.args.task c.in-Some.label.now refl lookup.3.0 lookup.1 in
     let found = slice_get-map string_bytes lent c.args.task ∙ ap (option_map string_bytes) there in
     let labels = ap (map string_bytes) c.deref.ensures.value ∙ c.self.view_is in
-    let label = c.requires c.args.task (string_bytes c.in-Some.label.now) (ap (λ (labels : List (List ℕ)). slice_get labels c.args.task) (sym labels) ∙ found) in
+    let label = c.requires c.args.task (string_bytes c.in-Some.label.now) (ap (λ (labels : List (List ℕ)). slice_get labels c.args.task) (sym labels) ∙ found)
+    in
     let pushed : OnOk c.push_str.result (string_bytes c.push_str.new.self ≡ string_bytes c.args.text.now ++ c.as_str.result.now) = search rules in
-    subst (λ (label : List ℕ). OnOk c.push_str.result (string_bytes c.push_str.new.self ≡ string_bytes c.args.text.now ++ label)) (c.as_str.ensures.value ∙ label) pushed
+    subst (λ (label : List ℕ). OnOk c.push_str.result (string_bytes c.push_str.new.self ≡ string_bytes c.args.text.now ++ label))
+    (c.as_str.ensures.value ∙ label) pushed

@@ -10,7 +10,8 @@ invariant_of-result c =
     let kernel = c.args.kernel.now in
     let settings = c.settings-settings.result in
     let tasks : length c.in_ok-counts.counts.items ≡ settings.tasks =
-    ap length c.in_ok-counts.ensures ∙ length_each (first_counts kernel.control) kernel.settings.tasks ∙ ap (λ (s : Settings). s.tasks) (sym c.settings-settings.ensures.settings) in
+    ap length c.in_ok-counts.ensures ∙ length_each (first_counts kernel.control) kernel.settings.tasks ∙ ap (λ (s : Settings). s.tasks)
+    (sym c.settings-settings.ensures.settings) in
     record {
       size = omega (arith, c.in_ok-runs.ensures.len, c.in_ok-runs.runs.ok.0, c.place_of-ticks.ensures, ap (λ n. n * settings.cores) tasks);
       few = omega (arith, tasks);
@@ -20,4 +21,5 @@ pub returns : goal.returns
 returns c =
     let kernel = c.args.kernel.now in
     ap₂ (tallies_in c.settings-settings.result.cores) (c.in_ok-runs.ensures.items_if_clones_equal (λ y e. e)) c.in_ok-counts.ensures
-    ∙ first_table kernel.settings kernel.control c.settings-settings.result.cores c.place_of-ticks.result (λ task low. ap (λ (s : Settings). s.cores) c.settings-settings.ensures.settings)
+    ∙ first_table kernel.settings kernel.control c.settings-settings.result.cores c.place_of-ticks.result
+    (λ task low. ap (λ (s : Settings). s.cores) c.settings-settings.ensures.settings)

@@ -2,7 +2,7 @@ use Rattle.std.proofs.Common.{ap, subst, sym, ◌∙◌}
 use Rattle.bench_model.specs.Tallied.{shape, AllCountsBelow}
 use Rattle.bench_reports.proofs.Rooms.{first_shape, first_room}
 use Rattle.bench_reports.specs.Tops.{HasTops}
-use Rattle.bench_reports.proofs.Tops.{begun_tops}
+use Rattle.bench_reports.proofs.Tops.{initial_tops}
 use Rattle.bench_reports.proofs.tallies.Tallies.begin.Goals as goal
 
 pub returns-clause-shape : goal.returns-clause-shape
@@ -12,4 +12,5 @@ pub returns-clause-room : goal.returns-clause-room
 returns-clause-room c = subst (AllCountsBelow 1) (sym c.in_ok-begin.ensures) (first_room c.args.kernel.now.settings c.args.kernel.now.control)
 
 pub returns-clause-tops : goal.returns-clause-tops
-returns-clause-tops c = subst (HasTops c.args.kernel.now.control) (sym c.in_ok-begin.ensures) (begun_tops c.args.kernel.now.settings c.args.kernel.now.control)
+returns-clause-tops c = subst (HasTops c.args.kernel.now.control) (sym c.in_ok-begin.ensures)
+    (initial_tops c.args.kernel.now.settings c.args.kernel.now.control)

@@ -5,7 +5,8 @@ use Rattle.bench_reports.proofs.Tops.{event_tops}
 use Rattle.bench_reports.proofs.tallies.Tallies.leave_next.Goals as goal
 
 pub raise_top_of-requires-clause-tasks : goal.raise_top_of-requires-clause-tasks
-raise_top_of-requires-clause-tasks c = ap length c.add_event.ensures ∙ length_event c.args.event c.self.inside.tasks ∙ ap length c.self.view_is ∙ c.requires.tasks
+raise_top_of-requires-clause-tasks c = ap length c.add_event.ensures ∙ length_event c.args.event c.self.inside.tasks ∙ ap length c.self.view_is ∙
+    c.requires.tasks
 
 pub raise_top_of-requires-clause-tops : goal.raise_top_of-requires-clause-tops
 raise_top_of-requires-clause-tops c =

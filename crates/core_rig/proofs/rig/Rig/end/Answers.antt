@@ -70,7 +70,8 @@ returns-clause-session c =
 
 pub returns-clause-seats : goal.returns-clause-seats
 returns-clause-seats c =
-    subst (λ entries. All (IsEndOf entries) c.args.seats.items) (sym (c.new.ensures ∙ c.into_parts-header.ensures.entries)) (ends (goal.at.returns-clause-seats c).After-into_parts-header)
+    subst (λ entries. All (IsEndOf entries) c.args.seats.items) (sym (c.new.ensures ∙ c.into_parts-header.ensures.entries))
+    (ends (goal.at.returns-clause-seats c).After-into_parts-header)
 
 pub returns-clause-unheld : goal.returns-clause-unheld
 returns-clause-unheld c =

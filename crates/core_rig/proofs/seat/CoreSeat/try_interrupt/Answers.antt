@@ -1,26 +1,26 @@
 use Rattle.std.proofs.Common.{rules, refl, inr, ◌≡◌, Ok}
-use Rattle.bench_types.specs.Act.{act_check}
-use Rattle.bench_types.specs.declared.act.Act.TheVariants as acts
+use Rattle.bench_types.specs.CoreAction.{core_action_check}
+use Rattle.bench_types.specs.declared.core_action.CoreAction.TheVariants as core_actions
 use Rattle.bench_types.specs.Step.{settings_of}
-use Rattle.core_rig.proofs.Acts.{came, depth_stays, is_answered_at_once, rests_again, task_stays}
+use Rattle.core_rig.proofs.CoreActions.{came, depth_stays, is_answered_at_once, rests_again, task_stays}
 use Rattle.core_rig.proofs.seat.CoreSeat.try_interrupt.Goals as goal
 
 pub invariant_of-self-2 : goal.invariant_of-self-2
 invariant_of-self-2 c =
     let its = c.act_and_leave-stretch.ensures in
-    let act = acts.Interrupt c.args.note in
-    let checked : act_check (settings_of c.self.inside.seat.terms.header) c.self.inside.seat.number act ≡ Ok tt = search rules in
+    let core_action = core_actions.Interrupt c.args.note in
+    let checked : core_action_check (settings_of c.self.inside.seat.terms.header) c.self.inside.seat.number core_action ≡ Ok tt = search rules in
     let took = c.in-Ok.ensures.outermost c.self.invariant.interrupt in
-    let came = came c.self.inside.seat act checked _ _ _ _ took its.seat its.answer its.legal its.sound in
-    let stays = depth_stays _ _ _ act _ _ _ c.self.invariant took its.seat (its.stays refl) its.depth in
-    rests_again act _ _ _ _ _ _ _ c.self.invariant came its.legal its.depth its.none its.count (search rules) (search rules)
-    (task_stays _ _ _ act _ _ _ c.self.invariant took its.seat stays)
+    let came = came c.self.inside.seat core_action checked _ _ _ _ took its.seat its.answer its.legal its.sound in
+    let stays = depth_stays _ _ _ core_action _ _ _ c.self.invariant took its.seat (its.stays refl) its.depth in
+    rests_again core_action _ _ _ _ _ _ _ c.self.invariant came its.legal its.depth its.none its.count (search rules) (search rules)
+    (task_stays _ _ _ core_action _ _ _ c.self.invariant took its.seat stays)
 
 pub returns-clause-answered : goal.returns-clause-answered
 returns-clause-answered c =
     let its = c.act_and_leave-stretch.ensures in
-    let act = acts.Interrupt c.args.note in
-    let checked : act_check (settings_of c.self.inside.seat.terms.header) c.self.inside.seat.number act ≡ Ok tt = search rules in
+    let core_action = core_actions.Interrupt c.args.note in
+    let checked : core_action_check (settings_of c.self.inside.seat.terms.header) c.self.inside.seat.number core_action ≡ Ok tt = search rules in
     let took = c.in-Ok.ensures.outermost c.self.invariant.interrupt in
-    let came = came c.self.inside.seat act checked _ _ _ _ took its.seat its.answer its.legal its.sound in
-    is_answered_at_once act c.self.inside.seat c.act_and_leave-stretch.new.seat _ c.self.view_is _ checked (inr came.acted)
+    let came = came c.self.inside.seat core_action checked _ _ _ _ took its.seat its.answer its.legal its.sound in
+    is_answered_at_once core_action c.self.inside.seat c.act_and_leave-stretch.new.seat _ c.self.view_is _ checked (inr came.acted)

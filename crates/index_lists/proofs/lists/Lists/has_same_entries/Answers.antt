@@ -77,8 +77,11 @@ returns-then-ne c =
     let item_too = c.loop-step.invariant.theirs ∙ node_here _ _ _ _ _ _ stand_too o i c.requires.other within_too in
     let key = ap (λ (n : ℕ). key_of n c.args.self.now) item ∙ key_here _ _ _ _ _ _ stand l i c.requires.one within in
     let key_too = ap (λ (n : ℕ). key_of n c.args.other.now) item_too ∙ key_here _ _ _ _ _ _ stand_too o i c.requires.other within_too in
-    let compared = same_keys _ _ _ _ (c.key_of.ensures.key ∙ key) (c.key_of-in-loop-step.ensures.key ∙ key_too) in
-    (λ no. absurd (cc (no)), λ same. absurd (let tied : (get_or mine i none).key ≡ (get_or theirs i none).key = ap (λ (es : List Listed). (get_or es i none).key) same in grind (arith, nat_tests, compared, tied, c.ne.ensures, c.if-ne.true)))
+    let compared = same_keys _ _ _ _ (c.key_of.ensures.key ∙ key) (c.key_of-in-loop-step.ensures.key ∙ key_too) in (
+      λ no. absurd (cc (no)),
+      λ same. absurd (let tied : (get_or mine i none).key ≡ (get_or theirs i none).key = ap
+          (λ (es : List Listed). (get_or es i none).key) same in grind (arith, nat_tests, compared, tied, c.ne.ensures, c.if-ne.true)),
+    )
 
 pub index-requires-in-loop-step : goal.index-requires-in-loop-step
 index-requires-in-loop-step c =
@@ -138,9 +141,12 @@ loop-step-preserved c =
     let compared = same_keys _ _ _ _ (c.key_of.ensures.key ∙ key) (c.key_of-in-loop-step.ensures.key ∙ key_too) in
     let linked : c.loop-step.mine < length links = omega (arith, item, low, nodes_are _ links _ _ _ stand) in
     let linked_too : c.loop-step.theirs < length others = omega (arith, item_too, low_too, nodes_are _ others _ _ _ stand_too) in
-    let here = same_entry _ _ (sym item ∙ sym c.if-theirs-mine.false ∙ item_too) (let tied : (get_or mine i none).key ≡ (get_or theirs i none).key = grind (arith, nat_tests, compared, c.ne.ensures, c.if-ne.false) in ap Some tied) in
+    let here = same_entry _ _ (sym item ∙ sym c.if-theirs-mine.false ∙ item_too)
+    (let tied : (get_or mine i none).key ≡ (get_or theirs i none).key = grind (arith, nat_tests, compared, c.ne.ensures, c.if-ne.false) in ap Some tied) in
     record {
       same = take_more_same mine theirs i none within within_too c.loop-step.invariant.same here;
-      mine = next_read links c.loop-step.mine c.index-in-loop-step.result.now linked c.index-in-loop-step.ensures ∙ ap (λ (n : ℕ). get_or (nexts links) n 0) item ∙ node_next _ _ _ _ _ _ stand l i c.requires.one within;
-      theirs = next_read others c.loop-step.theirs c.index-in-loop-step-2.result.now linked_too c.index-in-loop-step-2.ensures ∙ ap (λ (n : ℕ). get_or (nexts others) n 0) item_too ∙ node_next _ _ _ _ _ _ stand_too o i c.requires.other within_too;
+      mine = next_read links c.loop-step.mine c.index-in-loop-step.result.now linked c.index-in-loop-step.ensures ∙ ap (λ (n : ℕ). get_or (nexts links) n 0)
+          item ∙ node_next _ _ _ _ _ _ stand l i c.requires.one within;
+      theirs = next_read others c.loop-step.theirs c.index-in-loop-step-2.result.now linked_too c.index-in-loop-step-2.ensures ∙ ap
+          (λ (n : ℕ). get_or (nexts others) n 0) item_too ∙ node_next _ _ _ _ _ _ stand_too o i c.requires.other within_too;
     }

@@ -9,5 +9,6 @@ returns c =
     let links = c.self.inside.links.items in
     let stand = seen_stand _ links _ _ _ c.self.view_is c.self.invariant in
     let low : c.end_of.result < length links = omega (arith, c.end_of.ensures, c.requires, nodes_are _ links _ _ _ stand) in
-    let node : c.index.result.now.prev ≡ get_or (prevs links) (c.args.self.now.items + c.args.list) 0 = prev_read links c.end_of.result c.index.result.now low c.index.ensures ∙ ap (λ (n : ℕ). get_or (prevs links) n 0) c.end_of.ensures in
+    let node : c.index.result.now.prev ≡ get_or (prevs links) (c.args.self.now.items + c.args.list) 0 = prev_read links c.end_of.result c.index.result.now low
+    c.index.ensures ∙ ap (λ (n : ℕ). get_or (prevs links) n 0) c.end_of.ensures in
     c.entry_at.ensures ∙ ap (entry_at _ _ _ _ _ _ stand c.args.list c.requires) node ∙ last_found _ _ _ _ _ _ stand c.args.list c.requires

@@ -19,7 +19,8 @@ loop-step-init c =
     let low : c.end_of.result < length links = omega (arith, c.end_of.ensures, c.requires, nodes_are _ links _ _ _ stand) in
     record {
       keys = zero-add (prefix_len (λ (entry : Listed). leb entry.key c.args.key) row);
-      node = next_read links c.end_of.result c.index.result.now low c.index.ensures ∙ ap (λ (n : ℕ). get_or (nexts links) n 0) c.end_of.ensures ∙ ring_after _ _ _ [] (items_of row) (stand.rings l c.requires);
+      node = next_read links c.end_of.result c.index.result.now low c.index.ensures ∙ ap (λ (n : ℕ). get_or (nexts links) n 0) c.end_of.ensures ∙ ring_after _ _
+          _ [] (items_of row) (stand.rings l c.requires);
     }
 
 pub index-requires-in-loop-step : goal.index-requires-in-loop-step
@@ -64,9 +65,11 @@ returns-in_default c =
     let low : c.loop-step.at < c.args.self.now.items = omega (arith, item, node_low _ _ _ _ _ _ stand l i c.requires within) in
     let home = sym (get_or_read homes c.loop-step.at c.index-in-loop-step.result.now (omega (arith, low, stand.room)) c.index-in-loop-step.ensures None) in
     let is = home_here _ _ _ _ _ _ stand l i c.requires within in
-    let key : c.in-Some.home.key ≡ (get_or row i none).key = same_key c.in-Some.home l (get_or row i none).key (sym c.in-Some.is ∙ sym home ∙ ap (home_at homes) item ∙ is) in
+    let key : c.in-Some.home.key ≡ (get_or row i none).key = same_key c.in-Some.home l (get_or row i none).key
+    (sym c.in-Some.is ∙ sym home ∙ ap (home_at homes) item ∙ is) in
     let fails : leb (get_or row i none).key c.args.key ≡ false = let over = c.if-home-key.false in grind (arith, nat_tests, key, over) in
-    c.loop-step.invariant.node ∙ ap (λ (n : ℕ). first_or (c.args.self.now.items + l) (items_of (drop n row))) (place_stop (λ (entry : Listed). leb entry.key c.args.key) row i within fails c.loop-step.invariant.keys)
+    c.loop-step.invariant.node ∙ ap (λ (n : ℕ). first_or (c.args.self.now.items + l) (items_of (drop n row)))
+    (place_stop (λ (entry : Listed). leb entry.key c.args.key) row i within fails c.loop-step.invariant.keys)
 
 pub returns-in_default-2 : goal.returns-in_default-2
 returns-in_default-2 c =
@@ -98,12 +101,14 @@ loop-step-preserved c =
     let low : c.loop-step.at < c.args.self.now.items = omega (arith, item, node_low _ _ _ _ _ _ stand l i c.requires within) in
     let home = sym (get_or_read homes c.loop-step.at c.index-in-loop-step.result.now (omega (arith, low, stand.room)) c.index-in-loop-step.ensures None) in
     let is = home_here _ _ _ _ _ _ stand l i c.requires within in
-    let key : c.in-Some.home.key ≡ (get_or row i none).key = same_key c.in-Some.home l (get_or row i none).key (sym c.in-Some.is ∙ sym home ∙ ap (home_at homes) item ∙ is) in
+    let key : c.in-Some.home.key ≡ (get_or row i none).key = same_key c.in-Some.home l (get_or row i none).key
+    (sym c.in-Some.is ∙ sym home ∙ ap (home_at homes) item ∙ is) in
     let passes : leb (get_or row i none).key c.args.key ≡ true = let under = c.if-home-key.true in grind (arith, nat_tests, key, under) in
     let node : c.loop-step.at < length links = omega (arith, low, nodes_are _ links _ _ _ stand) in
     record {
       keys = place_step (λ (entry : Listed). leb entry.key c.args.key) row i within passes c.loop-step.invariant.keys;
-      node = next_read links c.loop-step.at c.index-in-Some.result.now node c.index-in-Some.ensures ∙ ap (λ (n : ℕ). get_or (nexts links) n 0) item ∙ node_next _ _ _ _ _ _ stand l i c.requires within;
+      node = next_read links c.loop-step.at c.index-in-Some.result.now node c.index-in-Some.ensures ∙ ap (λ (n : ℕ). get_or (nexts links) n 0) item ∙ node_next
+          _ _ _ _ _ _ stand l i c.requires within;
     }
 
 pub returns : goal.returns
@@ -116,4 +121,5 @@ returns c =
     let stand = seen_stand _ links homes _ _ c.self.view_is c.self.invariant in
     let end : c.index-step-end.result.now ≡ length row = read_length _ _ _ _ _ _ stand l c.requires c.index-step-end.result.now c.index-step-end.ensures in
     let past : length row ≤ i = omega (arith, end, c.loop-step-test.false) in
-    c.loop-step.invariant.node ∙ ap (λ (n : ℕ). first_or (c.args.self.now.items + l) (items_of (drop n row))) (place_end (λ (entry : Listed). leb entry.key c.args.key) row i past c.loop-step.invariant.keys)
+    c.loop-step.invariant.node ∙ ap (λ (n : ℕ). first_or (c.args.self.now.items + l) (items_of (drop n row)))
+    (place_end (λ (entry : Listed). leb entry.key c.args.key) row i past c.loop-step.invariant.keys)

@@ -8,6 +8,7 @@ use Rattle.index_lists.proofs.lists.Lists.place_of.Given as goal
 -- the keys so far are as low, and the node is that of the next place
 abbrev pub invariant-loop-step : goal.invariant-loop-step
 invariant-loop-step l = record {
-  keys : l._step + prefix_len (λ (entry : Listed). nat_le entry.key l.key) (drop l._step (list_at l.self l.list)) ≡ prefix_len (λ (entry : Listed). nat_le entry.key l.key) (list_at l.self l.list);
+  keys : l._step + prefix_len (λ (entry : Listed). nat_le entry.key l.key) (drop l._step (list_at l.self l.list)) ≡ prefix_len
+      (λ (entry : Listed). nat_le entry.key l.key) (list_at l.self l.list);
   node : l.at ≡ first_or (l.self.items + l.list) (items_of (drop l._step (list_at l.self l.list)));
 }

@@ -9,7 +9,8 @@ pub returns-clause-rest : goal.returns-clause-rest
 returns-clause-rest c =
     let stand = seen_stand _ _ _ _ _ c.self.view_is c.self.invariant in
     c.remove.ensures
-    ∙ ap (λ lists. record c.args.self.now { lists = lists }) (first_gone _ _ _ _ _ _ stand c.args.list c.requires c.in_ok-item.item (cc (c.in_ok-item.ensures.first)))
+    ∙ ap (λ lists. record c.args.self.now { lists = lists }) (first_gone _ _ _ _ _ _ stand c.args.list c.requires c.in_ok-item.item
+    (cc (c.in_ok-item.ensures.first)))
 
 pub returns-clause-free : goal.returns-clause-free
 returns-clause-free c =

@@ -38,11 +38,17 @@ overflow_sub-index_mut c =
     let stand = seen_stand _ _ homes lens _ c.self.view_is c.self.invariant in
     let home = sym (get_or_read homes c.args.item c.index.result.now (omega (arith, c.requires, stand.room)) c.index.ensures None) ∙ c.in-Some.is in
     let low : c.in-Some.home.list < length lens = omega (arith, stand.within c.args.item c.in-Some.home home, lens_length _ _ _ _ _ _ stand) in
-    omega (arith, get_or_read lens c.in-Some.home.list c.index_mut-in-Some.result.now low c.index_mut-in-Some.ensures.value 0, (went _ _ _ _ _ _ stand c.args.item c.in-Some.home home).2)
+    omega (
+      arith,
+      get_or_read lens c.in-Some.home.list c.index_mut-in-Some.result.now low c.index_mut-in-Some.ensures.value 0,
+      (went _ _ _ _ _ _ stand c.args.item c.in-Some.home home).2,
+    )
 
 -- the new fields stand for the lists without the item
-parted_from : (c : goal.After-self-in-Some-2-1) → StandFor c.self.inside.items (nexts (with_items c.self.inside.links c.unlink.new.links).items) (prevs (with_items c.self.inside.links c.unlink.new.links).items) (set c.self.inside.homes.items c.args.item None) (set c.self.inside.lens.items c.in-Some.home.list (c.index_mut-in-Some.result.now - 1)) (map (without_item c.args.item) c.args.self.now.lists)
-parted_from c =
+split_from : (c : goal.After-self-in-Some-2-1) → StandFor c.self.inside.items (nexts (with_items c.self.inside.links c.unlink.new.links).items)
+    (prevs (with_items c.self.inside.links c.unlink.new.links).items) (set c.self.inside.homes.items c.args.item None)
+    (set c.self.inside.lens.items c.in-Some.home.list (c.index_mut-in-Some.result.now - 1)) (map (without_item c.args.item) c.args.self.now.lists)
+split_from c =
     let links = c.self.inside.links.items in
     let homes = c.self.inside.homes.items in
     let lens = c.self.inside.lens.items in
@@ -53,15 +59,17 @@ parted_from c =
     let kept : length c.unlink.new.links ≡ c.self.inside.links.len = omega (arith, c.unlink.ensures.nodes, c.deref_mut.ensures.len) in
     let written = with_items_is c.self.inside.links c.unlink.new.links kept in
     let sized = ap (λ (view : ListsView). view.items) c.self.view_is in
-    rw (written, read, sized) (went_so _ links homes lens _ stand c.unlink.new.links c.args.item c.in-Some.home home (rw c.deref_mut.ensures.value at c.unlink.ensures.nexts) (rw c.deref_mut.ensures.value at c.unlink.ensures.prevs))
+    rw (written, read, sized) (went_so _ links homes lens _ stand c.unlink.new.links c.args.item c.in-Some.home home
+    (rw c.deref_mut.ensures.value at c.unlink.ensures.nexts) (rw c.deref_mut.ensures.value at c.unlink.ensures.prevs))
 
 pub invariant_of-self : goal.invariant_of-self
-invariant_of-self c = shaped _ (with_items c.self.inside.links c.unlink.new.links).items _ _ _ (parted_from c)
+invariant_of-self c = shaped _ (with_items c.self.inside.links c.unlink.new.links).items _ _ _ (split_from c)
 
 pub returns-in-Some : goal.returns-in-Some
 returns-in-Some c =
-    shows _ (with_items c.self.inside.links c.unlink.new.links).items _ _ _ (parted_from c)
-    ∙ ap (λ (n : ℕ). let seen : ListsView = record { items = n; lists = map (without_item c.args.item) c.args.self.now.lists } in seen) (ap (λ (view : ListsView). view.items) c.self.view_is)
+    shows _ (with_items c.self.inside.links c.unlink.new.links).items _ _ _ (split_from c)
+    ∙ ap (λ (n : ℕ). let seen : ListsView = record { items = n; lists = map (without_item c.args.item) c.args.self.now.lists } in seen)
+    (ap (λ (view : ListsView). view.items) c.self.view_is)
 
 pub returns-in_default : goal.returns-in_default
 returns-in_default c =

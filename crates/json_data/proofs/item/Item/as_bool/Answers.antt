@@ -1,4 +1,4 @@
-use Rattle.json_data.proofs.Places.{bool_at}
+use Rattle.json_data.proofs.Values.{bool_at}
 use Rattle.json_data.proofs.item.Item.as_bool.Goals as goal
 
 pub returns : goal.returns

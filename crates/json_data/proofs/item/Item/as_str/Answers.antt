@@ -1,4 +1,4 @@
-use Rattle.json_data.proofs.Places.{str_at}
+use Rattle.json_data.proofs.Values.{str_at}
 use Rattle.json_data.proofs.item.Item.as_str.Goals as goal
 
 pub returns : goal.returns

@@ -1,7 +1,7 @@
 use Rattle.std.proofs.Common.{None, Some, ◌∙◌, ap}
 use Rattle.std.specs.Prelude.{option_and_then}
 use Rattle.serde_json.specs.Find.{as_u64}
-use Rattle.json_data.proofs.Places.{number_at}
+use Rattle.json_data.proofs.Values.{number_at}
 use Rattle.json_data.proofs.item.Item.as_u64.Goals as goal
 
 pub returns-in-None : goal.returns-in-None

@@ -1,5 +1,5 @@
 use Rattle.std.proofs.Common.{Some, None}
-use Rattle.json_data.proofs.Places.{got}
+use Rattle.json_data.proofs.Values.{got}
 use Rattle.json_data.proofs.item.Item.get.Goals as goal
 
 pub invariant_of-result : goal.invariant_of-result

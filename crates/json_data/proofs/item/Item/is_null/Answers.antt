@@ -1,4 +1,4 @@
-use Rattle.json_data.proofs.Places.{null_at}
+use Rattle.json_data.proofs.Values.{null_at}
 use Rattle.json_data.proofs.item.Item.is_null.Goals as goal
 
 pub returns : goal.returns

@@ -4,4 +4,5 @@ use Rattle.json_data.proofs.Members.{known_where_none}
 use Rattle.json_data.proofs.object.Object.has_only.Goals as goal
 
 pub returns : goal.returns
-returns c = known_where_none (map (λ name. name.now) c.args.names.now) (members_view c.args.self.now) c.least_unknown.result c.is_none.result c.is_none.ensures c.least_unknown.ensures
+returns c = known_where_none (map (λ name. name.now) c.args.names.now) (members_view c.args.self.now) c.least_unknown.result c.is_none.result c.is_none.ensures
+    c.least_unknown.ensures

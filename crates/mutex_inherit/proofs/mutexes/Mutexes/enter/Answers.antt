@@ -9,18 +9,32 @@ insert_sorted-requires-clause-free c = free_seen _ _ _ c.self.inside.lists _ c.s
 
 pub invariant_of-self : goal.invariant_of-self
 invariant_of-self c =
-    let low : c.args.mutex < length c.self.inside.lists.lists = omega (arith, c.requires.mutex, c.self.invariant.each, ap (λ (view : MutexPart). length view.holders) c.self.view_is) in
+    let low : c.args.mutex < length c.self.inside.lists.lists = omega (
+      arith,
+      c.requires.mutex,
+      c.self.invariant.each,
+      ap
+          (λ (view : MutexPart). length view.holders) c.self.view_is,
+    ) in
     let below : c.args.priority < c.self.inside.priorities = omega (arith, c.requires.priority, ap (λ (view : MutexPart). view.priorities) c.self.view_is) in
     rw c.insert_sorted.ensures (record {
       few_mutexes = c.self.invariant.few_mutexes;
       held_by_tasks = c.self.invariant.held_by_tasks;
       items = c.self.invariant.items;
       each = length-set c.self.inside.lists.lists c.args.mutex _ ∙ c.self.invariant.each;
-      waiting = waiters_more c.self.inside.priorities c.args.mutex (record { item = c.args.task; key = c.self.inside.priorities - c.args.priority }) c.self.inside.lists.lists low (omega (arith, below), omega arith) c.self.invariant.waiting;
+      waiting = waiters_more c.self.inside.priorities c.args.mutex (record { item = c.args.task; key = c.self.inside.priorities - c.args.priority })
+          c.self.inside.lists.lists low (omega (arith, below), omega arith) c.self.invariant.waiting;
     })
 
 pub returns : goal.returns
 returns c =
-    let low : c.args.mutex < length c.self.inside.lists.lists = omega (arith, c.requires.mutex, c.self.invariant.each, ap (λ (view : MutexPart). length view.holders) c.self.view_is) in
+    let low : c.args.mutex < length c.self.inside.lists.lists = omega (
+      arith,
+      c.requires.mutex,
+      c.self.invariant.each,
+      ap
+          (λ (view : MutexPart). length view.holders) c.self.view_is,
+    ) in
     let below : c.args.priority < c.self.inside.priorities = omega (arith, c.requires.priority, ap (λ (view : MutexPart). view.priorities) c.self.view_is) in
-    rw c.insert_sorted.ensures (seen_enter _ _ _ c.self.inside.lists _ c.self.view_is c.args.task c.args.mutex c.args.priority low below c.self.invariant.waiting)
+    rw c.insert_sorted.ensures (seen_enter _ _ _ c.self.inside.lists _ c.self.view_is c.args.task c.args.mutex c.args.priority low below
+    c.self.invariant.waiting)

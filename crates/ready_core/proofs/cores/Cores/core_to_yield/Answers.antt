@@ -13,5 +13,12 @@ loop-core-preserved c =
 pub returns-clause-asked : goal.returns-clause-asked
 returns-clause-asked c =
     let control = c.args.self.now.control in
-    let all : c.loop-core.core ≡ length control.cores = omega (arith, c.loop-core-test.false, c.loop-core.auto.core-end, ap (λ (r : Range ℕ). r.end) c.core_numbers-core-end.ensures.numbers) in
-    best_is_asked control c.args.task (has_core c.args.among) c.loop-core.best (subst (λ n. IsBestBelow control c.args.task (has_core c.args.among) n c.loop-core.best) all c.loop-core.invariant)
+    let all : c.loop-core.core ≡ length control.cores = omega (
+      arith,
+      c.loop-core-test.false,
+      c.loop-core.auto.core-end,
+      ap (λ (r : Range ℕ). r.end)
+          c.core_numbers-core-end.ensures.numbers,
+    ) in
+    best_is_asked control c.args.task (has_core c.args.among) c.loop-core.best
+    (subst (λ n. IsBestBelow control c.args.task (has_core c.args.among) n c.loop-core.best) all c.loop-core.invariant)

@@ -16,7 +16,8 @@ invariant_of-self c =
     let old = c.index_mut.ensures.value ∙ look in
     rw (c.ask_where.ensures, c.from.ensures)
     (record {
-      shape = shape_looked _ _ _ _ _ _ c.self.invariant.shape core (cond c.shares_its_time-shares.result (asked_by 0 core c.index_mut.result.now) c.index_mut.result.now) low (asked_current c.shares_its_time-shares.result core c.index_mut.result.now ∙ ap (λ (at : CoreLook). at.current) old);
+      shape = shape_looked _ _ _ _ _ _ c.self.invariant.shape core (cond c.shares_its_time-shares.result (asked_by 0 core c.index_mut.result.now)
+          c.index_mut.result.now) low (asked_current c.shares_its_time-shares.result core c.index_mut.result.now ∙ ap (λ (at : CoreLook). at.current) old);
       flags = c.self.invariant.flags;
       marks = marks_asked _ _ c.self.invariant.marks c.self.invariant.shape.few_cores c.shares_its_time-shares.result core low c.index_mut.result.now old;
     })

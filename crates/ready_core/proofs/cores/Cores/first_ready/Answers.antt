@@ -25,4 +25,5 @@ returns-clause-once c =
     let p = c.args.priority in
     let low : p < c.self.inside.priorities = omega (arith, c.requires, ap (λ (v : CoresView). v.priorities) view) in
     let shown = ready_of control lists p c.self.inside.priorities c.self.invariant.shape.at_home low in
-    subst (λ (v : CoresView). IsListing (length v.control.tasks) (ready_list p v)) view (subst (λ xs. IsListing (length c.self.inside.tasks.items) xs) (sym shown) (c.self.invariant.shape.listings p low))
+    subst (λ (v : CoresView). IsListing (length v.control.tasks) (ready_list p v)) view
+    (subst (λ xs. IsListing (length c.self.inside.tasks.items) xs) (sym shown) (c.self.invariant.shape.listings p low))

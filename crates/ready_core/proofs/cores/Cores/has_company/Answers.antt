@@ -13,7 +13,8 @@ use Rattle.ready_core.proofs.Slices.{company}
 use Rattle.ready_core.proofs.cores.Cores.has_company.Goals as goal
 
 -- a ready task has company where its list has more than one
-with_company : (c : goal.After-len) → has c.args.task c.args.self.now.ready ≡ true → ltb 1 c.len.result ≡ ltb 1 (length (ready_in list_queues (task_at c.args.self.now.control c.args.task).in_use (bare_view c.args.self.now)))
+with_company : (c : goal.After-len) → has c.args.task c.args.self.now.ready ≡ true → ltb 1 c.len.result ≡ ltb 1
+    (length (ready_in list_queues (task_at c.args.self.now.control c.args.task).in_use (bare_view c.args.self.now)))
 with_company c ready =
     let now = c.args.self.now in
     let task = c.args.task in
@@ -24,8 +25,10 @@ with_company c ready =
     let r = c.in_use.result in
     let is : r ≡ rank now.control task = c.in_use.ensures.in_use in
     let low : r < n = omega (arith, c.in_use.ensures.below, ap (λ (v : CoresView). v.priorities) view) in
-    let shown : ready_list (rank now.control task) now ≡ tasks_of lists r = ap (λ p. ready_list p now) (sym is) ∙ ap (ready_list r) (sym view) ∙ ready_of control lists r n c.self.invariant.shape.at_home low in
-    let within = subst (λ (v : CoresView). AllByRecursion (λ t. t < length v.control.tasks) v.ready) view (tasks_low (length c.self.inside.tasks.items) lists n c.self.invariant.shape.listings) in
+    let shown : ready_list (rank now.control task) now ≡ tasks_of lists r = ap (λ p. ready_list p now) (sym is) ∙ ap (ready_list r) (sym view) ∙ ready_of
+    control lists r n c.self.invariant.shape.at_home low in
+    let within = subst (λ (v : CoresView). AllByRecursion (λ t. t < length v.control.tasks) v.ready) view
+    (tasks_low (length c.self.inside.tasks.items) lists n c.self.invariant.shape.listings) in
     ap (ltb 1) (c.len.ensures ∙ sym (length-map (row_at lists r) (λ (e : Listed). e.item)))
     ∙ sym (company now (tasks_of lists r) task shown (c.self.invariant.shape.listings r low).once within c.requires ready)
 

@@ -12,7 +12,12 @@ push_range-requires-clause-tasks c =
 
 pub push_range-requires-2-clause-tasks : goal.push_range-requires-2-clause-tasks
 push_range-requires-2-clause-tasks c =
-    omega (arith, ap (λ (v : CoresView). length v.control.tasks) c.push_range.ensures, ap (λ (v : CoresView). length v.control.tasks) c.in_ok-start.ensures, unlisted_tasks c.args.header.now)
+    omega (
+      arith,
+      ap (λ (v : CoresView). length v.control.tasks) c.push_range.ensures,
+      ap (λ (v : CoresView). length v.control.tasks) c.in_ok-start.ensures,
+      unlisted_tasks c.args.header.now,
+    )
 
 pub push_range-requires-2-clause-free : goal.push_range-requires-2-clause-free
 push_range-requires-2-clause-free c = λ t low high.
@@ -30,5 +35,6 @@ returns c =
     let header = c.args.header.now in
     let cores = header.config.cores in
     let users = length c.as_slice.result.now in
-    c.push_range-2.ensures ∙ ap (after (range_with_len 0 (cores - 0))) (c.push_range.ensures ∙ ap (after (range_with_len cores (cores + users - cores))) c.in_ok-start.ensures)
+    c.push_range-2.ensures ∙ ap (after (range_with_len 0 (cores - 0))) (c.push_range.ensures ∙ ap (after (range_with_len cores (cores + users - cores)))
+    c.in_ok-start.ensures)
     ∙ all_listed header users (ap length c.as_slice.ensures)

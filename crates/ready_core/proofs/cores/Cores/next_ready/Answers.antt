@@ -12,7 +12,8 @@ use Rattle.ready_core.proofs.cores.Cores.next_ready.Goals as goal
 
 pub next_listed-requires-clause-listed : goal.next_listed-requires-clause-listed
 next_listed-requires-clause-listed c =
-    sym (ready_listed c.self.inside.lists c.args.task c.self.inside.priorities c.self.invariant.shape.each) ∙ ap (λ (v : CoresView). has c.args.task v.ready) c.self.view_is ∙ c.requires.ready
+    sym (ready_listed c.self.inside.lists c.args.task c.self.inside.priorities c.self.invariant.shape.each) ∙ ap (λ (v : CoresView). has c.args.task v.ready)
+    c.self.view_is ∙ c.requires.ready
 
 pub returns-clause-next : goal.returns-clause-next
 returns-clause-next c = λ p k under here.
@@ -24,6 +25,11 @@ returns-clause-next c = λ p k under here.
     let shown = ready_of control lists p c.self.inside.priorities c.self.invariant.shape.at_home low ∙ refl in
     let seen = sym shown ∙ ap (ready_list p) view in
     let there = ap (λ xs. slice_get xs k) seen ∙ here in
-    let within : k < length (row_at lists p) = omega (arith, slice_get_within (tasks_of lists p) k task there, length-map (row_at lists p) (λ (e : Listed). e.item)) in
+    let within : k < length (row_at lists p) = omega (
+      arith,
+      slice_get_within (tasks_of lists p) k task there,
+      length-map (row_at lists p)
+          (λ (e : Listed). e.item),
+    ) in
     c.next_listed.ensures.place p k (omega (arith, low, c.self.invariant.shape.each)) within (get_or_from_slice_get (tasks_of lists p) k task 0 there)
     ∙ next_get (row_at lists p) k ∙ ap (λ xs. slice_get xs (k + 1)) seen

@@ -1,4 +1,5 @@
-use Rattle.std.proofs.Common.{◌≡◌, ℕ, zero, suc, ◌+◌, ◌<◌, Bool, true, false, eqb, cond, List, [], ◌∷◌, length, drop, get_or, Some, None, refl, ap, sym, ◌∙◌, arith}
+use Rattle.std.proofs.Common.{◌≡◌, ℕ, zero, suc, ◌+◌, ◌<◌, Bool, true, false, eqb, cond, List, [], ◌∷◌, length, drop, get_or, Some, None, refl, ap, sym, ◌∙◌}
+use Rattle.std.proofs.Common.{arith}
 use Rattle.std.specs.List.{find}
 use Rattle.std.proofs.lemmas.List.{drop_all, length-map}
 use Rattle.std.proofs.lemmas.List.Folds.{list_any_at}
@@ -42,8 +43,10 @@ returns-in_err-task-clause-first c =
     let p = c.args.priority in
     let passes = may_select c.args.self.now.control c.args.core in
     let low : p < c.self.inside.priorities = omega (arith, c.requires.priority, ap (λ (v : CoresView). v.priorities) view) in
-    let shown : ready_list p c.args.self.now ≡ tasks_of lists p = ap (ready_list p) (sym view) ∙ ready_of control lists p c.self.inside.priorities c.self.invariant.shape.at_home low in
-    c.from_residual.ensures ∙ headless passes (ready_list p c.args.self.now) (c.in_err-task.ensures.first ∙ head_first (row_at lists p) ∙ ap head_of (sym shown))
+    let shown : ready_list p c.args.self.now ≡ tasks_of lists p = ap (ready_list p) (sym view) ∙ ready_of control lists p c.self.inside.priorities
+    c.self.invariant.shape.at_home low in
+    c.from_residual.ensures ∙ headless passes (ready_list p c.args.self.now)
+    (c.in_err-task.ensures.first ∙ head_first (row_at lists p) ∙ ap head_of (sym shown))
 
 pub loop-place-init : goal.loop-place-init
 loop-place-init c =
@@ -51,7 +54,8 @@ loop-place-init c =
     let control = control_from c.self.inside.cores.items c.self.inside.tasks.items in
     let lists = c.self.inside.lists.lists in
     let low : c.args.priority < c.self.inside.priorities = omega (arith, c.requires.priority, ap (λ (v : CoresView). v.priorities) view) in
-    let shown : ready_list c.args.priority c.args.self.now ≡ tasks_of lists c.args.priority = ap (ready_list c.args.priority) (sym view) ∙ ready_of control lists c.args.priority c.self.inside.priorities c.self.invariant.shape.at_home low in
+    let shown : ready_list c.args.priority c.args.self.now ≡ tasks_of lists c.args.priority = ap (ready_list c.args.priority) (sym view) ∙ ready_of control
+    lists c.args.priority c.self.inside.priorities c.self.invariant.shape.at_home low in
     record {
       next = c.in_ok-task.ensures.first ∙ head_first (row_at lists c.args.priority) ∙ ap head_of (sym shown);
       first = refl;
@@ -67,10 +71,12 @@ next_listed-requires-clause-listed c =
     let i = c.loop-place._place in
     let task = c.loop-place.task in
     let low : p < c.self.inside.priorities = omega (arith, c.requires.priority, ap (λ (v : CoresView). v.priorities) view) in
-    let shown : ready_list p c.args.self.now ≡ tasks_of lists p = ap (ready_list p) (sym view) ∙ ready_of control lists p c.self.inside.priorities c.self.invariant.shape.at_home low in
+    let shown : ready_list p c.args.self.now ≡ tasks_of lists p = ap (ready_list p) (sym view) ∙ ready_of control lists p c.self.inside.priorities
+    c.self.invariant.shape.at_home low in
     let here = head_drop (ready_list p c.args.self.now) i task (sym c.loop-place.invariant.next) in
     let same : eqb (get_or (ready_list p c.args.self.now) i 0) task ≡ true = grind (arith, nat_tests, here.1) in
-    let among : has task (tasks_of lists p) ≡ true = ap (λ (xs : List ℕ). has task xs) (sym shown) ∙ list_any_at (λ (m : ℕ). eqb m task) (ready_list p c.args.self.now) i 0 here.0 same in
+    let among : has task (tasks_of lists p) ≡ true = ap (λ (xs : List ℕ). has task xs) (sym shown) ∙ list_any_at (λ (m : ℕ). eqb m task)
+    (ready_list p c.args.self.now) i 0 here.0 same in
     row_listed c.self.inside.lists task p c.self.inside.priorities c.self.invariant.shape.each low among
 
 pub returns-in_err-task-2-clause-first : goal.returns-in_err-task-2-clause-first
@@ -82,15 +88,24 @@ returns-in_err-task-2-clause-first c =
     let i = c.loop-place._place in
     let passes = may_select c.args.self.now.control c.args.core in
     let low : p < c.self.inside.priorities = omega (arith, c.requires.priority, ap (λ (v : CoresView). v.priorities) view) in
-    let shown : ready_list p c.args.self.now ≡ tasks_of lists p = ap (ready_list p) (sym view) ∙ ready_of control lists p c.self.inside.priorities c.self.invariant.shape.at_home low in
+    let shown : ready_list p c.args.self.now ≡ tasks_of lists p = ap (ready_list p) (sym view) ∙ ready_of control lists p c.self.inside.priorities
+    c.self.invariant.shape.at_home low in
     let here = head_drop (ready_list p c.args.self.now) i c.loop-place.task (sym c.loop-place.invariant.next) in
-    let within : i < length (row_at lists p) = omega (arith, here.0, ap (λ (xs : List ℕ). length xs) shown, length-map (row_at lists p) (λ (e : Listed). e.item)) in
+    let within : i < length (row_at lists p) = omega (
+      arith,
+      here.0,
+      ap (λ (xs : List ℕ). length xs) shown,
+      length-map (row_at lists p)
+          (λ (e : Listed). e.item),
+    ) in
     let one : suc i ≡ i + 1 = omega arith in
-    let after = c.in_err-task-2.ensures.place p i (omega (arith, low, c.self.invariant.shape.each)) within (ap (λ (xs : List ℕ). get_or xs i 0) (sym shown) ∙ here.1) in
+    let after = c.in_err-task-2.ensures.place p i (omega (arith, low, c.self.invariant.shape.each)) within
+    (ap (λ (xs : List ℕ). get_or xs i 0) (sym shown) ∙ here.1) in
     let fails : c.is_selectable.result ≡ false = grind (arith, c.if-is_selectable.false) in
     let past = passed passes c.loop-place.task (drop (i + 1) (ready_list p c.args.self.now)) (sym c.is_selectable.ensures ∙ fails) in
     c.from_residual-in_err-task-2.ensures
-    ∙ headless passes (drop (i + 1) (ready_list p c.args.self.now)) (after ∙ head_first (drop (i + 1) (row_at lists p)) ∙ ap head_of (drop_items (row_at lists p) (i + 1)) ∙ ap (λ (xs : List ℕ). head_of (drop (i + 1) xs)) (sym shown))
+    ∙ headless passes (drop (i + 1) (ready_list p c.args.self.now)) (after ∙ head_first (drop (i + 1) (row_at lists p)) ∙ ap head_of
+    (drop_items (row_at lists p) (i + 1)) ∙ ap (λ (xs : List ℕ). head_of (drop (i + 1) xs)) (sym shown))
     ∙ sym past ∙ ap (find passes) (sym (here.2 ∙ ap (λ k. c.loop-place.task ∷ drop k (ready_list p c.args.self.now)) one)) ∙ c.loop-place.invariant.first
 
 pub loop-place-preserved : goal.loop-place-preserved
@@ -102,15 +117,25 @@ loop-place-preserved c =
     let i = c.loop-place._place in
     let passes = may_select c.args.self.now.control c.args.core in
     let low : p < c.self.inside.priorities = omega (arith, c.requires.priority, ap (λ (v : CoresView). v.priorities) view) in
-    let shown : ready_list p c.args.self.now ≡ tasks_of lists p = ap (ready_list p) (sym view) ∙ ready_of control lists p c.self.inside.priorities c.self.invariant.shape.at_home low in
+    let shown : ready_list p c.args.self.now ≡ tasks_of lists p = ap (ready_list p) (sym view) ∙ ready_of control lists p c.self.inside.priorities
+    c.self.invariant.shape.at_home low in
     let here = head_drop (ready_list p c.args.self.now) i c.loop-place.task (sym c.loop-place.invariant.next) in
-    let within : i < length (row_at lists p) = omega (arith, here.0, ap (λ (xs : List ℕ). length xs) shown, length-map (row_at lists p) (λ (e : Listed). e.item)) in
+    let within : i < length (row_at lists p) = omega (
+      arith,
+      here.0,
+      ap (λ (xs : List ℕ). length xs) shown,
+      length-map (row_at lists p)
+          (λ (e : Listed). e.item),
+    ) in
     let one : suc i ≡ i + 1 = omega arith in
-    let after = c.in_ok-task-2.ensures.place p i (omega (arith, low, c.self.invariant.shape.each)) within (ap (λ (xs : List ℕ). get_or xs i 0) (sym shown) ∙ here.1) in
+    let after = c.in_ok-task-2.ensures.place p i (omega (arith, low, c.self.invariant.shape.each)) within
+    (ap (λ (xs : List ℕ). get_or xs i 0) (sym shown) ∙ here.1) in
     let fails : c.is_selectable.result ≡ false = grind (arith, c.if-is_selectable.false) in
     record {
-      next = after ∙ head_first (drop (i + 1) (row_at lists p)) ∙ ap head_of (drop_items (row_at lists p) (i + 1)) ∙ ap (λ (xs : List ℕ). head_of (drop (i + 1) xs)) (sym shown);
-      first = sym (passed passes c.loop-place.task (drop (i + 1) (ready_list p c.args.self.now)) (sym c.is_selectable.ensures ∙ fails)) ∙ ap (find passes) (sym (here.2 ∙ ap (λ k. c.loop-place.task ∷ drop k (ready_list p c.args.self.now)) one)) ∙ c.loop-place.invariant.first;
+      next = after ∙ head_first (drop (i + 1) (row_at lists p)) ∙ ap head_of (drop_items (row_at lists p) (i + 1)) ∙ ap
+          (λ (xs : List ℕ). head_of (drop (i + 1) xs)) (sym shown);
+      first = sym (passed passes c.loop-place.task (drop (i + 1) (ready_list p c.args.self.now)) (sym c.is_selectable.ensures ∙ fails)) ∙ ap (find passes)
+          (sym (here.2 ∙ ap (λ k. c.loop-place.task ∷ drop k (ready_list p c.args.self.now)) one)) ∙ c.loop-place.invariant.first;
       in_range = omega (arith, c.in_ok-task-2.ensures.item, c.self.invariant.shape.items, ap (λ (v : CoresView). length v.control.tasks) view);
     }
 
@@ -123,8 +148,10 @@ returns-clause-first c =
     let i = c.loop-place._place in
     let passes = may_select c.args.self.now.control c.args.core in
     let low : p < c.self.inside.priorities = omega (arith, c.requires.priority, ap (λ (v : CoresView). v.priorities) view) in
-    let shown : ready_list p c.args.self.now ≡ tasks_of lists p = ap (ready_list p) (sym view) ∙ ready_of control lists p c.self.inside.priorities c.self.invariant.shape.at_home low in
+    let shown : ready_list p c.args.self.now ≡ tasks_of lists p = ap (ready_list p) (sym view) ∙ ready_of control lists p c.self.inside.priorities
+    c.self.invariant.shape.at_home low in
     let sized = ap (λ (xs : List ℕ). length xs) shown in
     let end = length-map (row_at lists p) (λ (e : Listed). e.item) in
-    let none = drop_all i (ready_list p c.args.self.now) (omega (arith, sized, end, c.len-len.ensures, c.loop-place-test.false, c.loop-place.auto._place-end)) in
+    let none = drop_all i (ready_list p c.args.self.now) (omega (arith, sized, end, c.len-len.ensures, c.loop-place-test.false, c.loop-place.auto._place-end))
+    in
     ap (find passes) (sym none) ∙ c.loop-place.invariant.first

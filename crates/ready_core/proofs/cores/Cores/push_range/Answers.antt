@@ -16,9 +16,11 @@ loop-task-preserved c =
     let task = c.loop-task.task in
     let before = c.loop-task.self in
     let so_far = range_with_len c.args.from (task - c.args.from) in
-    let more = ap (λ (tasks : List ℕ). all_placed view.control tasks view.ready) (range_upto c.args.from task c.loop-task.auto.task) ∙ fold-append (λ (ready : List ℕ) (t : ℕ). placed (outranks view.control) t ready) view.ready so_far (task ∷ []) in
+    let more = ap (λ (tasks : List ℕ). all_placed view.control tasks view.ready) (range_upto c.args.from task c.loop-task.auto.task) ∙ fold-append
+    (λ (ready : List ℕ) (t : ℕ). placed (outranks view.control) t ready) view.ready so_far (task ∷ []) in
     record {
-      placed = c.push.ensures ∙ ap (λ (v : CoresView). record v { ready = placed (outranks v.control) task v.ready }) c.loop-task.invariant.placed ∙ ap (λ (ready : List ℕ). record view { ready = ready }) (sym more);
+      placed = c.push.ensures ∙ ap (λ (v : CoresView). record v { ready = placed (outranks v.control) task v.ready }) c.loop-task.invariant.placed ∙ ap
+          (λ (ready : List ℕ). record view { ready = ready }) (sym more);
       free = λ t low high.
           let there = list_any-placed (outranks before.control) (λ m. eqb m t) task before.ready in
           let absent = c.loop-task.invariant.free t (omega (arith, low)) high in

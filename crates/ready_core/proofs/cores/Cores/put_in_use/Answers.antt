@@ -16,9 +16,12 @@ invariant_of-self c =
     let view = c.self.view_is in
     let tasks = c.self.inside.tasks.items in
     let below : c.args.task < length tasks = omega (arith, c.requires.task, ap (λ (v : CoresView). length v.control.tasks) view) in
-    let kept = subst (λ (old : TaskControl). old.base < c.self.inside.priorities) (sym c.index_mut.ensures.value) (All-get_or (λ (old : TaskControl). old.base < c.self.inside.priorities) tasks c.args.task c.index_mut.result.now below c.self.invariant.shape.base) in
+    let kept = subst (λ (old : TaskControl). old.base < c.self.inside.priorities) (sym c.index_mut.ensures.value)
+    (All-get_or (λ (old : TaskControl). old.base < c.self.inside.priorities) tasks c.args.task c.index_mut.result.now below c.self.invariant.shape.base) in
     record {
-      shape = shape_changed _ _ tasks _ _ _ c.self.invariant.shape c.args.task (record c.index_mut.result.now { in_use = c.args.priority }) (omega (arith, c.requires.priority, ap (λ (v : CoresView). v.priorities) view)) kept (ap (λ (v : CoresView). has c.args.task v.ready) view ∙ c.requires.free);
+      shape = shape_changed _ _ tasks _ _ _ c.self.invariant.shape c.args.task (record c.index_mut.result.now { in_use = c.args.priority })
+          (omega (arith, c.requires.priority, ap (λ (v : CoresView). v.priorities) view)) kept
+          (ap (λ (v : CoresView). has c.args.task v.ready) view ∙ c.requires.free);
       flags = c.self.invariant.flags;
       marks = c.self.invariant.marks;
     }
@@ -34,5 +37,6 @@ returns c =
     let task = c.args.task in
     let below : task < length tasks = omega (arith, c.requires.task, ap (λ (v : CoresView). length v.control.tasks) view) in
     let block : c.index_mut.result.now ≡ task_at control task = c.index_mut.ensures.value ∙ get_or_default tasks task c.index_mut.result.now no_task below in
-    ap (λ (b : TaskControl). with_ready c.self.inside.priorities c.self.inside.slicing (with_task task (record b { in_use = c.args.priority }) control) (ready_below c.self.inside.lists.lists c.self.inside.priorities)) block
+    ap (λ (b : TaskControl). with_ready c.self.inside.priorities c.self.inside.slicing (with_task task (record b { in_use = c.args.priority }) control)
+    (ready_below c.self.inside.lists.lists c.self.inside.priorities)) block
     ∙ ap (λ (v : CoresView). record v { control = with_in_use task c.args.priority v.control }) view

@@ -15,23 +15,34 @@ last task view = record view { ready = placed (outranks view.control) task view.
 abbrev gone : ℕ → CoresView → CoresView
 gone task view = record view { ready = without task view.ready }
 
-set_ready : (task priority : ℕ) (view : CoresView) → has task view.ready ≡ true → last task (changed task priority (gone task view)) ≡ cores_rule (in_use_set list_queues task priority) view
+set_ready : (task priority : ℕ) (view : CoresView) → has task view.ready ≡ true → last task (changed task priority (gone task view)) ≡ cores_rule
+    (in_use_set list_queues task priority) view
 unfolding in_use_set add_to_ready_list
 set_ready task priority view ready =
     let control = with_in_use task priority view.control in
-    ap (λ b. cores_of (record (bare_view view) { control = control; orders = cond b (add_to_ready_list control task (bare_view view).orders) (bare_view view).orders })) (sym ready)
+    ap (λ b. cores_of (record (bare_view view) {
+      control = control;
+      orders = cond b (add_to_ready_list control task (bare_view view).orders)
+          (bare_view view).orders;
+    })) (sym ready)
 
-set_unready : (task priority : ℕ) (view : CoresView) → has task view.ready ≡ false → changed task priority view ≡ cores_rule (in_use_set list_queues task priority) view
+set_unready : (task priority : ℕ) (view : CoresView) → has task view.ready ≡ false → changed task priority view ≡ cores_rule
+    (in_use_set list_queues task priority) view
 unfolding in_use_set add_to_ready_list
 set_unready task priority view absent =
     let control = with_in_use task priority view.control in
-    ap (λ b. cores_of (record (bare_view view) { control = control; orders = cond b (add_to_ready_list control task (bare_view view).orders) (bare_view view).orders })) (sym absent)
+    ap (λ b. cores_of (record (bare_view view) {
+      control = control;
+      orders = cond b (add_to_ready_list control task (bare_view view).orders)
+          (bare_view view).orders;
+    })) (sym absent)
 
 pub put_in_use-requires-clause-free : goal.put_in_use-requires-clause-free
 put_in_use-requires-clause-free c = ap (λ (v : CoresView). has c.args.task v.ready) c.unready.ensures ∙ has-without c.args.task c.args.self.now.ready
 
 pub push-requires-clause-free : goal.push-requires-clause-free
-push-requires-clause-free c = ap (λ (v : CoresView). has c.args.task v.ready) (c.put_in_use.ensures ∙ ap (changed c.args.task c.args.priority) c.unready.ensures) ∙ has-without c.args.task c.args.self.now.ready
+push-requires-clause-free c = ap (λ (v : CoresView). has c.args.task v.ready)
+    (c.put_in_use.ensures ∙ ap (changed c.args.task c.args.priority) c.unready.ensures) ∙ has-without c.args.task c.args.self.now.ready
 
 pub returns-then-ready : goal.returns-then-ready
 returns-then-ready c =

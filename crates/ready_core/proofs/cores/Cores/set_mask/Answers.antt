@@ -18,7 +18,8 @@ invariant_of-self c =
     let below : task < length tasks = omega (arith, c.requires, ap (λ (v : CoresView). length v.control.tasks) c.self.view_is) in
     let block : old ≡ task_at (control_from c.self.inside.cores.items tasks) task = c.index_mut.ensures.value ∙ get_or_default tasks task old no_task below in
     record {
-      shape = shape_kept _ _ tasks _ _ _ c.self.invariant.shape task (record old { mask = c.cores_of_mask-cut.result }) below (ap (λ (b : TaskControl). b.in_use) block) (ap (λ (b : TaskControl). b.base) block);
+      shape = shape_kept _ _ tasks _ _ _ c.self.invariant.shape task (record old { mask = c.cores_of_mask-cut.result }) below
+          (ap (λ (b : TaskControl). b.in_use) block) (ap (λ (b : TaskControl). b.base) block);
       flags = c.self.invariant.flags;
       marks = c.self.invariant.marks;
     }

@@ -16,16 +16,26 @@ loop-rest-init c =
     let undue = c.self.inside.undue in
     let bit = λ (core : ℕ). c.self.invariant.marks.at_bit core in
     record {
-      so_far = slice_none c.args.self.now (λ core. not (is_set undue core)) (λ core low off. sym (ap (λ (v : CoresView). is_due v.control core) view) ∙ grind (arith, nat_tests, off, bit core, low, ap (λ (v : CoresView). length v.control.cores) view));
+      so_far = slice_none c.args.self.now (λ core. not (is_set undue core))
+          (λ core low off. sym (ap (λ (v : CoresView). is_due v.control core) view) ∙ grind
+          (arith, nat_tests, off, bit core, low, ap (λ (v : CoresView). length v.control.cores) view));
       left = λ core on.
-          let both = sym (bit core) ∙ on in
-          (grind (arith, nat_tests, both, ap (λ (v : CoresView). length v.control.cores) view), sym (ap (λ (v : CoresView). is_due v.control core) view) ∙ grind (arith, both));
+          let both = sym (bit core) ∙ on in (
+            grind (arith, nat_tests, both, ap (λ (v : CoresView). length v.control.cores) view),
+            sym (ap (λ (v : CoresView). is_due v.control core) view) ∙ grind
+                (arith, both),
+          );
     }
 
 pub end_slice-requires-clause-core : goal.end_slice-requires-clause-core
 end_slice-requires-clause-core c =
     let found = lowest_bit c.loop-rest.rest c.loop-rest-test.true (omega (arith, c.loop-rest.auto.rest-fits)) in
-    omega (arith, (c.loop-rest.invariant.left (trailing_zeros w32 c.loop-rest.rest) found.1).0, size_stays c.args.self.now c.loop-rest.self (λ core. not (is_set c.loop-rest.rest core)) c.loop-rest.invariant.so_far)
+    omega (
+      arith,
+      (c.loop-rest.invariant.left (trailing_zeros w32 c.loop-rest.rest) found.1).0,
+      size_stays c.args.self.now c.loop-rest.self
+          (λ core. not (is_set c.loop-rest.rest core)) c.loop-rest.invariant.so_far,
+    )
 
 pub end_slice-requires-clause-undue : goal.end_slice-requires-clause-undue
 end_slice-requires-clause-undue c =
@@ -45,11 +55,19 @@ loop-rest-preserved c =
     let found = lowest_bit rest c.loop-rest-test.true (omega (arith, c.loop-rest.auto.rest-fits)) in
     let core = trailing_zeros w32 rest in
     let left = c.loop-rest.invariant.left core found.1 in
-    let few : length c.args.self.now.control.cores ≤ 32 = omega (arith, c.self.invariant.shape.few_cores, ap (λ (v : CoresView). length v.control.cores) c.self.view_is) in
-    let far : (d : ℕ) → 32 ≤ d → is_set rest d ≡ false = λ d over. off_past rest d (length c.args.self.now.control.cores) (λ there. (c.loop-rest.invariant.left d there).0) (omega (arith, few, over)) in
-    let bits : (d : ℕ) → is_set (bit_and rest (bit_not w32 (1 * 2 ^ core % 4294967296))) d ≡ (not (eqb d core) && is_set rest d) = λ d. bit_cleared rest core d found.0 (far d) in
+    let few : length c.args.self.now.control.cores ≤ 32 = omega (
+      arith,
+      c.self.invariant.shape.few_cores,
+      ap (λ (v : CoresView). length v.control.cores)
+          c.self.view_is,
+    ) in
+    let far : (d : ℕ) → 32 ≤ d → is_set rest d ≡ false = λ d over. off_past rest d (length c.args.self.now.control.cores)
+    (λ there. (c.loop-rest.invariant.left d there).0) (omega (arith, few, over)) in
+    let bits : (d : ℕ) → is_set (bit_and rest (bit_not w32 (1 * 2 ^ core % 4294967296))) d ≡ (not (eqb d core) && is_set rest d) = λ d. bit_cleared rest core d
+    found.0 (far d) in
     record {
-      so_far = c.end_slice.ensures ∙ slice_more c.args.self.now c.loop-rest.self (λ d. not (is_set rest d)) (λ d. not (is_set (bit_and rest (bit_not w32 (1 * 2 ^ core % 4294967296))) d)) core left.0 c.loop-rest.invariant.so_far (ap not found.1)
+      so_far = c.end_slice.ensures ∙ slice_more c.args.self.now c.loop-rest.self (λ d. not (is_set rest d))
+          (λ d. not (is_set (bit_and rest (bit_not w32 (1 * 2 ^ core % 4294967296))) d)) core left.0 c.loop-rest.invariant.so_far (ap not found.1)
           (ap not (bits core) ∙ grind (arith, nat_tests)) (λ d apart. ap not (sym (bits d ∙ grind (arith, nat_tests, apart))));
       left = λ d there. c.loop-rest.invariant.left d (let both = sym (bits d) ∙ there in grind (arith, both));
     }

@@ -10,10 +10,20 @@ use Rattle.ready_core.proofs.cores.Cores.unlisted.Goals as goal
 
 pub invariant_of-result : goal.invariant_of-result
 invariant_of-result c =
-    rw (c.in_ok-first_looks.ensures, c.in_ok-first_controls.ensures, c.in_ok-new.ensures, c.in_ok-first_seats.ensures, c.in_ok-none_waiting.ensures, c.as_slice.ensures, c.cores_of_mask.ensures, all_bits c.args.header.now.config.cores (checked_header c.args.header.now c.requires).few_cores)
+    rw (
+      c.in_ok-first_looks.ensures,
+      c.in_ok-first_controls.ensures,
+      c.in_ok-new.ensures,
+      c.in_ok-first_seats.ensures,
+      c.in_ok-none_waiting.ensures,
+      c.as_slice.ensures,
+      c.cores_of_mask.ensures,
+      all_bits c.args.header.now.config.cores (checked_header c.args.header.now c.requires).few_cores,
+    )
     (record {
       shape = first_shape c.args.header.now (checked_header c.args.header.now c.requires);
-      flags = first_flags _ _ _ (length-map-range_with_len (first_seat c.args.header.now.config.cores) 0 (c.args.header.now.config.cores + length c.args.header.now.tasks));
+      flags = first_flags _ _ _ (length-map-range_with_len (first_seat c.args.header.now.config.cores) 0
+          (c.args.header.now.config.cores + length c.args.header.now.tasks));
       marks = first_marks c.args.header.now.config.cores (checked_header c.args.header.now c.requires).few_cores;
     })
 

@@ -18,8 +18,13 @@ invariant_of-self c =
     let sized = length-map (row_at rest r) (λ (e : Listed). e.item) ∙ ap (λ (v : ListsView). length (list_at v r)) (sym c.remove.ensures) ∙ sym c.len.ensures in
     rw c.remove.ensures
     (record {
-      shape = shape_emptied _ _ _ _ _ _ c.self.invariant.shape c.args.task r (c.in_use-priority.ensures.in_use ∙ ap (λ (v : CoresView). rank v.control c.args.task) (sym view)) (omega (arith, c.in_use-priority.ensures.below, ap (λ (v : CoresView). v.priorities) view)) (sized ∙ c.if-len-eq0.true);
-      flags = flags_left _ _ _ _ c.self.invariant.flags c.args.task _ (omega (arith, c.requires, ap (λ (v : CoresView). length v.control.tasks) view, c.self.invariant.shape.seated)) (λ s. ap (has s) (ready_without c.self.inside.lists.lists c.args.task c.self.inside.priorities) ∙ has-filter (λ m. not (eqb m c.args.task)) s (ready_below c.self.inside.lists.lists c.self.inside.priorities));
+      shape = shape_emptied _ _ _ _ _ _ c.self.invariant.shape c.args.task r
+          (c.in_use-priority.ensures.in_use ∙ ap (λ (v : CoresView). rank v.control c.args.task) (sym view))
+          (omega (arith, c.in_use-priority.ensures.below, ap (λ (v : CoresView). v.priorities) view)) (sized ∙ c.if-len-eq0.true);
+      flags = flags_left _ _ _ _ c.self.invariant.flags c.args.task _ (omega
+          (arith, c.requires, ap (λ (v : CoresView). length v.control.tasks) view, c.self.invariant.shape.seated))
+          (λ s. ap (has s) (ready_without c.self.inside.lists.lists c.args.task c.self.inside.priorities) ∙ has-filter (λ m. not (eqb m c.args.task)) s
+          (ready_below c.self.inside.lists.lists c.self.inside.priorities));
       marks = c.self.invariant.marks;
     })
 
@@ -32,8 +37,13 @@ invariant_of-self-else-len-eq0 c =
     let some : length (tasks_of rest r) ≢ 0 = λ none. c.if-len-eq0.false (sym sized ∙ none) in
     rw c.remove.ensures
     (record {
-      shape = shape_left _ _ _ _ _ _ c.self.invariant.shape c.args.task r (c.in_use-priority.ensures.in_use ∙ ap (λ (v : CoresView). rank v.control c.args.task) (sym view)) (omega (arith, c.in_use-priority.ensures.below, ap (λ (v : CoresView). v.priorities) view)) some;
-      flags = flags_left _ _ _ _ c.self.invariant.flags c.args.task _ (omega (arith, c.requires, ap (λ (v : CoresView). length v.control.tasks) view, c.self.invariant.shape.seated)) (λ s. ap (has s) (ready_without c.self.inside.lists.lists c.args.task c.self.inside.priorities) ∙ has-filter (λ m. not (eqb m c.args.task)) s (ready_below c.self.inside.lists.lists c.self.inside.priorities));
+      shape = shape_left _ _ _ _ _ _ c.self.invariant.shape c.args.task r
+          (c.in_use-priority.ensures.in_use ∙ ap (λ (v : CoresView). rank v.control c.args.task) (sym view))
+          (omega (arith, c.in_use-priority.ensures.below, ap (λ (v : CoresView). v.priorities) view)) some;
+      flags = flags_left _ _ _ _ c.self.invariant.flags c.args.task _ (omega
+          (arith, c.requires, ap (λ (v : CoresView). length v.control.tasks) view, c.self.invariant.shape.seated))
+          (λ s. ap (has s) (ready_without c.self.inside.lists.lists c.args.task c.self.inside.priorities) ∙ has-filter (λ m. not (eqb m c.args.task)) s
+          (ready_below c.self.inside.lists.lists c.self.inside.priorities));
       marks = c.self.invariant.marks;
     })
 

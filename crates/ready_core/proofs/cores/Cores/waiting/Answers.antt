@@ -9,5 +9,6 @@ use Rattle.ready_core.proofs.cores.Cores.waiting.Goals as goal
 pub returns : goal.returns
 returns c =
     let shape = c.self.invariant.shape in
-    c.as_slice.ensures.value ∙ flags_shown _ _ _ _ c.self.invariant.flags (control_from c.self.inside.cores.items c.self.inside.tasks.items) _ refl shape.seated (λ t low. shape.at_core t (omega (arith, low, shape.seated)))
+    c.as_slice.ensures.value ∙ flags_shown _ _ _ _ c.self.invariant.flags (control_from c.self.inside.cores.items c.self.inside.tasks.items) _ refl shape.seated
+    (λ t low. shape.at_core t (omega (arith, low, shape.seated)))
     ∙ ap (λ (v : CoresView). map (wants_core v) (numbers (length v.control.tasks))) c.self.view_is

@@ -11,4 +11,6 @@ returns-in-Ok-clause-kept c =
     let entries = c.in-Ok.entries in
     let kernel = c.in_ok-kernel.kernel in
     subst (λ (h : Header). IsRecording h entries.items c.args.limit (vec_capacity entries) kernel) (sym c.in-Ok.ensures.header)
-    (start_is_recording c.args.header.now entries.items c.args.limit (vec_capacity entries) kernel (no_fault (header_check c.args.header.now) (λ fault. let bad = c.in_ok-kernel.ensures.bad_header.1 fault in cc bad)) c.in_ok-kernel.ensures.started c.in_ok-kernel.ensures.shape c.in-Ok.ensures.empty c.in-Ok.ensures.room)
+    (start_is_recording c.args.header.now entries.items c.args.limit (vec_capacity entries) kernel
+    (no_fault (header_check c.args.header.now) (λ fault. let bad = c.in_ok-kernel.ensures.bad_header.1 fault in cc bad)) c.in_ok-kernel.ensures.started
+    c.in_ok-kernel.ensures.shape c.in-Ok.ensures.empty c.in-Ok.ensures.room)

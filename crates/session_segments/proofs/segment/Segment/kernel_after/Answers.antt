@@ -10,4 +10,5 @@ pub advance-requires : goal.advance-requires
 advance-requires g c =
     let inside = c.self.inside in
     let lent = subst (All (IsCheckedStep inside.kernel.settings)) (sym c.deref.ensures.value) c.self.invariant.0.checked in
-    subst (λ (settings : Settings). All (IsCheckedStep settings) (take c.args.count c.deref.result.now)) (sym (ap (λ (v : View). v.settings) c.in_ok-kernel.ensures)) (All-take (IsCheckedStep inside.kernel.settings) c.args.count c.deref.result.now lent)
+    subst (λ (settings : Settings). All (IsCheckedStep settings) (take c.args.count c.deref.result.now))
+    (sym (ap (λ (v : View). v.settings) c.in_ok-kernel.ensures)) (All-take (IsCheckedStep inside.kernel.settings) c.args.count c.deref.result.now lent)

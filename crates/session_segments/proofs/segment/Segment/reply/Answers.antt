@@ -11,4 +11,6 @@ pub returns : goal.returns
 returns c =
     let inside = c.self.inside in
     subst (λ (v : SegmentView). (table : Table) → StandsFor v.kernel table → c.reply_at.result ≡ reply_after table v.steps c.args.index) c.self.view_is
-    (λ table stands. c.reply_at.ensures ∙ ap (λ (rs : List Reply). slice_get rs c.args.index) c.as_slice.ensures.value ∙ kept_reply inside.kernel inside.steps.items inside.kept.replies.items inside.kept.currents.items inside.kept.tallies c.self.invariant.0 c.self.invariant.2.0 table c.args.index stands)
+    (λ table stands. c.reply_at.ensures ∙ ap (λ (rs : List Reply). slice_get rs c.args.index) c.as_slice.ensures.value ∙ kept_reply inside.kernel
+    inside.steps.items inside.kept.replies.items inside.kept.currents.items inside.kept.tallies c.self.invariant.0 c.self.invariant.2.0 table c.args.index
+    stands)

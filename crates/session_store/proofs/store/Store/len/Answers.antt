@@ -13,7 +13,8 @@ counted g c =
     let index = c.locate-index.result.0 in
     let from = c.locate-index.result.1 in
     let segment = c.index-as_slice-index.result in
-    let found = lent_at inside.segments c.as_slice.result.now index segment c.as_slice.ensures.segments c.locate-index.ensures.within c.index-as_slice-index.is in
+    let found = lent_at inside.segments c.as_slice.result.now index segment c.as_slice.ensures.segments c.locate-index.ensures.within c.index-as_slice-index.is
+    in
     ap (λ (steps : List Step). from + length steps) c.steps.ensures.steps
     ∙ sym (steps_end inside.header inside.span inside.segments c.self.invariant max_steps index from segment c.locate-index.ensures.index found (omega arith))
 

@@ -11,8 +11,14 @@ update_row-requires-clause-within c =
     let inside = c.self.inside in
     let index = c.locate-index.result.0 in
     let segment = c.index-as_slice-index.result in
-    let found = lent_at inside.segments c.as_slice.result.now index segment c.as_slice.ensures.segments c.locate-index.ensures.within c.index-as_slice-index.is in
-    let early : c.args.i < length (all_steps inside.segments) = omega (arith, c.requires.within, ap (λ (kept : CheckpointedSession). length kept.session.steps) c.self.view_is) in
+    let found = lent_at inside.segments c.as_slice.result.now index segment c.as_slice.ensures.segments c.locate-index.ensures.within c.index-as_slice-index.is
+    in
+    let early : c.args.i < length (all_steps inside.segments) = omega (
+      arith,
+      c.requires.within,
+      ap (λ (kept : CheckpointedSession). length kept.session.steps)
+          c.self.view_is,
+    ) in
     early_own inside.header inside.span inside.segments c.self.invariant c.args.i index c.locate-index.result.1 segment c.locate-index.ensures.index found early
 
 pub update_row-requires-clause-cores : goal.update_row-requires-clause-cores
@@ -20,9 +26,12 @@ update_row-requires-clause-cores c =
     let inside = c.self.inside in
     let index = c.locate-index.result.0 in
     let segment = c.index-as_slice-index.result in
-    let found = lent_at inside.segments c.as_slice.result.now index segment c.as_slice.ensures.segments c.locate-index.ensures.within c.index-as_slice-index.is in
-    let runs = subst (λ (kept : CheckpointedSession). running_at kept.session.header kept.session.steps c.args.i ≡ Some c.args.row.now) (sym c.self.view_is) c.requires.row in
-    row_cores inside.header inside.span inside.segments c.self.invariant c.args.i index c.locate-index.result.1 segment c.locate-index.ensures.index found c.args.row.now runs
+    let found = lent_at inside.segments c.as_slice.result.now index segment c.as_slice.ensures.segments c.locate-index.ensures.within c.index-as_slice-index.is
+    in
+    let runs = subst (λ (kept : CheckpointedSession). running_at kept.session.header kept.session.steps c.args.i ≡ Some c.args.row.now) (sym c.self.view_is)
+    c.requires.row in
+    row_cores inside.header inside.span inside.segments c.self.invariant c.args.i index c.locate-index.result.1 segment c.locate-index.ensures.index found
+    c.args.row.now runs
 
 pub returns-clause-row : goal.returns-clause-row
 returns-clause-row c =
@@ -30,11 +39,20 @@ returns-clause-row c =
     let index = c.locate-index.result.0 in
     let from = c.locate-index.result.1 in
     let segment = c.index-as_slice-index.result in
-    let found = lent_at inside.segments c.as_slice.result.now index segment c.as_slice.ensures.segments c.locate-index.ensures.within c.index-as_slice-index.is in
-    let early : c.args.i < length (all_steps inside.segments) = omega (arith, c.requires.within, ap (λ (kept : CheckpointedSession). length kept.session.steps) c.self.view_is) in
-    let runs = subst (λ (kept : CheckpointedSession). running_at kept.session.header kept.session.steps c.args.i ≡ Some c.args.row.now) (sym c.self.view_is) c.requires.row in
+    let found = lent_at inside.segments c.as_slice.result.now index segment c.as_slice.ensures.segments c.locate-index.ensures.within c.index-as_slice-index.is
+    in
+    let early : c.args.i < length (all_steps inside.segments) = omega (
+      arith,
+      c.requires.within,
+      ap (λ (kept : CheckpointedSession). length kept.session.steps)
+          c.self.view_is,
+    ) in
+    let runs = subst (λ (kept : CheckpointedSession). running_at kept.session.header kept.session.steps c.args.i ≡ Some c.args.row.now) (sym c.self.view_is)
+    c.requires.row in
     let reads = read_at inside.header inside.span inside.segments c.self.invariant c.args.i index from segment c.locate-index.ensures.index found in
-    let here = row_here inside.header inside.span inside.segments c.self.invariant c.args.i index from segment c.locate-index.ensures.index found c.args.row.now runs in
+    let here = row_here inside.header inside.span inside.segments c.self.invariant c.args.i index from segment c.locate-index.ensures.index found c.args.row.now
+    runs in
     let next = c.update_row.ensures.row (state_at inside.header (all_steps inside.segments) from) reads.stands here in
     subst (λ (kept : CheckpointedSession). running_at kept.session.header kept.session.steps (suc c.args.i) ≡ Some c.update_row.new.row) c.self.view_is
-    (row_own inside.header inside.span inside.segments c.self.invariant c.args.i index from segment c.locate-index.ensures.index found c.update_row.new.row early next)
+    (row_own inside.header inside.span inside.segments c.self.invariant c.args.i index from segment c.locate-index.ensures.index found c.update_row.new.row
+    early next)

@@ -7,5 +7,7 @@ pub returns-in_ok-push_others-in-len1-up : goal.returns-in_ok-push_others-in-len
 returns-in_ok-push_others-in-len1-up c =
     let words = c.args.words.now in
     let others = flat_map (λ (word : Bor (List ℕ)). codes ", " ++ word.now) (take (length words - 1) (drop 1 words)) in
-    let first = c.in_ok-push_str-in-len1-up.ensures.bytes ∙ ap (λ (text : List ℕ). text ++ (get_or words 0 (record { ref_ptr = (0, 0); now = [] })).now) c.new-text.ensures.bytes in
-    c.in_ok-push_others-in-len1-up.ensures ∙ ap (λ (text : List ℕ). text ++ others) first ∙ listed_some words (record { ref_ptr = (0, 0); now = [] }) c.in-len1-up.len_at_least
+    let first = c.in_ok-push_str-in-len1-up.ensures.bytes ∙ ap (λ (text : List ℕ). text ++ (get_or words 0 (record { ref_ptr = (0, 0); now = [] })).now)
+    c.new-text.ensures.bytes in
+    c.in_ok-push_others-in-len1-up.ensures ∙ ap (λ (text : List ℕ). text ++ others) first ∙ listed_some words (record { ref_ptr = (0, 0); now = [] })
+    c.in-len1-up.len_at_least

@@ -21,5 +21,13 @@ loop-task-preserved c =
 
 pub invariant_of-result : goal.invariant_of-result
 invariant_of-result c =
-    let limits = checked_header c.args.header.now c.requires in
-    (limits.few_cores, omega (arith, few_keys c.as_slice-task-items.result.now c.loop-task.task-index c.loop-task.names.keys c.loop-task.invariant, ap length c.as_slice-task-items.ensures, limits.few_tasks))
+    let limits = checked_header c.args.header.now c.requires in (
+      limits.few_cores,
+      omega (
+        arith,
+        few_keys c.as_slice-task-items.result.now c.loop-task.task-index c.loop-task.names.keys c.loop-task.invariant,
+        ap length
+            c.as_slice-task-items.ensures,
+        limits.few_tasks,
+      ),
+    )

@@ -9,8 +9,8 @@ pub make-requires : goal.make-requires
 make-requires c = let way = c.requires.way in piece_passes way.0 c.args.steps.now c.args.self.now way.1 c.args.step (c.requires.next way.0 way.1)
 
 pub returns-in_err-make-clause-long : goal.returns-in_err-make-clause-long
-returns-in_err-make-clause-long c told header here =
-    let given = rw told at c.from_residual.ensures.1 in
+returns-in_err-make-clause-long c known header here =
+    let given = rw known at c.from_residual.ensures.1 in
     let full : max_steps ≤ length c.args.self.now.run.items = c.in_err-make.ensures.full (cc (given)) in
     piece_too_long header c.args.steps.now c.args.self.now here c.args.step (c.requires.next header here) full
 

@@ -9,8 +9,8 @@ new-requires c =
     let tasks = ap (λ (settings : Settings). settings.tasks) (c.settings.ensures.settings ∙ c.in-Ok.ensures.shape) in
     callers_low c.args.header.now c.args.steps.now c.settings.result.tasks c.requires (sym tasks)
 
-pub returns-clause-begun : goal.returns-clause-begun
-returns-clause-begun c =
+pub returns-clause-entered : goal.returns-clause-entered
+returns-clause-entered c =
     let tasks = ap (λ (settings : Settings). settings.tasks) (c.settings.ensures.settings ∙ c.in-Ok.ensures.shape) in
     at_start c.args.header.now c.args.steps.now _ c.requires c.in-Ok.ensures.started refl
     (subst (λ tasks. AreQueues c.args.steps.now 0 tasks c.in_ok-queues.queues.heads.items c.in_ok-queues.queues.next.items) tasks c.in_ok-queues.ensures)

@@ -16,8 +16,8 @@ loop-step-smaller c =
     omega (arith, c.in_ok-piece.ensures.grows, there.room)
 
 pub returns-in_err-piece-clause-long : goal.returns-in_err-piece-clause-long
-returns-in_err-piece-clause-long c told header here =
-    let given = rw told at c.from_residual.ensures.1 in c.in_err-piece.ensures.long (cc (given)) header (c.loop-step.invariant.0 header here)
+returns-in_err-piece-clause-long c known header here =
+    let given = rw known at c.from_residual.ensures.1 in c.in_err-piece.ensures.long (cc (given)) header (c.loop-step.invariant.0 header here)
 
 pub returns-clause-rests : goal.returns-clause-rests
 returns-clause-rests c header here =
@@ -27,7 +27,8 @@ returns-clause-rests c header here =
 pub returns-in_err-piece-clause-some : goal.returns-in_err-piece-clause-some
 returns-in_err-piece-clause-some c = on_err c.from_residual.result (λ first counted.
     let way = c.requires in
-    few_counted way.0 c.args.steps.now c.loop-step.self (c.loop-step.invariant.0 way.0 way.1) first c.piece.new.meter (c.in_err-piece.ensures.uncounted ∙ c.loop-step.invariant.2 first counted))
+    few_counted way.0 c.args.steps.now c.loop-step.self (c.loop-step.invariant.0 way.0 way.1) first c.piece.new.meter
+    (c.in_err-piece.ensures.uncounted ∙ c.loop-step.invariant.2 first counted))
 
 pub returns-clause-counted : goal.returns-clause-counted
 returns-clause-counted c first counted = c.loop-step.invariant.2 first counted

@@ -13,5 +13,6 @@ returns-clause-asked c =
     let control = c.args.self.now.control in
     let n = length control.cores in
     let test = is_best (λ d. may_go control c.args.task c.args.lost d && is_preemptible_by control c.args.task d) (yields_first control) (numbers n) in
-    let found = find_from_yields_List test _ _ c.find.result c.find.ensures.ran (YieldsList-from_range 0 n n c.core_numbers.ensures.numbers (omega arith)) (λ x b q k. search (rules, tests)) in
+    let found = find_from_yields_List test _ _ c.find.result c.find.ensures.ran (YieldsList-from_range 0 n n c.core_numbers.ensures.numbers (omega arith))
+    (λ x b q k. search (rules, tests)) in
     sym (option_map_id c.find.result) ∙ found

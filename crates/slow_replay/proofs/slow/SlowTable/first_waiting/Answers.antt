@@ -13,5 +13,6 @@ returns-clause-first c =
     let stamps = c.args.self.now.orders in
     let n = length stamps.rows in
     let test = is_best (λ i. waits_at c.args.mutex (row_at stamps i).standing) (waits_before stamps) (tasks_of stamps) in
-    let found = find_from_yields_List test _ _ c.find.result c.find.ensures.ran (YieldsList-from_range 0 n n c.task_numbers.ensures.numbers (omega arith)) (λ x b q k. search (rules, tests)) in
+    let found = find_from_yields_List test _ _ c.find.result c.find.ensures.ran (YieldsList-from_range 0 n n c.task_numbers.ensures.numbers (omega arith))
+    (λ x b q k. search (rules, tests)) in
     ap (option_map (waiter_of stamps)) (sym (option_map_id c.find.result) ∙ found)

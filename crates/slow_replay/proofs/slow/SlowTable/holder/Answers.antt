@@ -11,5 +11,6 @@ pub returns-clause-task : goal.returns-clause-task
 returns-clause-task c =
     let mutexes = ap (λ (t : Table). t.settings.mutexes) c.self.view_is in
     let rows = ap (λ (t : Table). length t.orders.rows) c.self.view_is in
-    let there = c.index.ensures ∙ get_or_default c.self.inside.holders.items c.args.mutex c.index.result.now None (omega (arith, mutexes, c.requires, c.self.invariant.holders)) in
+    let there = c.index.ensures ∙ get_or_default c.self.inside.holders.items c.args.mutex c.index.result.now None
+    (omega (arith, mutexes, c.requires, c.self.invariant.holders)) in
     if_below c.index.result.now _ (λ task held. omega (arith, c.self.invariant.held_by_tasks c.args.mutex task (sym there ∙ held), c.self.invariant.rows, rows))

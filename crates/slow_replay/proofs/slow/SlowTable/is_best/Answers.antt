@@ -10,5 +10,6 @@ returns-then-can_select c =
     let table = c.args.self.now in
     let n = length table.orders.rows in
     let others = λ (j : ℕ). not (is_ready j table.orders && may_select table.control c.args.core j) || goes_before table.control table.orders c.args.task j in
-    let all = all_from_yields_List others _ _ c.all.result c.all.ensures.ran (YieldsList-from_range 0 n n c.task_numbers.ensures.numbers (omega arith)) (λ x b q k. search (rules, tests)) in
+    let all = all_from_yields_List others _ _ c.all.result c.all.ensures.ran (YieldsList-from_range 0 n n c.task_numbers.ensures.numbers (omega arith))
+    (λ x b q k. search (rules, tests)) in
     grind (arith, all, c.can_select.ensures, c.if-can_select.true)

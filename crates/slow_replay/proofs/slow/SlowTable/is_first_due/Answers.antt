@@ -9,5 +9,6 @@ returns-then-is_due_now c =
     let stamps = c.args.self.now.orders in
     let n = length stamps.rows in
     let others = λ (j : ℕ). not (wakes_at stamps.tick (row_at stamps j).standing) || leb (stamp_of stamps c.args.task) (stamp_of stamps j) in
-    let all = all_from_yields_List others _ _ c.all.result c.all.ensures.ran (YieldsList-from_range 0 n n c.task_numbers.ensures.numbers (omega arith)) (λ x b q k. search (rules, tests)) in
+    let all = all_from_yields_List others _ _ c.all.result c.all.ensures.ran (YieldsList-from_range 0 n n c.task_numbers.ensures.numbers (omega arith))
+    (λ x b q k. search (rules, tests)) in
     grind (arith, all, c.is_due_now.ensures, c.if-is_due_now.true)

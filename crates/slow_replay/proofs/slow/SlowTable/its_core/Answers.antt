@@ -10,5 +10,6 @@ unfolding runs_on
 returns-clause-core c =
     let control = c.args.self.now.control in
     let n = length control.cores in
-    let found = find_from_yields_List (λ core. eqb (current control core) c.args.task && not (core_at control core).asked) _ _ c.find.result c.find.ensures.ran (YieldsList-from_range 0 n n c.core_numbers.ensures.numbers (omega arith)) (λ x b q k. search (rules, tests)) in
+    let found = find_from_yields_List (λ core. eqb (current control core) c.args.task && not (core_at control core).asked) _ _ c.find.result c.find.ensures.ran
+    (YieldsList-from_range 0 n n c.core_numbers.ensures.numbers (omega arith)) (λ x b q k. search (rules, tests)) in
     sym (option_map_id c.find.result) ∙ found

@@ -12,6 +12,8 @@ unfolding pick best
 returns-clause-picked c =
     let table = c.args.self.now in
     let n = length table.orders.rows in
-    let test = is_best (λ i. is_ready i table.orders && may_select table.control c.args.core i) (goes_before table.control table.orders) (tasks_of table.orders) in
-    let found = find_from_yields_List test _ _ c.find.result c.find.ensures.ran (YieldsList-from_range 0 n n c.task_numbers.ensures.numbers (omega arith)) (λ x b q k. search (rules, tests)) in
+    let test = is_best (λ i. is_ready i table.orders && may_select table.control c.args.core i) (goes_before table.control table.orders) (tasks_of table.orders)
+    in
+    let found = find_from_yields_List test _ _ c.find.result c.find.ensures.ran (YieldsList-from_range 0 n n c.task_numbers.ensures.numbers (omega arith))
+    (λ x b q k. search (rules, tests)) in
     sym (option_map_id c.find.result) ∙ found

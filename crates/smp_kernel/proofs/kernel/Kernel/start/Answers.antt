@@ -8,8 +8,14 @@ use Rattle.smp_kernel.proofs.kernel.Kernel.start.Goals as goal
 
 pub invariant_of-result : goal.invariant_of-result
 invariant_of-result c =
-    let passes : header_check c.args.header.now ≡ Ok tt = search rules in
-    (start c.args.header.now, record { sound = start_sound c.args.header.now passes; shows = start_seen_lem c.args.header.now passes ∙ sym c.in_ok-scheduler.ensures })
+    let passes : header_check c.args.header.now ≡ Ok tt = search rules in (
+      start c.args.header.now,
+      record {
+        sound = start_sound c.args.header.now passes;
+        shows = start_seen_lem c.args.header.now passes ∙ sym
+            c.in_ok-scheduler.ensures;
+      },
+    )
 
 pub returns-clause-started : goal.returns-clause-started
 returns-clause-started c =

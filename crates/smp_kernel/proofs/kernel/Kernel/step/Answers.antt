@@ -10,16 +10,23 @@ step-reply-requires-clause-settled c = settled_of c.self.inside.scheduler c.self
 
 pub invariant_of-self : goal.invariant_of-self
 invariant_of-self c =
-    let stands = stands_after c.args.self.now c.step-reply.new.self c.args.step.now c.step-reply.result c.requires c.step-reply.ensures.words (c.step-reply.ensures.made ∙ ap (after list_queues c.args.step.now) c.self.view_is) in
-    ((step_of c.args.step.now c.self.invariant.0).1, stands c.self.invariant.0 (record { sound = c.self.invariant.1.sound; shows = c.self.invariant.1.shows ∙ c.self.view_is }))
+    let stands = stands_after c.args.self.now c.step-reply.new.self c.args.step.now c.step-reply.result c.requires c.step-reply.ensures.words
+    (c.step-reply.ensures.made ∙ ap (after list_queues c.args.step.now) c.self.view_is) in (
+      (step_of c.args.step.now c.self.invariant.0).1,
+      stands c.self.invariant.0
+          (record { sound = c.self.invariant.1.sound; shows = c.self.invariant.1.shows ∙ c.self.view_is }),
+    )
 
 pub returns-clause-reply : goal.returns-clause-reply
 returns-clause-reply c =
-    reply_of c.args.self.now c.step-reply.new.self c.args.step.now c.step-reply.result c.requires c.step-reply.ensures.words (c.step-reply.ensures.made ∙ ap (after list_queues c.args.step.now) c.self.view_is)
+    reply_of c.args.self.now c.step-reply.new.self c.args.step.now c.step-reply.result c.requires c.step-reply.ensures.words
+    (c.step-reply.ensures.made ∙ ap (after list_queues c.args.step.now) c.self.view_is)
 
 pub returns-clause-state : goal.returns-clause-state
 returns-clause-state c =
-    stands_after c.args.self.now c.step-reply.new.self c.args.step.now c.step-reply.result c.requires c.step-reply.ensures.words (c.step-reply.ensures.made ∙ ap (after list_queues c.args.step.now) c.self.view_is)
+    stands_after c.args.self.now c.step-reply.new.self c.args.step.now c.step-reply.result c.requires c.step-reply.ensures.words
+    (c.step-reply.ensures.made ∙ ap (after list_queues c.args.step.now) c.self.view_is)
 
 pub returns-clause-shape : goal.returns-clause-shape
-returns-clause-shape c = settings_after c.args.self.now c.step-reply.new.self c.args.step.now c.step-reply.result (c.step-reply.ensures.made ∙ ap (after list_queues c.args.step.now) c.self.view_is)
+returns-clause-shape c = settings_after c.args.self.now c.step-reply.new.self c.args.step.now c.step-reply.result
+    (c.step-reply.ensures.made ∙ ap (after list_queues c.args.step.now) c.self.view_is)

@@ -7,4 +7,5 @@ pub invariant_of-self : goal.invariant_of-self
 invariant_of-self c = rw (c.advance.ensures, c.age.ensures) (advance_shape _ c.self.invariant)
 
 pub returns : goal.returns
-returns c = rw (c.advance.ensures, c.age.ensures) (advance_seen _ c.self.invariant ∙ ap (λ (view : View). record view { orders = advance view.orders }) c.self.view_is)
+returns c = rw (c.advance.ensures, c.age.ensures) (advance_seen _ c.self.invariant ∙ ap (λ (view : View). record view { orders = advance view.orders })
+    c.self.view_is)

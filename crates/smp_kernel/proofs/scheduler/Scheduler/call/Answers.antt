@@ -11,7 +11,8 @@ set_priority-requires c =
 pub set_affinity-requires : goal.set_affinity-requires
 set_affinity-requires c =
     let settings = c.args.self.now.settings in
-    affinity_set_task settings c.in-AffinitySet.task c.in-AffinitySet.mask (subst (λ call. call_check settings call ≡ Ok tt) c.in-AffinitySet.is c.requires.checked)
+    affinity_set_task settings c.in-AffinitySet.task c.in-AffinitySet.mask
+    (subst (λ call. call_check settings call ≡ Ok tt) c.in-AffinitySet.is c.requires.checked)
 
 pub preempt_off-requires : goal.preempt_off-requires
 preempt_off-requires c =

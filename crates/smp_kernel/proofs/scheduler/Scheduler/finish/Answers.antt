@@ -1,5 +1,5 @@
 use Rattle.std.proofs.Common.{◌≡◌, ◌<◌, length, None, Some, Ok, sym, ap, subst, ◌∙◌, arith}
-use Rattle.bench_types.specs.Step.{call_check}
+use Rattle.bench_types.specs.Step.{as_call, call_check}
 use Rattle.std.proofs.lemmas.List.{get_or_default}
 use Rattle.bench_types.specs.declared.step.Unfinished.TheVariants.{Made, Take}
 use Rattle.bench_model.specs.State.{call_at}
@@ -13,7 +13,7 @@ complete-requires-clause-checked c =
     let call : call_at c.args.self.now.calls c.args.task ≡ Some (Made c.in-Made.call) =
     ap (λ (view : View). call_at view.calls c.args.task) (sym c.self.view_is)
     ∙ get_or_default calls c.args.task None c.index.result.now low ∙ sym c.index.ensures ∙ c.in-Some.is ∙ ap Some c.in-Made.is in
-    subst (λ settings. call_check settings c.in-Made.call ≡ Ok tt) (ap (λ (view : View). view.settings) (sym c.end_call.ensures))
+    subst (λ settings. call_check settings (as_call c.in-Made.call) ≡ Ok tt) (ap (λ (view : View). view.settings) (sym c.end_call.ensures))
     (c.requires.calls c.args.task (Made c.in-Made.call) call).passes
 
 pub finish_take-requires-clause-mutex : goal.finish_take-requires-clause-mutex

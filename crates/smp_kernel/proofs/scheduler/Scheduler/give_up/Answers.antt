@@ -12,4 +12,5 @@ pub returns-clause-given : goal.returns-clause-given
 returns-clause-given c =
     rw (c.give.ensures.holders, c.give.ensures.cores)
     (give_seen _ c.self.invariant c.args.core c.args.task c.args.mutex
-    ∙ ap (λ (view : View). disinherited list_queues c.args.core c.args.task (record view { holders = slice_set view.holders c.args.mutex None })) c.self.view_is)
+    ∙ ap (λ (view : View). disinherited list_queues c.args.core c.args.task (record view { holders = slice_set view.holders c.args.mutex None }))
+    c.self.view_is)

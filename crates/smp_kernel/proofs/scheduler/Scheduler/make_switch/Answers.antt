@@ -11,4 +11,5 @@ returns-in-Some-clause-made c = after_refused (steps.Switch c.args.core) c.args.
 
 pub returns-in-None-clause-made : goal.returns-in-None-clause-made
 unfolding performed
-returns-in-None-clause-made c = ap (λ (view : View). (Done, view)) c.switch.ensures ∙ after_accepted (steps.Switch c.args.core) c.args.self.now (sym c.in-None.ensures)
+returns-in-None-clause-made c = ap (λ (view : View). (Done, view)) c.switch.ensures ∙ after_accepted (steps.Switch c.args.core) c.args.self.now
+    (sym c.in-None.ensures)

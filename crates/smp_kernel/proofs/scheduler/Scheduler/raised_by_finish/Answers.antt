@@ -11,6 +11,7 @@ holder-requires c =
     let low : c.args.task < length calls = omega (arith, c.requires.task, c.self.invariant.calls, ap (λ (view : View). view.settings.tasks) c.self.view_is) in
     let call : call_at c.args.self.now.calls c.args.task ≡ Some (Take c.in-Some-Take.mutex c.in-Some-Take.field-0-1) =
     ap (λ (view : View). call_at view.calls c.args.task) (sym c.self.view_is)
-    ∙ get_or_default calls c.args.task None c.index.result.now low ∙ sym c.index.ensures ∙ c.in-Some-Take.is ∙ ap Some (rw c.in-Some-Take.is at c.in-Some-Take.field-0-is) in
+    ∙ get_or_default calls c.args.task None c.index.result.now low ∙ sym c.index.ensures ∙ c.in-Some-Take.is ∙ ap Some
+    (rw c.in-Some-Take.is at c.in-Some-Take.field-0-is) in
     let below = c.requires.calls c.args.task _ call in
     omega (arith, below, c.self.invariant.holders, ap (λ (view : View). view.settings.mutexes) c.self.view_is)

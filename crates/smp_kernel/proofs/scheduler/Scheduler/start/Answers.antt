@@ -10,11 +10,18 @@ loop-core-init c = c.in_ok-kernel.ensures ∙ sym (in_turn_none (unstarted (firs
 
 pub switch-requires : goal.switch-requires
 switch-requires c =
-    omega (arith, c.loop-core-test.true, ap (λ (view : View). view.settings.cores) c.loop-core.invariant, ap (λ s. s.cores) (in_turn_settings c.args.header.now c.loop-core.core))
+    omega (
+      arith,
+      c.loop-core-test.true,
+      ap (λ (view : View). view.settings.cores) c.loop-core.invariant,
+      ap (λ s. s.cores)
+          (in_turn_settings c.args.header.now c.loop-core.core),
+    )
 
 pub loop-core-preserved : goal.loop-core-preserved
 loop-core-preserved c =
-    c.switch.ensures ∙ ap (after_switch list_queues c.loop-core.core) c.loop-core.invariant ∙ sym (in_turn_more (unstarted (first_lists c.args.header.now) c.args.header.now) c.loop-core.core)
+    c.switch.ensures ∙ ap (after_switch list_queues c.loop-core.core) c.loop-core.invariant ∙ sym
+    (in_turn_more (unstarted (first_lists c.args.header.now) c.args.header.now) c.loop-core.core)
 
 pub returns : goal.returns
 returns c =

@@ -16,9 +16,26 @@ no_waits-requires c =
 
 pub invariant_of-result : goal.invariant_of-result
 invariant_of-result c =
-    rw (c.in_ok-cores.ensures.cores, c.in_ok-calls.ensures.calls, c.in_ok-calls.ensures.notes, c.in_ok-cores.ensures.mutexes, c.in_ok-delays.ensures.delays, c.in_ok-delays.ensures.deadlines, c.as_slice.ensures) (first_kernel_shape c.args.header.now c.requires)
+    rw (
+      c.in_ok-cores.ensures.cores,
+      c.in_ok-calls.ensures.calls,
+      c.in_ok-calls.ensures.notes,
+      c.in_ok-cores.ensures.mutexes,
+      c.in_ok-delays.ensures.delays,
+      c.in_ok-delays.ensures.deadlines,
+      c.as_slice.ensures,
+    ) (first_kernel_shape c.args.header.now c.requires)
 
 pub returns : goal.returns
 returns c =
-    let low : c.args.header.now.config.tick < 2 ^ 32 = subst (λ (view : DelayView). view.tick < 2 ^ 32) c.in_ok-delays.ensures.delays c.in_ok-delays.ensures.word in
-    rw (c.in_ok-cores.ensures.cores, c.in_ok-calls.ensures.calls, c.in_ok-calls.ensures.notes, c.in_ok-cores.ensures.mutexes, c.in_ok-delays.ensures.delays, c.in_ok-delays.ensures.deadlines, c.as_slice.ensures) (seen_unstarted c.args.header.now low)
+    let low : c.args.header.now.config.tick < 2 ^ 32 = subst (λ (view : DelayView). view.tick < 2 ^ 32) c.in_ok-delays.ensures.delays
+    c.in_ok-delays.ensures.word in
+    rw (
+      c.in_ok-cores.ensures.cores,
+      c.in_ok-calls.ensures.calls,
+      c.in_ok-calls.ensures.notes,
+      c.in_ok-cores.ensures.mutexes,
+      c.in_ok-delays.ensures.delays,
+      c.in_ok-delays.ensures.deadlines,
+      c.as_slice.ensures,
+    ) (seen_unstarted c.args.header.now low)

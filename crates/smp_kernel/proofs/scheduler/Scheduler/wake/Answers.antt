@@ -8,4 +8,5 @@ pub invariant_of-self : goal.invariant_of-self
 invariant_of-self c = rw (c.make_ready.ensures, c.cancel.ensures, c.leave.ensures) (wake_shape _ c.self.invariant c.args.acting c.args.task)
 
 pub returns : goal.returns
-returns c = rw (c.make_ready.ensures, c.cancel.ensures, c.leave.ensures) (wake_seen _ c.self.invariant c.args.acting c.args.task ∙ ap (wake list_queues c.args.acting c.args.task) c.self.view_is)
+returns c = rw (c.make_ready.ensures, c.cancel.ensures, c.leave.ensures)
+    (wake_seen _ c.self.invariant c.args.acting c.args.task ∙ ap (wake list_queues c.args.acting c.args.task) c.self.view_is)

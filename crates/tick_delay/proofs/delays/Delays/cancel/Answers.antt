@@ -12,5 +12,6 @@ invariant_of-self c = rw c.remove.ensures (shape_gone _ _ _ _ c.self.invariant c
 pub returns : goal.returns
 returns c =
     rw c.remove.ensures
-    (ap (λ (ds : List Delayed). record { tasks = c.self.inside.tasks; tick = c.self.inside.tick; turn = c.self.inside.turn; delayed = ds }) (seen_gone _ _ _ _ c.self.invariant c.args.task)
+    (ap (λ (ds : List Delayed). record { tasks = c.self.inside.tasks; tick = c.self.inside.tick; turn = c.self.inside.turn; delayed = ds })
+    (seen_gone _ _ _ _ c.self.invariant c.args.task)
     ∙ ap (λ (view : DelayView). record view { delayed = without_delay c.args.task view.delayed }) c.self.view_is)

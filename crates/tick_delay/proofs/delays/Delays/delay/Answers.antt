@@ -5,7 +5,8 @@ use Rattle.tick_delay.proofs.delays.Delays.delay.Goals as goal
 use Rattle.tick_delay.proofs.delays.Delays.delay.Goals.{then-wake-self, else-wake-self}
 
 pub insert_sorted-requires-clause-free : goal.insert_sorted-requires-clause-free
-insert_sorted-requires-clause-free c = in_no_list _ _ _ _ c.self.invariant c.args.task (ap (λ (view : DelayView). is_waiting c.args.task view.delayed) c.self.view_is ∙ c.requires.free)
+insert_sorted-requires-clause-free c = in_no_list _ _ _ _ c.self.invariant c.args.task
+    (ap (λ (view : DelayView). is_waiting c.args.task view.delayed) c.self.view_is ∙ c.requires.free)
 
 pub invariant_of-self : goal.invariant_of-self
 invariant_of-self c =
@@ -13,8 +14,10 @@ invariant_of-self c =
     let free = ap (λ (view : DelayView). is_waiting c.args.task view.delayed) c.self.view_is ∙ c.requires.free in
     let few : c.args.ticks < 2 ^ 32 = omega (arith, c.ranges) in
     elim c.if-wake-self.branch [
-      | then-wake-self w ↦ rw (c.insert_sorted.ensures, w.list-is) (delayed_late _ _ _ _ c.self.invariant c.args.task c.args.ticks low free few w.if-wake-self.true)
-      | else-wake-self w ↦ rw (c.insert_sorted.ensures, w.list-is) (delayed_soon _ _ _ _ c.self.invariant c.args.task c.args.ticks low free few w.if-wake-self.false)
+      | then-wake-self w ↦ rw (c.insert_sorted.ensures, w.list-is) (delayed_late _ _ _ _ c.self.invariant c.args.task c.args.ticks low free few
+          w.if-wake-self.true)
+      | else-wake-self w ↦ rw (c.insert_sorted.ensures, w.list-is) (delayed_soon _ _ _ _ c.self.invariant c.args.task c.args.ticks low free few
+          w.if-wake-self.false)
     ]
 
 pub returns : goal.returns
@@ -23,6 +26,8 @@ returns c =
     let free = ap (λ (view : DelayView). is_waiting c.args.task view.delayed) c.self.view_is ∙ c.requires.free in
     let few : c.args.ticks < 2 ^ 32 = omega (arith, c.ranges) in
     elim c.if-wake-self.branch [
-      | then-wake-self w ↦ rw (c.insert_sorted.ensures, w.list-is) (seen_late _ _ _ _ c.self.invariant c.args.task c.args.ticks low free few w.if-wake-self.true ∙ ap (delayed_for c.args.task c.args.ticks) c.self.view_is)
-      | else-wake-self w ↦ rw (c.insert_sorted.ensures, w.list-is) (seen_soon _ _ _ _ c.self.invariant c.args.task c.args.ticks low free few w.if-wake-self.false ∙ ap (delayed_for c.args.task c.args.ticks) c.self.view_is)
+      | then-wake-self w ↦ rw (c.insert_sorted.ensures, w.list-is) (seen_late _ _ _ _ c.self.invariant c.args.task c.args.ticks low free few w.if-wake-self.true
+          ∙ ap (delayed_for c.args.task c.args.ticks) c.self.view_is)
+      | else-wake-self w ↦ rw (c.insert_sorted.ensures, w.list-is) (seen_soon _ _ _ _ c.self.invariant c.args.task c.args.ticks low free few
+          w.if-wake-self.false ∙ ap (delayed_for c.args.task c.args.ticks) c.self.view_is)
     ]

@@ -18,4 +18,5 @@ returns c =
     let lists = c.args.lists.now in
     c.make_later-2.ensures ∙ ap (first_ones_later by tick turn (1 - turn) c.len-next.result) c.make_later.ensures
     ∙ ap (λ (n : ℕ). first_ones_later by tick turn (1 - turn) n (first_ones_later by tick turn turn c.len-this.result lists)) c.len-next.ensures
-    ∙ ap (λ (n : ℕ). first_ones_later by tick turn (1 - turn) (length (list_at lists (1 - turn))) (first_ones_later by tick turn turn n lists)) c.len-this.ensures
+    ∙ ap (λ (n : ℕ). first_ones_later by tick turn (1 - turn) (length (list_at lists (1 - turn))) (first_ones_later by tick turn turn n lists))
+    c.len-this.ensures

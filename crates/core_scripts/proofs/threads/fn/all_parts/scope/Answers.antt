@@ -19,7 +19,8 @@ loop-seat-init g c = (
 pub bounds-scripts-core : goal.bounds-scripts-core
 bounds-scripts-core g c =
     let are = c.loop-seat.invariant.2 ∙ ap (λ rest. c.loop-seat.yielded ++ rest) c.in-Some.ensures.steps.0 in
-    let below = nth_below c.captures.rig.now c.loop-seat.yielded c.next.new.self.rest.items c.in-Some.seat are c.captures.scripts.now c.requires.scripts c.requires.cores in
+    let below = nth_below c.captures.rig.now c.loop-seat.yielded c.next.new.self.rest.items c.in-Some.seat are c.captures.scripts.now c.requires.scripts
+    c.requires.cores in
     omega (arith, below, c.core-core.ensures)
 
 pub spawn_with-requires-clause-runs : goal.spawn_with-requires-clause-runs
@@ -31,7 +32,8 @@ spawn_with-requires-clause-runs g c κs within =
     let are = c.loop-seat.invariant.2 ∙ ap (λ rest. front ++ rest) c.in-Some.ensures.steps.0 in
     let below = nth_below rig front rest seat are c.captures.scripts.now c.requires.scripts c.requires.cores in
     let core = c.core-core.ensures in
-    let script = c.as_slice-script.ensures ∙ c.index-scripts-core.is ∙ get_or_default c.captures.scripts.now c.core-core.result _ [] (omega (arith, below, core)) ∙ ap (λ core. get_or c.captures.scripts.now core []) core in (
+    let script = c.as_slice-script.ensures ∙ c.index-scripts-core.is ∙ get_or_default c.captures.scripts.now c.core-core.result _ []
+    (omega (arith, below, core)) ∙ ap (λ core. get_or c.captures.scripts.now core []) core in (
       nth_own rig front rest seat are,
       (
         nth_new rig front rest seat are,
@@ -61,7 +63,8 @@ loop-seat-preserved g c =
     let part = c.in_ok-thread.ensures.ok in
     let own = nth_core rig front rest seat are in
     let number : c.core-core.result ≡ length front = core ∙ own in
-    let script = c.as_slice-script.ensures ∙ c.index-scripts-core.is ∙ get_or_default scripts c.core-core.result _ [] (omega (arith, below, core)) ∙ ap (λ core. get_or scripts core []) number in (
+    let script = c.as_slice-script.ensures ∙ c.index-scripts-core.is ∙ get_or_default scripts c.core-core.result _ [] (omega (arith, below, core)) ∙ ap
+    (λ core. get_or scripts core []) number in (
       tt,
       tt,
       moved_on (map (new_seat rig) (numbers rig.cores)) front c.loop-seat.seat-iterator.rest.items rest seat i.2 first,
@@ -69,12 +72,17 @@ loop-seat-preserved g c =
       λ k d less.
           let added = subst (λ n. get_or all n d ≡ c.in_ok-thread.thread) i.3 (pushed.ensures.by_index.1 d (search rules)) in
           below_more
-          (λ i. ((get_or all i d).promise.rig.now ≡ rig) × ((get_or all i d).promise.script.now ≡ get_or scripts i []) × ((get_or all i d).promise.core ≡ i)) (length front)
+          (λ i. ((get_or all i d).promise.rig.now ≡ rig) × ((get_or all i d).promise.script.now ≡ get_or scripts i []) × ((get_or all i d).promise.core ≡ i))
+          (length front)
           (λ n low.
           let same = pushed.ensures.by_index.0 n d (omega (arith, low, i.3)) in
           let was = i.4 n d low in
-          (ap (λ h. h.promise.rig.now) same ∙ was.0, ap (λ h. h.promise.script.now) same ∙ was.1, ap (λ h. h.promise.core) same ∙ was.2))
-          (ap (λ h. h.promise.rig.now) added ∙ ap (λ p. p.rig.now) part, ap (λ h. h.promise.script.now) added ∙ ap (λ p. p.script.now) part ∙ script, ap (λ h. h.promise.core) added ∙ ap (λ p. p.core) part ∙ number) k
+          (ap (λ h. h.promise.rig.now) same ∙ was.0, ap (λ h. h.promise.script.now) same ∙ was.1, ap (λ h. h.promise.core) same ∙ was.2)) (
+            ap (λ h. h.promise.rig.now) added ∙ ap (λ p. p.rig.now) part,
+            ap (λ h. h.promise.script.now) added ∙ ap (λ p. p.script.now) part ∙ script,
+            ap
+                (λ h. h.promise.core) added ∙ ap (λ p. p.core) part ∙ number,
+          ) k
           (omega (arith, less, count)),
     )
 
@@ -94,6 +102,7 @@ returns g c =
           let handle = each.1.handle in
           let was = i.4 core handle (omega (arith, less, count)) in
           let is = each.1.handle_is in
-          done_at rig handle.promise.rig.now core handle.promise.core (get_or scripts core []) handle.promise.script.now (get_or joined.field-0.items core d) (ap (λ h. h.promise.rig.now) is ∙ was.0)
+          done_at rig handle.promise.rig.now core handle.promise.core (get_or scripts core []) handle.promise.script.now (get_or joined.field-0.items core d)
+          (ap (λ h. h.promise.rig.now) is ∙ was.0)
           (ap (λ h. h.promise.script.now) is ∙ was.1) (ap (λ h. h.promise.core) is ∙ was.2) each.1.kept;
     }

@@ -1,6 +1,0 @@
-use Rattle.std.proofs.Common.{◌≡◌, map, take}
-use Rattle.run_numbers.specs.Progress.{first}
-use Rattle.run_numbers.proofs.run.all_begun.Given as goal
-
-abbrev pub invariant-loop-subject : goal.invariant-loop-subject
-invariant-loop-subject l = l.gauges.items ≡ map (first l.kernel.control) (take l.subject-index l.subjects)

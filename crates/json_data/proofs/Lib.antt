@@ -1,8 +1,9 @@
 pub mod Arrays
+mod Digits
 pub mod Documents
 pub mod Gathering
 pub mod Least
-mod Members
+pub mod Members
 pub mod Objects
 pub mod Values
 pub mod Ranges

@@ -1,7 +1,7 @@
 -- The members of an object: what serde_json has at a name is what `json` finds there last, and both
 -- have the same names.
-use Rattle.std.proofs.Common.{◌≡◌, ℕ, ◌≤◌, max, List, Bool, true, false, cond, not, ◌&&◌, Bor, Option, Some, None, is_none, is_some, option_map}
-use Rattle.std.proofs.Common.{option_and_then, refl, sym, ap, ◌∙◌, subst, arith, bytes_eq, Ordering, Less, Equal, Greater}
+use Rattle.std.proofs.Common.{◌≡◌, ℕ, ◌≤◌, max, List, [], ◌∷◌, ◌++◌, ◌||◌, Bool, true, false, cond, not, ◌&&◌, Bor, Option, Some, None, is_none, is_some}
+use Rattle.std.proofs.Common.{option_map, option_and_then, refl, sym, ap, ◌∙◌, subst, arith, bytes_eq, Ordering, Less, Equal, Greater}
 use Rattle.std.specs.List.{list_any}
 use Rattle.std.specs.Option.{option_map_or}
 use Rattle.std.specs.Ordering.{is_eq, nat_cmp, match_ordering}
@@ -131,3 +131,41 @@ known_where_none names ms least b none same = by least none ∙ ap is_none same 
     by : (o : Option (Bor (List ℕ))) → is_some o ≡ not b → b ≡ is_none (option_map (λ name. name.now) o)
     by None is = grind arith
     by (Some name) is = grind arith
+
+pub known_if_none : (names : List (List ℕ)) (ms : Members) → least_unknown names ms ≡ None
+    → true ≡ are_known names ms
+known_if_none names ms none = sym (ap is_none none) ∙ known_by_least names ms
+
+is_gone : (o : Option (List ℕ)) → is_none o ≡ true → o ≡ None
+is_gone None is = refl
+is_gone (Some name) is = absurd (cc is)
+
+pub none_if_known : (names : List (List ℕ)) (ms : Members) → are_known names ms ≡ true
+    → least_unknown names ms ≡ None
+none_if_known names ms known = is_gone (least_unknown names ms) (known_by_least names ms ∙ known)
+
+-- names more
+any_more : (x : List ℕ) (names more : List (List ℕ)) → list_any (bytes_eq x) names ≡ true
+    → list_any (bytes_eq x) (names ++ more) ≡ true
+any_more x [] more is = absurd (cc is)
+any_more x (name ∷ names) more is = by (bytes_eq x name) is (any_more x names more)
+  where
+    by : (b : Bool) → (b || list_any (bytes_eq x) names) ≡ true
+        → (list_any (bytes_eq x) names ≡ true → list_any (bytes_eq x) (names ++ more) ≡ true)
+        → (b || list_any (bytes_eq x) (names ++ more)) ≡ true
+    by true is later = refl
+    by false is later = later is
+
+pub known_more : (names more : List (List ℕ)) (ms : Members) → are_known names ms ≡ true
+    → are_known (names ++ more) ms ≡ true
+known_more names more no_members is = refl
+known_more names more (member k d ms) is =
+    by (list_any (bytes_eq k) names) (list_any (bytes_eq k) (names ++ more)) is
+    (any_more k names more) (known_more names more ms)
+  where
+    by : (b e : Bool) → (b && are_known names ms) ≡ true → (b ≡ true → e ≡ true)
+        → (are_known names ms ≡ true → are_known (names ++ more) ms ≡ true)
+        → (e && are_known (names ++ more) ms) ≡ true
+    by true true is more later = later is
+    by true false is more later = absurd (cc (more refl))
+    by false e is more later = absurd (cc is)

@@ -1,5 +1,5 @@
 //! Members that stand twice in an object. The tape is passed once, node by node.
-ghost use Rattle.std.specs.Prelude.{◌≡◌, ◌+◌, ◌++◌, ◌≤◌, ◌<◌, ◌^◌, List, [], drop, map, length, IfOk};
+ghost use Rattle.std.specs.Prelude.{◌≡◌, ◌+◌, ◌++◌, ◌≤◌, ◌<◌, ◌^◌, List, [], drop, map, length, true, IfOk};
 ghost use Rattle.json.specs.Json as json;
 ghost use Rattle.json.specs.Json.{Json};
 ghost use Rattle.json.specs.Tape.{node_token};
@@ -28,6 +28,23 @@ pub(crate) enum Passed<'a> {
     Twice(Doubled<'a>),
     /// None; the node of this index follows.
     Next(usize),
+}
+
+/// Whether the node of that index is a value that holds no others.
+#[inline(always)]
+fn is_leaf(nodes: &[Node<'_>], at: usize) -> bool
+    ensures within { result ≡ true → at < length nodes.now }
+    ensures passed { result ≡ true → (whole : Json) (rest : List Token)
+        → drop at (map node_token nodes.now) ≡ json_tokens whole ++ rest
+        → (doubled_in at whole ≡ []) × (length (json_tokens whole) ≡ 1) }
+{
+    if at >= nodes.len() {
+        return false;
+    }
+    match nodes[at] {
+        Node::Object(_) | Node::Array(_) => false,
+        _ => true,
+    }
 }
 
 // Passes the value that begins at the node of that index.
@@ -101,6 +118,10 @@ fn passed_members<'a>(
         };
         if names.add(name)? {
             return Ok(Passed::Twice(Doubled { name, token: next }));
+        }
+        if is_leaf(nodes, next + 1) {
+            next += 2;
+            continue;
         }
         let member = passed_value(alloc, nodes, next + 1)?;
         match member {

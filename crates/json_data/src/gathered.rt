@@ -121,16 +121,25 @@ impl<'t, 'a> Gathered<'t, 'a> {
         }
     }
 
+    /// Whether all members are held, and each has one of the names. Where the names are literals,
+    /// it comes down to comparisons with them.
+    #[inline(always)]
+    pub(crate) fn holds_only(&self, names: &[&str]) -> bool
+        ensures { result ≡ true → (all : Members) → as_object (view self.now) ≡ Some all
+            → least_unknown (map (λ name. name.now) names.now) all ≡ None }
+    {
+        self.is_whole && are_known(self.held.as_slice(), names)
+    }
+
     /// The least name of a member that is none of the names, where this is an object. Names go by
     /// their bytes.
-    #[inline(always)]
     pub(crate) fn least_unknown(&self, names: &[&str]) -> Option<&'a str>
         ensures { (all : Members) → as_object (view self.now) ≡ Some all
             → option_map (λ name. name.now) result
             ≡ least_unknown (map (λ name. name.now) names.now) all }
     {
         if self.is_whole {
-            least_of(self.held.as_slice(), names)
+            least_held(self.held.as_slice(), names)
         } else {
             self.item.least_unknown(names)
         }
@@ -189,20 +198,8 @@ fn last_named<'h, 't, 'a>(held: &'h [Option<Named<'t, 'a>>], name: &str) -> Opti
     None
 }
 
-/// The least name of a member that is none of the names.
-#[inline(always)]
-fn least_of<'a>(held: &[Option<Named<'_, 'a>>], names: &[&str]) -> Option<&'a str>
-    ensures { option_map (λ name. name.now) result
-        ≡ least_held (map (λ name. name.now) names.now) held.now None }
-{
-    if are_known(held, names) {
-        None
-    } else {
-        least_held(held, names)
-    }
-}
-
 /// Whether each name of a member is one of the names.
+#[inline(always)]
 fn are_known(held: &[Option<Named<'_, '_>>], names: &[&str]) -> bool
     ensures { result ≡ true → least_held (map (λ name. name.now) names.now) held.now None ≡ None }
 {
@@ -216,7 +213,7 @@ fn are_known(held: &[Option<Named<'_, '_>>], names: &[&str]) -> bool
     true
 }
 
-/// The same, by all of the names.
+/// The least name of a member that is none of the names.
 fn least_held<'a>(held: &[Option<Named<'_, 'a>>], names: &[&str]) -> Option<&'a str>
     ensures { option_map (λ name. name.now) result
         ≡ least_held (map (λ name. name.now) names.now) held.now None }

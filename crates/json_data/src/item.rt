@@ -146,6 +146,7 @@ pub(crate) fn lesser_unknown<'a>(
     }
 }
 
+#[inline(always)]
 pub(crate) fn is_one_of(key: &str, names: &[&str]) -> bool
     ensures { result ≡ list_any (bytes_eq key.now) (map (λ name. name.now) names.now) }
 {

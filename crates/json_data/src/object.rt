@@ -1,5 +1,5 @@
 //! The members of an object.
-ghost use Rattle.std.specs.Prelude.{◌≡◌, true, is_some, map, option_map, Some};
+ghost use Rattle.std.specs.Prelude.{◌≡◌, true, is_some, map, option_map, None, Some};
 ghost use Rattle.std.specs.Option.{ForSome};
 ghost use Rattle.serde_json.specs.Find.{as_object};
 ghost use Rattle.json_data.specs.Reading.{are_known, least_unknown};
@@ -32,10 +32,23 @@ impl<'s, 't, 'a> Object<'s, 't, 'a> {
     }
 
     /// Whether each member has one of the names.
+    #[inline(always)]
     pub fn has_only(&self, names: &[&str]) -> bool
         ensures { result ≡ are_known (map (λ name. name.now) names.now) (members_view self.now) }
     {
-        self.least_unknown(names).is_none()
+        self.holds_only(names) || self.least_unknown(names).is_none()
+    }
+
+    /// Whether the members were gone through, and each has one of the names.
+    #[inline(always)]
+    fn holds_only(&self, names: &[&str]) -> bool
+        ensures { result ≡ true
+            → least_unknown (map (λ name. name.now) names.now) (members_view self.now) ≡ None }
+    {
+        match self.gathered {
+            Some(gathered) => gathered.holds_only(names),
+            None => false,
+        }
     }
 
     /// The least name of a member that is none of the names, by their bytes.

@@ -1,7 +1,8 @@
 //! How deep values nest, and which numbers are read.
-ghost use Rattle.std.specs.Prelude.{◌≡◌, ◌<◌, ◌^◌, ◌==◌, true, false, map, is_some, length, option_and_then, slice_index};
+ghost use Rattle.std.specs.Prelude.{◌≡◌, ◌<◌, ◌^◌, ◌==◌, true, false, map, is_some, length, option_and_then, slice_index, IfSome, Some};
 ghost use Rattle.fast_float.specs.Text.{minus};
 ghost use Rattle.json.specs.Tape.{node_token};
+ghost use Rattle.serde_json.specs.Data.{unsigned};
 ghost use Rattle.serde_json.specs.Read.{max_depth, number_from, number_of};
 ghost use Rattle.serde_json.specs.Find.{as_u64};
 ghost use Rattle.json_data.specs.Reading.{are_in_range, left_after};
@@ -40,13 +41,29 @@ fn left_after(left: usize, node: &Node<'_>) -> Option<usize>
     }
 }
 
+/// The number that one digit writes, where the text is that; most numbers of sessions are.
+#[inline(always)]
+fn one_digit(bytes: &[u8]) -> Option<u64>
+    ensures { IfSome result (λ value. number_of bytes.now ≡ Some (unsigned value)) }
+{
+    if bytes.len() != 1 {
+        return None;
+    }
+    match bytes[0] {
+        digit @ b'0'..=b'9' => Some((digit - b'0') as u64),
+        _ => None,
+    }
+}
+
 /// Whether the number that the text writes is one to serde_json.
 #[tactic(auto, unfolding(serde_json::specs::Read::number_of))]
 fn is_in_range(text: &str) -> bool
     ensures { result ≡ is_some (number_of text.now) }
 {
     let bytes = text.as_bytes();
-    if has_minus(bytes) {
+    if one_digit(bytes).is_some() {
+        true
+    } else if has_minus(bytes) {
         is_negative_in_range(&Numeral::scan(&bytes[1..]))
     } else {
         is_positive_in_range(&Numeral::scan(bytes))
@@ -60,10 +77,10 @@ pub(crate) fn whole_number(text: &str) -> Option<u64>
     ensures { result ≡ option_and_then as_u64 (number_of text.now) }
 {
     let bytes = text.as_bytes();
-    if has_minus(bytes) {
-        None
-    } else {
-        Numeral::scan(bytes).to_u64()
+    match one_digit(bytes) {
+        Some(number) => Some(number),
+        None if has_minus(bytes) => None,
+        None => Numeral::scan(bytes).to_u64(),
     }
 }
 

@@ -7,7 +7,7 @@ use std::alloc::{AllocError, Global};
 use std::collections::BTreeSet;
 
 /// So many names are compared one after another; no object of an accepted document has more.
-const MAX_FEW: usize = 16;
+const MAX_FEW: usize = 9;
 
 /// The names that an object has had so far. Those past the first are found in a tree, so that no
 /// object takes quadratic time.

@@ -3,7 +3,10 @@ pub mod Filming
 pub mod Hindered
 pub mod Hindering
 pub mod LinedUp
+pub mod Merging
+pub mod Numbered
 pub mod Replayed
+pub mod RowStates
 pub mod Rows
 pub mod Seen
 pub mod Tiling

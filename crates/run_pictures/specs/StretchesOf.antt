@@ -17,6 +17,24 @@ stretches_of same place [] = []
 stretches_of same place (value ∷ values) =
     extended same place value (stretches_of same (suc place) values)
 
+-- the spans with one span more in front of them: it and the first of them are one where their
+-- values are the same
+abbrev pub joined : {X : Type 0} → (X → X → Bool) → Stretch X → List (Stretch X) → List (Stretch X)
+joined same stretch [] = stretch ∷ []
+joined same stretch (next ∷ stretches) =
+    if same next.value stretch.value then record next { first = stretch.first } ∷ stretches
+    else stretch ∷ next ∷ stretches
+
+-- the spans, of which neighbours that have the same value are one
+abbrev pub merged : {X : Type 0} → (X → X → Bool) → List (Stretch X) → List (Stretch X)
+merged same [] = []
+merged same (stretch ∷ stretches) = joined same stretch (merged same stretches)
+
+-- the same places, with what the function gives for their value
+abbrev pub with_value : {X Y : Type 0} → (X → Y) → Stretch X → Stretch Y
+with_value f stretch =
+    record { first = stretch.first; last = stretch.last; value = f stretch.value }
+
 -- a span's value, once for each of its places
 abbrev pub values_in : {X : Type 0} → Stretch X → List X
 values_in stretch = replicate (suc stretch.last - stretch.first) stretch.value
@@ -36,7 +54,8 @@ NeighboursDiffer (stretch ∷ next ∷ stretches) =
 
 -- the spans tile the values, the first of which stands at the place: none overlaps, none is
 -- missing, and each has the value of its places
-pub record Tiles {X : Type 0} (place : ℕ) (values : List X) (stretches : List (Stretch X)) : Type 0 where
+pub record Tiles {X : Type 0} (place : ℕ) (values : List X) (stretches : List (Stretch X))
+    : Type 0 where
   pub follow : Follow place stretches
   pub cover : flat_map values_in stretches ≡ values
   pub differ : NeighboursDiffer stretches

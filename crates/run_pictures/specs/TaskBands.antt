@@ -127,5 +127,6 @@ task_row header frame y run_looks detail task =
     task_name header frame.first y run_looks.looks task
     ++ flat_map (pose_bar header frame y task run_looks.made detail)
     (detailed_stretches detail frame.first run_looks.looks task)
-    ++ flat_map (inherited_bar header frame y task) (priority_stretches frame.first run_looks.looks task)
+    ++ flat_map (inherited_bar header frame y task)
+    (priority_stretches frame.first run_looks.looks task)
     ++ off_bars header frame y run_looks.looks task

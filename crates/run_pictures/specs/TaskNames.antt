@@ -63,8 +63,11 @@ terms_line header y task [] = []
 terms_line header y task (stretch ∷ stretches) =
     line_text header y task stretch.value (stretch ∷ stretches)
 
--- the name of the task's row, and below it its base priority and its mask
+-- the name of the task's row, and below it its base priority and its mask, by their spans
+unfoldable pub name_lines : Header → ℕ → ℕ → List (Stretch Terms) → List ℕ
+name_lines header y task stretches =
+    name_text (y + 16) (name_of header task) ++ terms_line header (y + 32) task stretches
+
+-- the same, as the looks have it
 unfoldable pub task_name : Header → ℕ → ℕ → List Look → ℕ → List ℕ
-task_name header first y looks task =
-    name_text (y + 16) (name_of header task)
-    ++ terms_line header (y + 32) task (terms_stretches first looks task)
+task_name header first y looks task = name_lines header y task (terms_stretches first looks task)

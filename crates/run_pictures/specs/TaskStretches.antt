@@ -68,4 +68,5 @@ abbrev pub holder_in : ℕ → Look → Option ℕ
 holder_in mutex look = slice_index_or look.holders mutex None
 
 unfoldable pub holder_stretches : ℕ → List Look → ℕ → List (Stretch (Option ℕ))
-holder_stretches first looks mutex = stretches_of are_same_numbers first (map (holder_in mutex) looks)
+holder_stretches first looks mutex =
+    stretches_of are_same_numbers first (map (holder_in mutex) looks)

@@ -234,7 +234,8 @@ fn push_currents(
     requires { y < 2 ^ 40 }
     ensures { OnOk result
         (string_bytes text.new
-        ≡ string_bytes text.old ++ flat_map (current_bar header.now frame.now y core) stretches.now) }
+        ≡ string_bytes text.old
+        ++ flat_map (current_bar header.now frame.now y core) stretches.now) }
 {
     for stretch in stretches {
         push_current(alloc, text, header, frame, y, core, *stretch)?;

@@ -17,6 +17,7 @@ mod panel;
 mod picture;
 mod pose;
 mod preemption;
+mod row_states;
 mod run_looks;
 mod shown;
 mod signs;
@@ -25,6 +26,7 @@ mod stretch;
 mod style;
 mod task_bands;
 mod task_names;
+mod task_stretches;
 mod waits;
 
 pub use by_ticks::{TickColumns, tick_columns};

@@ -166,7 +166,8 @@ fn push_holders(
     requires { y < 2 ^ 40 }
     ensures { OnOk result
         (string_bytes text.new
-        ≡ string_bytes text.old ++ flat_map (holder_bar header.now frame.now y mutex) stretches.now) }
+        ≡ string_bytes text.old
+        ++ flat_map (holder_bar header.now frame.now y mutex) stretches.now) }
 {
     for stretch in stretches {
         push_holder(alloc, text, header, frame, y, mutex, *stretch)?;

@@ -18,6 +18,7 @@ use crate::marks::push_steps;
 use crate::mutex_lines::{push_taken_rows, taken_mutexes};
 use crate::panel::Panel;
 use crate::pose::detail_for;
+use crate::row_states::all_row_stretches;
 use crate::run_looks::RunLooks;
 use crate::signs::{Sign, legend_height, push_entries, signs_of, signs_of_both};
 use crate::style::{OPENING, STYLE};
@@ -223,9 +224,12 @@ fn push_tasks(
         ≡ string_bytes text.old ++ task_rows header.now frame.now y run_looks.now) }
 {
     let cores = header.config.cores;
-    let detail = detail_for(alloc, header, frame.first, run_looks.looks.as_slice())?;
+    let looks = run_looks.looks.as_slice();
+    let detail = detail_for(alloc, header, frame.first, looks)?;
+    let rows = all_row_stretches(alloc, header, frame.first, looks)?;
     for user in 0..header.tasks.as_slice().len() as u32 {
         let below = y + TASK_ROW * user as u64;
+        let states = rows[user as usize].to_vec(alloc)?;
         push_task_row(
             alloc,
             text,
@@ -235,6 +239,7 @@ fn push_tasks(
             run_looks,
             detail,
             cores + user,
+            states.as_slice(),
         )?;
     }
     Ok(())

@@ -1,11 +1,11 @@
 //! How a task stands at a place, and what is in its way there.
 ghost use Rattle.std.specs.Prelude.{◌≡◌, ◌+◌, ◌<◌, ◌≤◌, ◌^◌, IfOk, length, map};
 ghost use Rattle.bench_types.specs.Limits.{max_cores, max_tasks};
-ghost use Rattle.run_pictures.specs.Poses.{count_ready, detail_by_pieces, detail_for, most_found, opening, openings, pose_in, pose_stretches, stands_ready, detailed_stretches};
+ghost use Rattle.run_pictures.specs.Poses.{count_ready, detail_by_pieces, detail_for, most_found, opening, openings, pose_in, pose_stretches, stands_ready};
 ghost use Rattle.run_pictures.specs.Same.{are_same_poses};
 
 use crate::hindrance::{Hindrance, are_same_lists, hindrances_in};
-use crate::stance::{Stance, is_same_stance, stance_in, stance_stretches};
+use crate::stance::{Stance, is_same_stance, stance_in};
 use crate::stretch::{Stretch, StretchValue, stretches_of};
 use bench_types::{Header, Items};
 use run_views::Look;
@@ -66,9 +66,9 @@ fn poses(alloc: Global, looks: &[Look], task: u32) -> Result<Vec<Pose>, AllocErr
     Ok(poses)
 }
 
-// The spans of how the task stands and of what is in its way.
+/// The spans of how the task stands and of what is in its way.
 #[tactic(auto, unfolding(crate::specs::Poses::pose_stretches))]
-fn pose_stretches(
+pub(crate) fn pose_stretches(
     alloc: Global,
     first: u32,
     looks: &[Look],
@@ -105,7 +105,8 @@ fn opening(
     })
 }
 
-fn openings(
+/// The spans, each with what is in the way at its first place.
+pub(crate) fn openings(
     alloc: Global,
     first: u32,
     looks: &[Look],
@@ -119,26 +120,6 @@ fn openings(
         found.push(opening(alloc, first, looks, task, *stretch)?)?;
     }
     Ok(found)
-}
-
-/// The spans of a task that are drawn.
-pub(crate) fn detailed_stretches(
-    alloc: Global,
-    detail: Detail,
-    first: u32,
-    looks: &[Look],
-    task: u32,
-) -> Result<Vec<Stretch<Pose>>, AllocError>
-    requires { first + length looks.now ≤ 2 ^ 32 }
-    ensures { IfOk result (λ stretches. stretches.items ≡ detailed_stretches detail first looks.now task) }
-{
-    match detail {
-        Detail::EachPlace => pose_stretches(alloc, first, looks, task),
-        Detail::FirstPlace => {
-            let stances = stance_stretches(alloc, first, looks, task)?;
-            openings(alloc, first, looks, task, stances.as_slice())
-        }
-    }
 }
 
 /// Whether a task stands ready, and on no core.

@@ -1,15 +1,13 @@
 //! How a task stands at a place.
-ghost use Rattle.std.specs.Prelude.{◌≡◌, ◌+◌, ◌≤◌, ◌^◌, IfOk, length, map};
+ghost use Rattle.std.specs.Prelude.{◌≡◌};
 ghost use Rattle.run_views.specs.Changes.{are_same_numbers};
 ghost use Rattle.run_pictures.specs.Same.{are_same_stances};
-ghost use Rattle.run_pictures.specs.TaskStretches.{stance_stretches};
-ghost use Rattle.run_pictures.specs.Stances.{core_of, stance_in, status_in};
+ghost use Rattle.run_pictures.specs.Stances.{core_of, stance_in, stance_with, status_in};
 
 use crate::shown::is_same_number;
-use crate::stretch::{Stretch, StretchValue, stretches_of};
+use crate::stretch::StretchValue;
 use bench_types::NoteState;
 use run_views::{Look, Standing, TaskStatus};
-use std::alloc::{AllocError, Global};
 
 /// How a task stands at a place.
 #[derive(Clone, Copy, Debug, PartialEq, Eq)]
@@ -73,6 +71,17 @@ fn core_of(look: &Look, task: u32) -> Option<usize>
     cores.iter().position(|core| core.current == task)
 }
 
+/// How a task stands of which this core is the first that runs it.
+pub(crate) fn stance_with(standing: Standing, core: Option<usize>) -> Stance
+    ensures { result ≡ stance_with standing core }
+{
+    match (standing, core) {
+        (Standing::Blocked(wake), _) => Stance::Blocked { wake },
+        (Standing::Ready, Some(core)) => Stance::Runs { core },
+        (Standing::Ready, None) => Stance::Ready,
+    }
+}
+
 /// How the task stands.
 pub(crate) fn stance_in(look: &Look, task: u32) -> Stance
     ensures { result ≡ stance_in task look.now }
@@ -84,28 +93,4 @@ pub(crate) fn stance_in(look: &Look, task: u32) -> Stance
             None => Stance::Ready,
         },
     }
-}
-
-fn stances(alloc: Global, looks: &[Look], task: u32) -> Result<Vec<Stance>, AllocError>
-    ensures { IfOk result (λ values. values.items ≡ map (stance_in task) looks.now) }
-{
-    looks
-        .iter()
-        .map(|look| stance_in(look, task))
-        .collect(alloc)
-}
-
-/// The spans of how the task stands.
-#[tactic(auto, unfolding(crate::specs::TaskStretches::stance_stretches))]
-pub(crate) fn stance_stretches(
-    alloc: Global,
-    first: u32,
-    looks: &[Look],
-    task: u32,
-) -> Result<Vec<Stretch<Stance>>, AllocError>
-    requires { first + length looks.now ≤ 2 ^ 32 }
-    ensures { IfOk result (λ stretches. stretches.items ≡ stance_stretches first looks.now task) }
-{
-    let values = stances(alloc, looks, task)?;
-    stretches_of(alloc, first, values)
 }

@@ -1,6 +1,6 @@
 //! Stretches of places at which a value stays the same.
 ghost use Rattle.std.specs.Prelude.{◌≡◌, ◌+◌, ◌≤◌, ◌^◌, Bool, Decides, IfOk, OnOk, length, nat_eq};
-ghost use Rattle.run_pictures.specs.StretchesOf.{extended, stretches_of, Tiles};
+ghost use Rattle.run_pictures.specs.StretchesOf.{extended, joined, merged, stretches_of, with_value, Tiles};
 ghost use Rattle.run_pictures.specs.StretchValues.{numbers_decided};
 
 use std::alloc::{AllocError, Global};
@@ -38,6 +38,19 @@ pub struct Stretch<T> {
     pub value: T,
 }
 
+impl<T> Stretch<T> {
+    /// The same places, with another value.
+    pub(crate) fn with_value<U>(&self, value: U) -> Stretch<U>
+        ensures { result ≡ record { first = self.now.first; last = self.now.last; value = value } }
+    {
+        Stretch {
+            first: self.first,
+            last: self.last,
+            value,
+        }
+    }
+}
+
 /// The stretches of values that stay the same, of which the first stands at the place: they follow
 /// one another, each value stands in one of them, and neighbours differ.
 pub fn stretches_of<T: StretchValue>(
@@ -46,7 +59,8 @@ pub fn stretches_of<T: StretchValue>(
     values: Vec<T>,
 ) -> Result<Vec<Stretch<T>>, AllocError>
     requires { first + length values.items ≤ 2 ^ 32 }
-    ensures stretches { IfOk result (λ stretches. stretches.items ≡ stretches_of T.same first values.items) }
+    ensures stretches { IfOk result
+        (λ stretches. stretches.items ≡ stretches_of T.same first values.items) }
     ensures tiles { IfOk result (λ stretches. Tiles first values.items stretches.items) }
 {
     let mut stretches = VecDeque::new(alloc);
@@ -57,8 +71,8 @@ pub fn stretches_of<T: StretchValue>(
     Ok(Vec::from(stretches))
 }
 
-// One place more in front of the spans.
-fn extend<T: StretchValue>(
+/// One place more in front of the spans.
+pub(crate) fn extend<T: StretchValue>(
     stretches: &mut VecDeque<Stretch<T>>,
     place: u32,
     value: T,
@@ -78,4 +92,37 @@ fn extend<T: StretchValue>(
         Ok(()) => Ok(()),
         Err(_) => Err(AllocError),
     }
+}
+
+// One span more in front of the spans: it and the first of them are one where their values are the
+// same.
+fn join<T: StretchValue>(
+    stretches: &mut VecDeque<Stretch<T>>,
+    stretch: Stretch<T>,
+) -> Result<(), AllocError>
+    ensures { OnOk result (stretches.new.items ≡ joined T.same stretch stretches.old.items) }
+{
+    if !stretches.is_empty() && stretches[0].value.is_same(&stretch.value) {
+        stretches[0].first = stretch.first;
+        return Ok(());
+    }
+    match stretches.push_front(stretch) {
+        Ok(()) => Ok(()),
+        Err(_) => Err(AllocError),
+    }
+}
+
+/// The spans, of which neighbours that have the same value are one.
+pub(crate) fn merged<T: StretchValue>(
+    alloc: Global,
+    stretches: Vec<Stretch<T>>,
+) -> Result<Vec<Stretch<T>>, AllocError>
+    ensures { IfOk result (λ fewer. fewer.items ≡ merged T.same stretches.items) }
+{
+    let mut fewer = VecDeque::new(alloc);
+    let mut left = stretches;
+    while let Some(stretch) = left.pop() {
+        join(&mut fewer, stretch)?;
+    }
+    Ok(Vec::from(fewer))
 }

@@ -1,57 +1,26 @@
 //! The bands of the tasks: where each runs, is ready or is blocked, and where it inherits a
 //! priority.
-ghost use Rattle.std.specs.Prelude.{◌≡◌, ◌++◌, ◌+◌, ◌<◌, ◌≤◌, ◌^◌, IfOk, OnOk, flat_map, length, map, string_bytes};
-ghost use Rattle.run_pictures.specs.TaskStretches.{priorities_in, priority_stretches};
+ghost use Rattle.std.specs.Prelude.{◌≡◌, ◌++◌, ◌+◌, ◌<◌, ◌≤◌, ◌^◌, OnOk, flat_map, length, string_bytes};
+ghost use Rattle.run_pictures.specs.RowStates.{row_stretches};
 ghost use Rattle.run_pictures.specs.TaskBands.{blocked_label, inherited_bar, pose_bar, pose_words, reason_text, stance_label, stance_shape, stance_stretch, stance_text, stance_words, task_row, wait_name};
 
 use crate::bar::{Bar, Letters, push_bar, push_label, push_over};
 use crate::frame::Frame;
 use crate::hindrance_words::push_hindered;
 use crate::ink::Ink;
-use crate::pose::{Detail, Pose, detailed_stretches};
+use crate::pose::{Detail, Pose};
 use crate::preemption::push_offs;
+use crate::row_states::RowState;
 use crate::shown::Priorities;
-use crate::stance::{Stance, status_in};
-use crate::stretch::{Stretch, stretches_of};
+use crate::stance::Stance;
+use crate::stretch::Stretch;
 use crate::task_names::push_task_name;
+use crate::task_stretches::TaskStretches;
 use crate::waits::{Wait, last_wait};
 use crate::{Made, RunLooks};
 use bench_types::Header;
-use run_views::{Look, Standing, push_standing};
+use run_views::{Standing, push_standing};
 use std::alloc::{AllocError, Global};
-
-fn priorities_in(look: &Look, task: u32) -> Priorities
-    ensures { result ≡ priorities_in task look.now }
-{
-    let status = status_in(look, task);
-    Priorities {
-        in_use: status.in_use,
-        base: status.base,
-    }
-}
-
-fn priorities(alloc: Global, looks: &[Look], task: u32) -> Result<Vec<Priorities>, AllocError>
-    ensures { IfOk result (λ values. values.items ≡ map (priorities_in task) looks.now) }
-{
-    looks
-        .iter()
-        .map(|look| priorities_in(look, task))
-        .collect(alloc)
-}
-
-#[tactic(auto, unfolding(crate::specs::TaskStretches::priority_stretches))]
-fn priority_stretches(
-    alloc: Global,
-    first: u32,
-    looks: &[Look],
-    task: u32,
-) -> Result<Vec<Stretch<Priorities>>, AllocError>
-    requires { first + length looks.now ≤ 2 ^ 32 }
-    ensures { IfOk result (λ stretches. stretches.items ≡ priority_stretches first looks.now task) }
-{
-    let values = priorities(alloc, looks, task)?;
-    stretches_of(alloc, first, values)
-}
 
 fn push_wait(text: &mut String, wait: Wait) -> Result<(), AllocError>
     ensures { OnOk result (string_bytes text.new ≡ string_bytes text.old ++ wait_name wait) }
@@ -314,7 +283,8 @@ fn push_inheritances(
     requires { y < 2 ^ 40 }
     ensures { OnOk result
         (string_bytes text.new
-        ≡ string_bytes text.old ++ flat_map (inherited_bar header.now frame.now y task) stretches.now) }
+        ≡ string_bytes text.old ++ flat_map (inherited_bar header.now frame.now y task)
+        stretches.now) }
 {
     for stretch in stretches {
         push_inherited(alloc, text, header, frame, y, task, *stretch)?;
@@ -322,8 +292,8 @@ fn push_inheritances(
     Ok(())
 }
 
-/// Writes the row of a task.
-#[tactic(auto, unfolding(crate::specs::TaskBands::task_row))]
+/// Writes the row of a task that shows these spans.
+#[tactic(auto, unfolding(crate::specs::Preemption::off_bars, crate::specs::TaskBands::task_row, crate::specs::TaskNames::task_name))]
 pub(crate) fn push_task_row(
     alloc: Global,
     text: &mut String,
@@ -333,20 +303,30 @@ pub(crate) fn push_task_row(
     run_looks: &RunLooks,
     detail: Detail,
     task: u32,
+    states: &[Stretch<RowState>],
 ) -> Result<(), AllocError>
     requires y { y < 2 ^ 40 }
     requires few { frame.now.first + length run_looks.now.looks ≤ 2 ^ 32 }
+    requires states { states.now ≡ row_stretches frame.now.first run_looks.now.looks task }
     ensures { OnOk result
         (string_bytes text.new
         ≡ string_bytes text.old ++ task_row header.now frame.now y run_looks.now detail task) }
 {
     let looks = run_looks.looks.as_slice();
     let made = run_looks.made.as_slice();
-    push_task_name(alloc, text, header, frame.first, y, looks, task)?;
-    let poses = detailed_stretches(alloc, detail, frame.first, looks, task)?;
-    let stretches = poses.as_slice();
-    push_poses(alloc, text, header, frame, y, task, made, detail, stretches)?;
-    let priorities = priority_stretches(alloc, frame.first, looks, task)?;
-    push_inheritances(alloc, text, header, frame, y, task, priorities.as_slice())?;
-    push_offs(alloc, text, header, frame, y, looks, task)
+    let stretches = TaskStretches::of_states(alloc, detail, frame.first, looks, task, states)?;
+    push_task_name(alloc, text, header, y, task, stretches.terms.as_slice())?;
+    let poses = stretches.poses.as_slice();
+    push_poses(alloc, text, header, frame, y, task, made, detail, poses)?;
+    let priorities = stretches.priorities.as_slice();
+    push_inheritances(alloc, text, header, frame, y, task, priorities)?;
+    push_offs(
+        alloc,
+        text,
+        header,
+        frame,
+        y,
+        task,
+        stretches.preempts.as_slice(),
+    )
 }

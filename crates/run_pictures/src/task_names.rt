@@ -1,17 +1,15 @@
 //! What stands at the left of a task's row: its name, and below it its base priority and its mask.
-ghost use Rattle.std.specs.Prelude.{◌≡◌, ◌++◌, ◌+◌, ◌<◌, ◌≤◌, ◌^◌, IfOk, OnOk, flat_map, length, map, string_bytes};
+ghost use Rattle.std.specs.Prelude.{◌≡◌, ◌++◌, ◌<◌, ◌^◌, OnOk, string_bytes};
 ghost use Rattle.std.specs.List.{list_all};
 ghost use Rattle.list_orders.specs.Search.{numbers};
 ghost use Rattle.run_pictures.specs.Same.{are_same_terms};
-ghost use Rattle.run_pictures.specs.TaskNames.{all_printed, has_all, later_text, line_text, mask_text, task_name, terms_in, terms_line, terms_part, terms_stretches, terms_text, title_text};
+ghost use Rattle.run_pictures.specs.TaskNames.{all_printed, has_all, later_text, line_text, mask_text, name_lines, terms_line, terms_part, terms_text, title_text};
 
 use crate::bar::{Letters, push_name, push_origin, push_over};
 use crate::escape::push_escaped;
 use crate::hindrance::has_core;
-use crate::stance::status_in;
-use crate::stretch::{Stretch, StretchValue, stretches_of};
+use crate::stretch::{Stretch, StretchValue};
 use bench_types::Header;
-use run_views::Look;
 use std::alloc::{AllocError, Global};
 
 /// What a task has until it is set anew.
@@ -32,36 +30,6 @@ impl StretchValue for Terms {
     fn is_same(&self, other: &Self) -> bool {
         self.base == other.base && self.mask == other.mask
     }
-}
-
-fn terms_in(look: &Look, task: u32) -> Terms
-    ensures { result ≡ terms_in task look.now }
-{
-    let status = status_in(look, task);
-    Terms {
-        base: status.base,
-        mask: status.mask,
-    }
-}
-
-fn all_terms(alloc: Global, looks: &[Look], task: u32) -> Result<Vec<Terms>, AllocError>
-    ensures { IfOk result (λ values. values.items ≡ map (terms_in task) looks.now) }
-{
-    looks.iter().map(|look| terms_in(look, task)).collect(alloc)
-}
-
-#[tactic(auto, unfolding(crate::specs::TaskNames::terms_stretches))]
-fn terms_stretches(
-    alloc: Global,
-    first: u32,
-    looks: &[Look],
-    task: u32,
-) -> Result<Vec<Stretch<Terms>>, AllocError>
-    requires { first + length looks.now ≤ 2 ^ 32 }
-    ensures { IfOk result (λ stretches. stretches.items ≡ terms_stretches first looks.now task) }
-{
-    let values = all_terms(alloc, looks, task)?;
-    stretches_of(alloc, first, values)
 }
 
 fn has_all(mask: u32, cores: u32) -> bool
@@ -92,7 +60,8 @@ fn push_terms(text: &mut String, cores: u32, terms: Terms) -> Result<(), AllocEr
 // A stretch, on a line of its own.
 #[tactic(auto, unfolding(crate::specs::TaskNames::terms_part))]
 fn push_part(text: &mut String, cores: u32, stretch: Stretch<Terms>) -> Result<(), AllocError>
-    ensures { OnOk result (string_bytes text.new ≡ string_bytes text.old ++ terms_part cores stretch) }
+    ensures { OnOk result
+        (string_bytes text.new ≡ string_bytes text.old ++ terms_part cores stretch) }
 {
     text.push_str("\n")?;
     push_over(text, stretch.first, stretch.last)?;
@@ -107,7 +76,8 @@ fn push_printed(
     stretches: &[Stretch<Terms>],
 ) -> Result<(), AllocError>
     ensures { OnOk result
-        (string_bytes text.new ≡ string_bytes text.old ++ all_printed header.now task stretches.now) }
+        (string_bytes text.new ≡ string_bytes text.old
+        ++ all_printed header.now task stretches.now) }
 {
     header.push_name(text, task)?;
     for stretch in stretches {
@@ -119,7 +89,8 @@ fn push_printed(
 // That there are later stretches.
 #[tactic(auto, unfolding(crate::specs::TaskNames::later_text))]
 fn push_later(text: &mut String, stretches: &[Stretch<Terms>]) -> Result<(), AllocError>
-    ensures { OnOk result (string_bytes text.new ≡ string_bytes text.old ++ later_text stretches.now) }
+    ensures { OnOk result
+        (string_bytes text.new ≡ string_bytes text.old ++ later_text stretches.now) }
 {
     if stretches.len() < 2 {
         return Ok(());
@@ -179,25 +150,22 @@ fn push_terms_line(
 }
 
 /// Writes the name of the task's row, and below it its base priority and its mask.
-#[tactic(auto, unfolding(crate::specs::TaskNames::task_name))]
+#[tactic(auto, unfolding(crate::specs::TaskNames::name_lines))]
 pub(crate) fn push_task_name(
     alloc: Global,
     text: &mut String,
     header: &Header,
-    first: u32,
     y: u64,
-    looks: &[Look],
     task: u32,
+    stretches: &[Stretch<Terms>],
 ) -> Result<(), AllocError>
-    requires y { y < 2 ^ 40 }
-    requires few { first + length looks.now ≤ 2 ^ 32 }
+    requires { y < 2 ^ 40 }
     ensures { OnOk result
         (string_bytes text.new
-        ≡ string_bytes text.old ++ task_name header.now first y looks.now task) }
+        ≡ string_bytes text.old ++ name_lines header.now y task stretches.now) }
 {
     let mut name = String::new(alloc);
     header.push_name(&mut name, task)?;
     push_name(text, y + 16, name.as_str())?;
-    let stretches = terms_stretches(alloc, first, looks, task)?;
-    push_terms_line(alloc, text, header, y + 32, task, stretches.as_slice())
+    push_terms_line(alloc, text, header, y + 32, task, stretches)
 }

@@ -1,6 +1,7 @@
 mod Accepting
 mod Details
 pub mod Documents
+mod Known
 mod Lists
 mod Loops
 mod NearWords

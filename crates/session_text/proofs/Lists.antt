@@ -12,7 +12,7 @@ prefix_len_map : {A B : Type 0} (test : B → Bool) (see : A → B) (xs : List A
 prefix_len_map test see [] = refl
 prefix_len_map test see (x ∷ xs) = rw (prefix_len_map test see xs) refl
 
--- the place of what is seen
+-- the location of what is seen
 pub position_map : {A B : Type 0} (test : B → Bool) (see : A → B) (xs : List A) → position test (map see xs) ≡ position (λ x. test (see x)) xs
 position_map test see xs = rw (prefix_len_map (λ y. not (test y)) see xs, length-map xs see) refl
 

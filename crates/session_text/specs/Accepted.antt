@@ -13,7 +13,7 @@ use Rattle.session_text.specs.ReadingRules.{◌>>=◌}
 use Rattle.session_text.specs.Path.{item_path, path_text}
 use Rattle.session_text.specs.UnknownName.{detail_of}
 
--- F1 of the header of the session at a place; the fault itself has none
+-- F1 of the header of the session at a location; the fault itself has none
 abbrev pub header_fault : List ℕ → HeaderFlaw → TextFault
 header_fault at flaw = record {
   why = Bench BadHeader;
@@ -21,7 +21,7 @@ header_fault at flaw = record {
   detail = detail.Header flaw (path_text at);
 }
 
--- F1 to F5 at a place, with what is at fault in the value there
+-- F1 to F5 at a location, with what is at fault in the value there
 abbrev pub item_fault : List (List ℕ) → List ℕ → Option Data → StepFlaw → TextFault
 item_fault names at d flaw =
     record { why = Bench (flaw_fault flaw); path = path_text at; detail = detail_of names d flaw }
@@ -35,7 +35,7 @@ item_accepted names at d (Some flaw) = Err (item_fault names at d flaw)
 abbrev pub item_of : ℕ → Option Data → Option Data
 item_of index array = option_and_then (find.at index) array
 
--- the first fault of the items from an index on of the array at a place
+-- the first fault of the items from an index on of the array at a location
 abbrev pub items_accepted :
     {A : Type 0} → (A → Option StepFlaw) → List (List ℕ) → List ℕ → Option Data → ℕ → List A
     → Result ⊤ TextFault

@@ -1,5 +1,5 @@
--- Objects and their members: each reading takes the place of the object, the name of the member and
--- the value there.
+-- Objects and their members: each reading takes the location of the object, the name of the member
+-- and the value there.
 use Rattle.std.specs.Prelude.{ℕ, ◌^◌, List, Bool, nat_lt, Option, Some, None, option_and_then, Result, Ok, Err, if◌then◌else◌, ⊤}
 use Rattle.serde_json.specs.Data.{Data, Items, Members}
 use Rattle.serde_json.specs.Find.{get, as_object, as_array, as_str, as_bool, as_number, as_u64}
@@ -13,7 +13,7 @@ use Rattle.session_text.specs.Nearest.{stray}
 use Rattle.session_text.specs.ReadingRules.{◌>>=◌, found, bad_shape}
 use Rattle.session_text.specs.Path.{member_path}
 
--- what was looked for in a value at a place, or H2 there: the value has to be something else
+-- what was looked for in a value at a location, or H2 there: the value has to be something else
 abbrev pub typed : {A : Type 0} → Expected → Data → Option A → List ℕ → Result A TextFault
 typed expected d sought at = found sought at (Wrong expected (found_of d))
 
@@ -40,7 +40,7 @@ number_at at name d = do
   value ← member_at at name d
   typed Number value (as_u32 value) (member_path at name)
 
--- the number that stands at a place, or another one where nothing does
+-- the number that stands at a location, or another one where nothing does
 abbrev number_or : ℕ → Option Data → List ℕ → Result ℕ TextFault
 number_or other None at = Ok other
 number_or other (Some value) at = typed Number value (as_u32 value) at

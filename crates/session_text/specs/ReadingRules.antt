@@ -14,11 +14,11 @@ abbrev pub ◌>>=◌ : {A B : Type 0} → Result A TextFault → (A → Result B
 Ok x >>= next = next x
 Err fault >>= next = Err fault
 
--- H2 at a place, with what more is known of it
+-- H2 at a location, with what more is known of it
 abbrev pub bad_shape : List ℕ → Detail → TextFault
 bad_shape at more = record { why = BadShape; path = path_text at; detail = more }
 
--- what was looked for at a place, or H2 there
+-- what was looked for at a location, or H2 there
 abbrev pub found : {A : Type 0} → Option A → List ℕ → Detail → Result A TextFault
 found (Some x) at more = Ok x
 found None at more = Err (bad_shape at more)

@@ -30,7 +30,7 @@ use Rattle.session_text.specs.ReadingRules.{◌>>=◌, bad_shape}
 use Rattle.session_text.specs.Path.{item_path, member_path, path_text}
 use Rattle.session_text.specs.Session.{document, session_members}
 
--- the array at a place has no items, or H2 there
+-- the array at a location has no items, or H2 there
 abbrev pub no_items_at : List ℕ → Items → Result ⊤ TextFault
 no_items_at at items =
     if items_len items == 0 then Ok tt else Err (bad_shape at detail.HasSteps)
@@ -102,11 +102,12 @@ limit_accepted at limit =
     })
     else Ok tt
 
--- the first fault of the script of a core, which stands in the array at a place
+-- the first fault of the script of a core, which stands in the array at a location
 abbrev pub script_accepted :
     Header → List ℕ → Option Data → ℕ → List CoreAction → Result ⊤ TextFault
 script_accepted header at array core script =
-    items_accepted (core_action_flaw (settings_of header) core) (user_names header) (item_path at core)
+    items_accepted (core_action_flaw (settings_of header) core) (user_names header)
+    (item_path at core)
     (item_of core array) 0 script
 
 -- the same of the scripts from a core's on
@@ -119,7 +120,8 @@ scripts_accepted header at array core (script ∷ rest) = do
 
 -- F1 of the header comes first; the fault of the limit comes before those of the scripts
 unfoldable pub rig_accepted :
-    List ℕ → Data → Result Header HeaderFlaw → ℕ → List (List CoreAction) → Result RigScript TextFault
+    List ℕ → Data → Result Header HeaderFlaw → ℕ → List (List CoreAction)
+    → Result RigScript TextFault
 rig_accepted at d (Err flaw) limit scripts =
     Err (header_fault (member_path at (codes "session")) flaw)
 rig_accepted at d (Ok header) limit scripts = do

@@ -47,7 +47,7 @@ session_at at d = do
   only ← only_at at (session_members format) members
   Ok (format, header, steps)
 
--- the first fault of the steps of the session at a place
+-- the first fault of the steps of the session at a location
 unfoldable pub steps_accepted : Header → List ℕ → Data → List Step → Result ⊤ TextFault
 steps_accepted header at d steps =
     items_accepted (step_flaw (settings_of header)) (user_names header)
@@ -61,7 +61,7 @@ session_accepted at d (Ok header) steps = do
   done ← steps_accepted header at d steps
   Ok (header, steps)
 
--- the header and the steps of the session at a place
+-- the header and the steps of the session at a location
 abbrev pub whole_session : List ℕ → Data → Result (Header × List Step) TextFault
 whole_session at d = do
   read ← session_at at d

@@ -74,7 +74,7 @@ impl HasHeader for Header {
     }
 }
 
-/// The fault of a flaw at the place, with what is at fault in the value there.
+/// The fault of a flaw at the location, with what is at fault in the value there.
 pub(crate) fn item_fault(
     alloc: Global,
     header: &Header,
@@ -92,7 +92,7 @@ pub(crate) fn item_fault(
     }
 }
 
-/// Where items were read: the place of their array, and its value.
+/// Where items were read: the location of their array, and its value.
 #[derive(Drop)]
 pub(crate) struct Source<'p, 'v> {
     pub(crate) alloc: Global,

@@ -29,7 +29,7 @@ pub(crate) trait ReadItem<'v> {
             (reading self.now (location_of node.now) (data_of node.now)) };
 }
 
-/// Reads the items of the array at the place, one after another.
+/// Reads the items of the array at the location, one after another.
 pub(crate) fn each<'v, R: ReadItem<'v>>(
     alloc: Global,
     reader: &R,

@@ -34,7 +34,7 @@ pub struct Bench {
 /// Reads a bench document from a JSON text: an object with `session` and `edits`, or a session
 /// alone.
 ///
-/// Whether a session has the places of its edits is not looked at.
+/// Whether a session has the locations of its edits is not looked at.
 pub fn read_bench(alloc: Global, text: &[u8]) -> Result<Bench, TextFault>
     // The session and its edits, or the first fault with its path, or that memory ran out.
     ensures reading { ReadsAs (λ bench. bench) result (bench_text text.now) }

@@ -99,7 +99,7 @@ pub enum Found {
 pub enum Detail {
     /// Nothing more is known.
     None,
-    /// The member at the place is missing.
+    /// The member at the location is missing.
     Missing,
     /// The object has a member whose name is none of those that may stand there.
     Unknown(Stray),

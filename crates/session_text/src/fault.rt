@@ -71,11 +71,12 @@ impl ReadFault {
         }
     }
 
-    /// The fault at the place, or that no memory is left for its path.
+    /// The fault at the location, or that no memory is left for its path.
     #[cold]
     pub(crate) fn at(alloc: Global, location: &Location<'_>, why: Why, detail: Detail) -> ReadFault
         ensures { StopsAt
-            (record { why = why; path = path_text (path_of location.now); detail = detail }) result }
+            (record { why = why; path = path_text (path_of location.now); detail = detail })
+            result }
     {
         match location.to_path(alloc) {
             Ok(path) => ReadFault::of(alloc, TextFault { why, path, detail }),
@@ -83,7 +84,7 @@ impl ReadFault {
         }
     }
 
-    /// F1 of the header of the session at the place, or that no memory is left for that path.
+    /// F1 of the header of the session at the location, or that no memory is left for that path.
     #[cold]
     pub(crate) fn of_header(alloc: Global, session: &Location<'_>, flaw: HeaderFlaw) -> ReadFault
         ensures { StopsAt (header_fault (path_of session.now) flaw) result }

@@ -86,7 +86,7 @@ impl<'v> ReadItem<'v> for TaskReader {
     }
 }
 
-/// The tasks, or the place of the first one whose name is none. Only memory ends the call early.
+/// The tasks, or the location of the first one whose name is none. Only memory ends the call early.
 fn named_tasks(
     alloc: Global,
     shapes: &[TaskShape<'_>],

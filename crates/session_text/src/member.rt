@@ -21,7 +21,8 @@ impl<'p, 't, 'v> Node<'p, 't, 'v> {
     /// H2 here, where another value is expected.
     fn bad_value(&self, expected: Expected) -> ReadFault
         ensures { StopsAt
-            (bad_shape (location_of self.now) (Wrong expected (found_of (data_of self.now)))) result }
+            (bad_shape (location_of self.now) (Wrong expected (found_of (data_of self.now))))
+            result }
     {
         let found = found_of(self.value.item());
         self.bad_shape(Detail::Wrong { expected, found })

@@ -57,6 +57,7 @@ impl<'a> Names<'a> {
         })
     }
 
+    #[inline(never)]
     #[tactic(auto, using(crate::proofs::Lists::position_map))]
     pub(crate) fn number_of(&self, name: &str) -> u32
         ensures { result ≡ number_of self.now name.now }
@@ -68,6 +69,7 @@ impl<'a> Names<'a> {
     }
 
     /// The number of the task that the member names.
+    #[inline(always)]
     #[tactic(auto, unfolding(crate::specs::Step::task_named_at))]
     pub(crate) fn task_named_at(
         &self,

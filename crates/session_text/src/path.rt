@@ -5,7 +5,7 @@ ghost use Rattle.session_text.specs.Path.{path_of, path_text};
 use std::alloc::{AllocError, Global};
 use std::marker::Model;
 
-/// The place of a fault as a text, such as `steps[3].core`.
+/// The location of a fault as a text, such as `steps[3].core`.
 #[derive(Debug, Drop)]
 pub struct Path {
     text: Option<String>,
@@ -28,8 +28,8 @@ impl Path {
         Path { text: None }
     }
 
-    /// The members and indices down to the place, as `steps[3].core`, or `top` for the outermost
-    /// value; empty where the fault has no place.
+    /// The members and indices down to the location, as `steps[3].core`, or `top` for the outermost
+    /// value; empty where the fault has no location.
     pub fn as_str(&self) -> &str
         ensures { result.now ≡ self.now }
     {
@@ -40,7 +40,7 @@ impl Path {
     }
 }
 
-/// A value's place in a document, as a chain on the stack that reaches up to the top.
+/// A value's location in a document, as a chain on the stack that reaches up to the top.
 ///
 /// It is made into a text at a fault alone.
 #[derive(Clone, Copy)]
@@ -51,7 +51,7 @@ pub(crate) enum Location<'a> {
 }
 
 impl Location<'_> {
-    /// The text that a fault at this place carries.
+    /// The text that a fault at this location carries.
     pub(crate) fn to_path(&self, alloc: Global) -> Result<Path, AllocError>
         ensures { IfOk result (λ path. path ≡ path_text (path_of self.now)) }
     {

@@ -278,7 +278,8 @@ fn script_accepted(
     ensures reading { Gives (λ done. done) result
         (script_accepted header.now (path_of source.now.location.now)
         (option_map view source.now.value) core script.now) }
-    ensures checked { OnOk result (All (IsCheckedCoreAction (settings_of header.now) core) script.now) }
+    ensures checked { OnOk result
+        (All (IsCheckedCoreAction (settings_of header.now) core) script.now) }
 {
     let own = Source {
         alloc: source.alloc,

@@ -1,17 +1,23 @@
 //! Steps, as texts write them.
-ghost use Rattle.std.specs.Prelude.{◌≡◌, map};
+ghost use Rattle.std.specs.Prelude.{◌≡◌, map, true};
+ghost use Rattle.json_data.specs.ObjectView.{members_view};
+ghost use Rattle.json_data.specs.Reading.{are_known};
 ghost use Rattle.session_text.specs.Detail.{words_of};
+ghost use Rattle.session_text.specs.declared.format.Format.TheVariants.{One, Two};
+ghost use Rattle.session_text.specs.Member.{only_at};
 ghost use Rattle.session_text.specs.Node.{data_of, location_of};
 ghost use Rattle.session_text.specs.ReadingRules.{Gives};
-ghost use Rattle.session_text.specs.Step.{kind_at, kind_of, kinds, members_of, step_at, step_of_kind_at};
+ghost use Rattle.session_text.specs.Step.{kind_at, kind_of, kinds, members_of, members_of_call, step_at, step_of_kind_at};
 
+use crate::action::action_number;
 use crate::array::ReadItem;
 use crate::call::{CallKind, call_at, call_members, interrupt_members, note_at};
 use crate::fault::ReadFault;
 use crate::format::Format;
 use crate::names::Names;
 use crate::node::Node;
-use bench_types::Step;
+use bench_types::{Call, Step};
+use json_data::Object;
 
 /// What `do` says of a step.
 #[derive(Clone, Copy)]
@@ -91,6 +97,116 @@ fn known_members(format: Format, step: &Step) -> &'static [&'static str]
     }
 }
 
+/// Whether each member is one that a step of a call like this one has in format 1. The names are
+/// literals here, so that it comes down to comparisons with them.
+#[inline(always)]
+fn has_only_of_call(call: Call, members: &Object<'_, '_, '_>) -> bool
+    ensures { result ≡ are_known (members_of_call One call) (members_view members.now) }
+{
+    match call {
+        Call::Yield | Call::Finish | Call::HoldOpen | Call::HoldClose => {
+            members.has_only(&["core", "by", "do"])
+        }
+        Call::Delay(_) => members.has_only(&["core", "by", "do", "ticks"]),
+        Call::DelayUntil { .. } => members.has_only(&["core", "by", "do", "prev", "inc"]),
+        Call::PrioritySet { .. } => members.has_only(&["core", "by", "do", "to", "priority"]),
+        Call::AffinitySet { .. } => members.has_only(&["core", "by", "do", "to", "mask"]),
+        Call::PreemptOff(_) | Call::PreemptOn(_) => members.has_only(&["core", "by", "do", "to"]),
+        Call::Notify(note) => match action_number(note.action) {
+            None => members.has_only(&["core", "by", "do", "to", "action"]),
+            Some(_) => members.has_only(&["core", "by", "do", "to", "action", "value"]),
+        },
+        Call::NotifyWait { .. } => {
+            members.has_only(&["core", "by", "do", "entry", "exit", "ticks"])
+        }
+        Call::NotifyTake { .. } => members.has_only(&["core", "by", "do", "clear", "ticks"]),
+        Call::StateClear { .. } => members.has_only(&["core", "by", "do", "to"]),
+        Call::ValueClear { .. } => members.has_only(&["core", "by", "do", "to", "bits"]),
+        Call::MutexTake { .. } => members.has_only(&["core", "by", "do", "mutex", "ticks"]),
+        Call::MutexGive(_) => members.has_only(&["core", "by", "do", "mutex"]),
+    }
+}
+
+/// Whether each member is one that a step like this one has in format 1.
+#[inline(always)]
+fn has_only_in_format_1(step: &Step, members: &Object<'_, '_, '_>) -> bool
+    ensures { result ≡ are_known (members_of One step.now) (members_view members.now) }
+{
+    match step {
+        Step::Tick => members.has_only(&["do"]),
+        Step::Switch { .. } => members.has_only(&["core", "do"]),
+        Step::Call { call, .. } => has_only_of_call(*call, members),
+        Step::Interrupt { note, .. } => match action_number(note.action) {
+            None => members.has_only(&["core", "do", "to", "action"]),
+            Some(_) => members.has_only(&["core", "do", "to", "action", "value"]),
+        },
+    }
+}
+
+/// Whether each member is surely one that a step like this one has in format 2.
+#[inline(always)]
+fn has_only_in_format_2(step: &Step, members: &Object<'_, '_, '_>) -> bool
+    ensures { result ≡ true
+        → are_known (members_of Two step.now) (members_view members.now) ≡ true }
+{
+    match step {
+        Step::Call { call, .. } => match call {
+            Call::Notify(note) => match action_number(note.action) {
+                None => members.has_only(&["core", "by", "do", "to", "action", "index"]),
+                Some(_) => {
+                    members.has_only(&["core", "by", "do", "to", "action", "value", "index"])
+                }
+            },
+            Call::NotifyWait { .. } => {
+                members.has_only(&["core", "by", "do", "entry", "exit", "ticks", "index"])
+            }
+            Call::NotifyTake { .. } => {
+                members.has_only(&["core", "by", "do", "clear", "ticks", "index"])
+            }
+            Call::StateClear { .. } => members.has_only(&["core", "by", "do", "to", "index"]),
+            Call::ValueClear { .. } => {
+                members.has_only(&["core", "by", "do", "to", "bits", "index"])
+            }
+            _ => has_only_in_format_1(step, members),
+        },
+        Step::Interrupt { note, .. } => match action_number(note.action) {
+            None => members.has_only(&["core", "do", "to", "action", "index"]),
+            Some(_) => members.has_only(&["core", "do", "to", "action", "value", "index"]),
+        },
+        _ => has_only_in_format_1(step, members),
+    }
+}
+
+/// The same in the format.
+#[inline(always)]
+fn has_only_known(format: Format, step: &Step, members: &Object<'_, '_, '_>) -> bool
+    ensures { result ≡ true
+        → are_known (members_of format step.now) (members_view members.now) ≡ true }
+{
+    match format {
+        Format::One => has_only_in_format_1(step, members),
+        Format::Two => has_only_in_format_2(step, members),
+    }
+}
+
+/// H2 where the step has a member that no step like it has.
+#[inline(always)]
+fn only_known(
+    format: Format,
+    node: &Node<'_, '_, '_>,
+    step: &Step,
+    members: &Object<'_, '_, '_>,
+) -> Result<(), ReadFault>
+    ensures { Gives (λ done. done) result
+        (only_at (location_of node.now) (members_of format step.now) (members_view members.now)) }
+{
+    if has_only_known(format, step, members) {
+        Ok(())
+    } else {
+        node.only(known_members(format, step), members)
+    }
+}
+
 #[tactic(auto, unfolding(crate::specs::Step::kind_at))]
 pub(crate) fn kind_at(node: &Node<'_, '_, '_>) -> Result<Kind, ReadFault>
     ensures { Gives (λ kind. kind) result (kind_at (location_of node.now) (data_of node.now)) }
@@ -143,7 +259,7 @@ impl<'v> ReadItem<'v> for StepReader<'_, '_> {
         let members = node.object()?;
         let kind = kind_at(node)?;
         let step = step_of_kind_at(self.format, self.names, kind, node)?;
-        node.only(known_members(self.format, &step), &members)?;
+        only_known(self.format, node, &step, &members)?;
         Ok(step)
     }
 }

@@ -1,6 +1,7 @@
-use Rattle.std.proofs.Common.{arith}
+use Rattle.std.proofs.Common.{◌+◌, refl, arith}
 use Rattle.json_data.proofs.Twice.{array_passed, goes_on, items_closed, items_past, items_turn, items_twice, leaf_passed, members_begin, members_closed}
 use Rattle.json_data.proofs.Twice.{members_past, members_turn, members_twice, name_doubled, object_passed, value_past}
+use Rattle.json_data.specs.declared.doubled.Passed.TheVariants.{Next}
 use Rattle.json_data.proofs.doubled.+passing.Goals as goal
 
 pub passed_value-returns-then-at-nodes-clause-passed :
@@ -95,6 +96,24 @@ passed_members-returns-in-Twice-clause-passed t c all rest reads =
     (l.invariant.left all rest reads) c.loop-next-test.true c.in-Key.is
     (grind arith) c.in_ok-member.ensures.passed
     c.in-Twice.is
+
+pub passed_members-loop-next-preserved-then-is_leaf :
+    goal.passed_members-loop-next-preserved-then-is_leaf
+passed_members-loop-next-preserved-then-is_leaf t c =
+    let l = c.loop-next in
+    let low = c.is_leaf.ensures.within c.if-is_leaf.true in
+    record {
+      ordered = omega (arith, l.invariant.ordered);
+      within = omega (arith, low);
+      left = λ all rest reads. members_turn c.args.nodes.now c.args.at l.next (l.next + 2)
+          (Next (l.next + 2)) c.in-Key.name l.names c.add.new.self all rest
+          (l.invariant.left all rest reads) c.loop-next-test.true c.in-Key.is (grind arith)
+          c.in_ok-add.ensures.there
+          (λ whole more reads.
+          let leaf = c.is_leaf.ensures.passed c.if-is_leaf.true whole more reads in
+          (leaf.0, omega (arith, leaf.1)))
+          refl;
+    }
 
 pub passed_members-loop-next-preserved : goal.passed_members-loop-next-preserved
 passed_members-loop-next-preserved t c =

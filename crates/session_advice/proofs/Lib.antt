@@ -1,4 +1,4 @@
 mod Found
-mod Judged
+mod NumbersOfAdvice
 pub mod OneAdvice
 mod Texts

@@ -6,7 +6,7 @@ use Rattle.run_advice.specs.declared.rank.Ranked.{Ranked}
 use Rattle.run_advice.specs.Ranking.{IsRanking}
 use Rattle.session_advice.specs.Advice.{IsJudged}
 use Rattle.session_advice.specs.Basis.{basis_of, Basis}
-use Rattle.session_advice.proofs.Judged.{best_judged}
+use Rattle.session_advice.proofs.NumbersOfAdvice.{best_judged}
 use Rattle.session_advice.proofs.advice.advice_text.Goals as goal
 
 pub push_entries-requires-clause-judged : goal.push_entries-requires-clause-judged

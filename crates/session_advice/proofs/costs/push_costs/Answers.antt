@@ -7,7 +7,7 @@ use Rattle.run_advice.specs.Changed.{changed}
 use Rattle.run_advice.specs.Verdicts.{IsVerdict}
 use Rattle.session_reports.specs.Figures.{IsTooLong}
 use Rattle.session_advice.specs.Basis.{basis_of, judge_of, Basis}
-use Rattle.session_advice.proofs.Judged.{number_is_short}
+use Rattle.session_advice.proofs.NumbersOfAdvice.{number_is_short}
 use Rattle.session_advice.proofs.costs.push_costs.Goals as goal
 
 pub figures_after-requires-clause-short : goal.figures_after-requires-clause-short

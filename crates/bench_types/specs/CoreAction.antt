@@ -14,14 +14,14 @@ core_action_check settings core (core_actions.Interrupt note) = note_check setti
 core_action_check settings core core_actions.Tick = if core == 0 then Ok tt else Err BadCore
 core_action_check settings core core_actions.Switch = Ok tt
 
--- every number of an act is one of 32 bits
+-- every number of an action is one of 32 bits
 abbrev pub IsCoreActionOfWords : CoreAction → Type 0
 IsCoreActionOfWords (core_actions.Call call) = IsOfWords call
 IsCoreActionOfWords (core_actions.Interrupt note) = IsNotifyActionOfWord note.action
 IsCoreActionOfWords core_actions.Tick = ⊤
 IsCoreActionOfWords core_actions.Switch = ⊤
 
--- an act that was checked against the settings, for the core
+-- an action that was checked against the settings, for the core
 pub record IsCheckedCoreAction (settings : Settings) (core : ℕ) (core_action : CoreAction)
     : Type 0 where
   pub passes : core_action_check settings core core_action ≡ Ok tt

@@ -1,4 +1,4 @@
--- For what a step, an act or an edit is not accepted: the first of these things, in the order in
+-- For what a step, an action or an edit is not accepted: the first of these things, in the order in
 -- which its faults are tried.
 use Rattle.std.specs.Prelude.{ℕ, ◌==◌, ◌&&◌, nat_lt, nat_le, Option, Some, None, Result, Ok, Err, if◌then◌else◌, ⊤}
 use Rattle.std.specs.Option.{option_or}

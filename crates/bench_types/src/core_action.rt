@@ -22,7 +22,7 @@ pub enum CoreAction {
 }
 
 impl CoreAction {
-    /// The first thing for which the act is not accepted of the core.
+    /// The first thing for which the action is not accepted of the core.
     #[tactic(auto, using(crate::proofs::StepFlaws::core_action_check_of))]
     pub fn flaw(&self, core: u32, header: &Header) -> Option<StepFlaw>
         ensures value { result ≡ core_action_flaw (settings_of header.now) core self.now }

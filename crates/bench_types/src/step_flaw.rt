@@ -1,10 +1,10 @@
-//! For what a step, an act or an edit is not accepted.
+//! For what a step, an action or an edit is not accepted.
 ghost use Rattle.std.specs.Prelude.{◌≡◌};
 ghost use Rattle.bench_types.specs.StepFlaw.{flaw_fault, check_of};
 
 use crate::Fault;
 
-/// A thing for which a step, an act or an edit is not accepted under a header.
+/// A thing for which a step, an action or an edit is not accepted under a header.
 #[derive(Clone, Copy, Debug, PartialEq, Eq)]
 pub enum StepFlaw {
     /// The core is none of so many.

@@ -1,4 +1,4 @@
--- What a core's act comes to, from the seat before it to the seat after it.
+-- What a core's action comes to, from the seat before it to the seat after it.
 use Rattle.std.proofs.Common.{◌≡◌, ℕ, ◌+◌, ◌<◌, ◌≤◌, ◌^◌, Bool, true, false, cond, eqb, List, [], ◌∷◌, ◌++◌, length, Some, None, Result, Ok, Err, refl, sym, ap}
 use Rattle.std.proofs.Common.{subst, ◌∙◌, arith}
 use Rattle.std.specs.Prelude.{⊤, ◌⊎◌, MatchResult, is_ok, nat_lt, not}
@@ -32,7 +32,7 @@ use Rattle.core_rig.specs.Seats.{CoreView, recording_of}
 use Rattle.core_rig.specs.Stretches.{IsInHand, terms_of, entries_of, after_stretch, is_by_task, is_call}
 use Rattle.core_rig.proofs.Stretches.{depth_of_own, own_none}
 
--- an act's entry is its core's
+-- an action's entry is its core's
 own_entry : (core : ℕ) (core_action : CoreAction) (view : RecordingView) → core_action_check (settings_of view.header) core core_action ≡ Ok tt → core_of
     (act_on core core_action view) ≡ core
 own_entry core (core_actions.Call call) view checked = refl
@@ -52,7 +52,7 @@ module _ (old : CoreView) (core_action : CoreAction) (found : List Entry) (finds
   abbrev entry : Entry
   entry = entry_after old core_action found
 
-  -- the entries after the act
+  -- the entries after the action
   abbrev later : Bool → List Entry
   later added = (cond added (with_step (act_on old.core core_action view) view) view).entries
 
@@ -100,7 +100,7 @@ made_few core entries =
     let both = length-filter_both (λ (entry : Entry). eqb entry.core core) (λ entry. not (eqb entry.core core)) (λ entry. refl) entries in
     omega (arith, both)
 
--- what the stretch of an act came to
+-- what the stretch of an action came to
 pub record Came (core_action : CoreAction) (old new : SeatView RecordingView) (answer : Result Answer RigRefusal) : Type 0 where
   pub acted : HasActed core_action (core_view old) (core_view new) answer
   pub terms : new.terms ≡ old.terms
@@ -126,7 +126,7 @@ core_finds initial value finds = record {
 
 module _ (old : SeatView RecordingView) (core_action : CoreAction) (checked : core_action_check (settings_of old.terms.header) old.number core_action ≡ Ok tt)
   where
-    -- the seat with the recording in hand, and the one after the act
+    -- the seat with the recording in hand, and the one after the action
     abbrev in_hand : ℕ → List Entry → SeatView RecordingView
     in_hand task found = record old { task_depth = task; interrupt_depth = 1; seen = found; value = Some (recording_of old.terms found) }
 
@@ -183,7 +183,7 @@ rests_again core_action old new answer made before count depth resting came lega
   count = is;
 }
 
--- how many entries a core has made after its act
+-- how many entries a core has made after its action
 module _ (seat : SeatView RecordingView) (core_action : CoreAction) (hand : IsInHand seat)
     (checked : core_action_check (settings_of seat.terms.header) seat.number core_action ≡ Ok tt) where
   abbrev before : RecordingView
@@ -219,7 +219,7 @@ module _ (seat : SeatView RecordingView) (core_action : CoreAction) (hand : IsIn
       (ap (λ seat. length (made_by seat.number seat.seen)) is) in
       omega (arith, all, most, own, few)
 
--- an act that is not at fault is answered
+-- an action that is not at fault is answered
 module _ (core_action : CoreAction) (old new : SeatView RecordingView) (first : CoreView) (is : core_view old ≡ first) (result : Result Answer RigRefusal)
     (checked : core_action_check (settings_of old.terms.header) old.number core_action ≡ Ok tt) where
   pub is_answered : Came core_action old new result → IsAnswered core_action first (core_view new) result
@@ -235,7 +235,7 @@ module _ (core_action : CoreAction) (old new : SeatView RecordingView) (first : 
       (subst (λ check. MatchResult check (λ _. IsRefused refusals.Busy (core_view old) (core_view new) result ⊎ HasActed core_action (core_view old)
       (core_view new) result) (λ fault. IsRefused (refusals.Fault fault) (core_view old) (core_view new) result)) (sym checked) acted)
 
--- while a core's act leaves the hold, its depth is what it was
+-- while a core's action leaves the hold, its depth is what it was
 pub depth_stays : (old taken new : SeatView RecordingView) (core_action : CoreAction) (made start depth : ℕ) → IsResting old made start → HasTaken terms_of
     entries_of old taken → new ≡ after_stretch core_action taken → hold_after new.terms.header new.seen ≡ hold_after taken.terms.header taken.seen → depth ≡
     depth_by new.number (hold_after new.terms.header new.seen) → depth ≡ start

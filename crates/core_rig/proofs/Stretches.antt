@@ -137,7 +137,7 @@ module _ (core : ℕ) (view : RecordingView) (owns : Bool) where
   may_follow core_actions.Tick growth sound free taken = record { growth = growth; hold = inl (unchanged core_actions.Tick sound refl) }
   may_follow core_actions.Switch growth sound free taken = record { growth = growth; hold = inl (unchanged core_actions.Switch sound refl) }
 
--- what the core has in hand, its act done, may go back
+-- what the core has in hand, its action done, may go back
 module _ (seat : SeatView RecordingView) (core_action : CoreAction) where
   abbrev found : RecordingView
   found = recording_of seat.terms seat.seen

@@ -34,7 +34,7 @@ pub record Finds (seat : CoreView) (history : List Entry) : Type 0 where
   pub own : made_by seat.core history ≡ seat.made
   pub depth : depth_by seat.core (hold_after seat.terms.header history) ≡ depth_at seat
 
--- the entry that the core's act is after a history
+-- the entry that the core's action is after a history
 abbrev pub entry_after : CoreView → CoreAction → List Entry → Entry
 entry_after seat core_action history =
     let view = recording_of seat.terms history in entry_of (act_on seat.core core_action view) view
@@ -65,7 +65,7 @@ pub record HasActed (core_action : CoreAction) (old new : CoreView)
 abbrev pub IsRefused : RigRefusal → CoreView → CoreView → Result Answer RigRefusal → Type 0
 IsRefused why old new result = (result ≡ Err why) × (new ≡ old)
 
--- F2 to F5 where the act is at fault, else the core acts
+-- F2 to F5 where the action is at fault, else the core acts
 abbrev pub IsAnswered : CoreAction → CoreView → CoreView → Result Answer RigRefusal → Type 0
 IsAnswered core_action old new result =
     MatchResult (core_action_check (settings_of old.terms.header) old.core core_action)

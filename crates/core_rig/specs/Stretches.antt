@@ -24,7 +24,7 @@ pub record IsInHand (seat : SeatView RecordingView) : Type 0 where
   pub value : seat.value ≡ Some (recording_of seat.terms seat.seen)
   pub own : made_by seat.number seat.seen ≡ seat.made
 
--- an act is a call of the core's current task
+-- an action is a call of the core's current task
 abbrev pub is_call : CoreAction → Bool
 is_call (core_actions.Call call) = true
 is_call (core_actions.Interrupt note) = false
@@ -46,7 +46,7 @@ pub record MayAct (core_action : CoreAction) (seat : SeatView RecordingView) : T
       ≡ false
   pub owns : is_call core_action ≡ true → 0 < seat.task_depth
 
--- the seat after the act, without the interrupt word
+-- the seat after the action, without the interrupt word
 abbrev pub after_stretch : CoreAction → SeatView RecordingView → SeatView RecordingView
 after_stretch core_action seat =
     let recording = recording_of seat.terms seat.seen in

@@ -184,7 +184,7 @@ impl CoreSeat {
         ensures seat { IsSameSeat self.old self.new }
         ensures answered { IsAnswered core_action self.old self.new result }
     {
-        // A copy goes out by reference, so that of the act itself it stays known which it is.
+        // A copy goes out by reference, so that of the action itself it stays known which it is.
         let copy = core_action;
         copy.check(self.core(), &rig.header)
             .map_err(RigRefusal::Fault)?;
@@ -210,7 +210,7 @@ impl CoreSeat {
         ensures seat { IsSameSeat self.old self.new }
         ensures answered { IsAnswered core_action self.old self.new result }
     {
-        // A copy goes out by reference, so that of the act itself it stays known which it is.
+        // A copy goes out by reference, so that of the action itself it stays known which it is.
         let copy = core_action;
         copy.check(self.core(), &rig.header)
             .map_err(RigRefusal::Fault)?;

@@ -18,8 +18,8 @@ use port_locks::{LockPair, Seat};
 use recordings::{Answer, Recording};
 use std::sync::Wait;
 
-/// What an act came to: how many entries its core has then made, and how many times over it holds
-/// the kernel.
+/// What an action came to: how many entries its core has then made, and how many times over it
+/// holds the kernel.
 #[derive(Drop)]
 pub(crate) struct Stretch {
     pub(crate) answer: Result<Answer, RigRefusal>,

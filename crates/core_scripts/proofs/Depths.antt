@@ -114,7 +114,7 @@ close_opens_none core task table some = at (refusal stamp_queues (steps.Call cor
     at None none some = by_hold table.hold (accepted stamp_queues core task HoldClose table none).free some
     at (Some why) is some = some
 
--- a core holds the kernel after an act that opens no hold only where it did before
+-- a core holds the kernel after an action that opens no hold only where it did before
 pub opens_none : (core : ℕ) (core_action : CoreAction) (view : RecordingView) → IsSound (table_of view) → opens_hold core_action ≡ false → depth_by core
     (step_of (act_on core core_action view) (table_of view)).1.hold ≢ 0 → depth_by core (hold_of view) ≢ 0
 opens_none core (core_actions.Call HoldOpen) view sound none some = absurd (cc none)

@@ -44,7 +44,7 @@ use Rattle.core_scripts.specs.Scripts.{IsPartOf, IsScriptOf, SwitchesAndHolds, c
 use Rattle.core_scripts.proofs.Depths.{opens_none}
 use Rattle.core_scripts.proofs.Sublists.{kept_more, passed_more}
 
--- what an act came to, by the answer of the recording
+-- what an action came to, by the answer of the recording
 module _ (core_action : CoreAction) (old new : CoreView) (result : Result Answer RigRefusal) (acted : HasActed core_action old new result) where
   abbrev pub view : RecordingView
   view = recording_of old.terms acted.found
@@ -70,7 +70,7 @@ module _ (core_action : CoreAction) (old new : CoreView) (result : Result Answer
       at (Err why) is = subst (λ (seat : CoreView). IsSoundHistory seat.terms.header seat.seen) (made_none why is) acted.sound acted.found
           (begins_with_all acted.found)
 
--- the action of an act's step is the act
+-- the action of a step that an action makes is that action
 core_action_made : (core : ℕ) (core_action : CoreAction) (found : RecordingView) → core_action_of (act_on core core_action found) ≡ core_action
 core_action_made core (core_actions.Call call) found = refl
 core_action_made core (core_actions.Interrupt note) found = refl

@@ -1,11 +1,11 @@
--- Neighbouring spans of one value are merged.
+-- Neighbouring stretches of one value are merged.
 use Rattle.std.proofs.Common.{◌≡◌, ℕ, suc, List, [], ◌∷◌, ◌++◌, append_assoc, map, Bool, true, false, refl, sym, ap, ◌∙◌}
 use Rattle.std.specs.Prelude.{Decides, if◌then◌else◌}
 use Rattle.std.proofs.lemmas.List.{append-nil}
 use Rattle.run_pictures.specs.declared.stretch.Stretch.{Stretch}
 use Rattle.run_pictures.specs.StretchesOf.{extended, joined, merged, stretches_of, with_value}
 
--- the spans so far are those of the spans that are not left
+-- the stretches so far are those of the stretches that are not left
 pub record Merged {X : Type 0} (same : X → X → Bool) (stretches left fewer : List (Stretch X)) : Type 0 where
   pub rest : List (Stretch X)
   pub all : left ++ rest ≡ stretches
@@ -29,17 +29,17 @@ pub all_merged : {X : Type 0} (same : X → X → Bool) (stretches left fewer : 
 all_merged same stretches left fewer were none =
     were.are ∙ ap (merged same) (ap (λ xs. xs ++ were.rest) (sym none) ∙ were.all)
 
--- a span of one place
+-- a stretch of one place
 abbrev alone : {X : Type 0} → ℕ → X → Stretch X
 alone place value = record { first = place; last = place; value = value }
 
--- the span, which begins there
+-- the stretch, which begins there
 abbrev since : {X : Type 0} → ℕ → Stretch X → Stretch X
 since place stretch = record stretch { first = place }
 
 module _ {X Y : Type 0} (same : X → X → Bool) (other : Y → Y → Bool) (f : X → Y) (tells : (a b : X) → Decides (same a b) (a ≡ b))
     (whole : (y : Y) → other y y ≡ true) where
-  -- the first span begins earlier, and what it joins does
+  -- the first stretch begins earlier, and what it joins does
   earlier : (place : ℕ) (value : Y) (stretch : Stretch Y) (stretches : List (Stretch Y)) → stretch.value ≡ value
       → joined other (since place stretch) stretches ≡ extended other place value (joined other stretch stretches)
   earlier place value stretch [] is =
@@ -78,7 +78,7 @@ module _ {X Y : Type 0} (same : X → X → Bool) (other : Y → Y → Bool) (f 
       at true decides = earlier place (f value) (with_value f stretch) later (ap f (decides.0 refl))
       at false decides = own (joined other (with_value f stretch) later)
 
-  -- the spans of one part of the values are those of the values, merged
+  -- the stretches of one part of the values are those of the values, merged
   pub merged_stretches : (place : ℕ) (values : List X)
       → merged other (map (with_value f) (stretches_of same place values)) ≡ stretches_of other place (map f values)
   merged_stretches place [] = refl

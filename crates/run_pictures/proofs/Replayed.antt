@@ -79,7 +79,7 @@ module _ (places : Places) (header : Header) (steps : List Step) (is : IsChecked
         (seen_in in_look of_table (state_at header steps) at (shown_places places steps))
         (tiled same tells places.from (map in_look (looks_of places header steps)))
 
-  -- the spans of a core
+  -- the stretches of a core
   core_tiled : (core : ℕ) → core < header.config.cores → Tiles places.from (currents_of places header steps core)
       (current_stretches places.from (looks_of places header steps) core)
   unfolding current_stretches

@@ -60,7 +60,7 @@ pub runner_at : (look : Look) (tasks task : ℕ) → task < tasks → get_or (al
 unfolding all_runners
 runner_at look tasks task low = item (λ task. core_of task look.cores) None tasks task low
 
--- ---- the spans
+-- ---- the stretches
 
 -- a row more of which no place is known
 pub one_row : (users : ℕ) (rows next : List (List (Stretch RowState))) (row : List (Stretch RowState)) → rows ≡ map (λ _. []) (numbers users)

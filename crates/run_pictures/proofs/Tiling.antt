@@ -10,7 +10,7 @@ module _ {X : Type 0} (same : X → X → Bool) (tells : (a b : X) → Decides (
   one : (place : ℕ) (value : X) → replicate (suc place - place) value ≡ value ∷ []
   one place value = ap (λ n. replicate n value) (let n : suc place - place ≡ 1 = omega arith in n)
 
-  -- the first span begins earlier
+  -- the first stretch begins earlier
   still : (place : ℕ) (stretch : Stretch X) (stretches : List (Stretch X)) → NeighboursDiffer (stretch ∷ stretches) → NeighboursDiffer
       (record stretch { first = place } ∷ stretches)
   still place stretch [] differ = tt
@@ -56,7 +56,7 @@ module _ {X : Type 0} (same : X → X → Bool) (tells : (a b : X) → Decides (
   tiled place [] = record { follow = tt; cover = refl; differ = tt }
   tiled place (value ∷ values) = more place value values (stretches_of same (suc place) values) (tiled (suc place) values)
 
--- the spans are those of the values that are not left, of which the first stands behind these
+-- the stretches are those of the values that are not left, of which the first stands behind these
 pub record Stretched {X : Type 0} (same : X → X → Bool) (first : ℕ) (values left : List X) (stretches : List (Stretch X)) : Type 0 where
   pub rest : List X
   pub all : left ++ rest ≡ values

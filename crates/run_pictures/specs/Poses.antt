@@ -28,11 +28,11 @@ abbrev pub pose_of : Table → ℕ → Pose
 pose_of table task =
     record { stance = stance_of table task; hindrances = hindrances_of table task }
 
--- the spans of how the task stands and of what is in its way
+-- the stretches of how the task stands and of what is in its way
 unfoldable pub pose_stretches : ℕ → List Look → ℕ → List (Stretch Pose)
 pose_stretches first looks task = stretches_of are_same_poses first (map (pose_in task) looks)
 
--- a span of how the task stands, with what is in its way at the first place of it
+-- a stretch of how the task stands, with what is in its way at the first place of it
 abbrev pub opening : ℕ → List Look → ℕ → Stretch Stance → Stretch Pose
 opening first looks task stretch = record {
   first = stretch.first;
@@ -46,7 +46,7 @@ opening first looks task stretch = record {
 abbrev pub openings : ℕ → List Look → ℕ → List (Stretch Stance) → List (Stretch Pose)
 openings first looks task stretches = map (opening first looks task) stretches
 
--- the spans of a task that are drawn
+-- the stretches of a task that are drawn
 abbrev pub detailed_stretches : Detail → ℕ → List Look → ℕ → List (Stretch Pose)
 detailed_stretches EachPlace first looks task = pose_stretches first looks task
 detailed_stretches FirstPlace first looks task =
@@ -57,7 +57,7 @@ stands_ready Ready = true
 stands_ready (Runs core) = false
 stands_ready (Blocked wake) = false
 
--- how many of the spans are of a ready task
+-- how many of the stretches are of a ready task
 abbrev pub count_ready : List (Stretch Pose) → ℕ
 count_ready stretches = length (filter (λ stretch. stands_ready stretch.value.stance) stretches)
 

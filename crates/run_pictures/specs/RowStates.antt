@@ -1,4 +1,4 @@
--- What the rows of tasks show, and its spans.
+-- What the rows of tasks show, and its stretches.
 use Rattle.std.specs.Prelude.{ℕ, ◌+◌, List, length, map, Bool, ◌&&◌, ◌==◌, Option}
 use Rattle.bench_types.specs.declared.header.Header.{Header}
 use Rattle.bench_model.specs.SameTest.{are_same_bools}
@@ -32,7 +32,7 @@ are_same_row_states a b =
 unfoldable pub all_runners : Look → ℕ → List (Option ℕ)
 all_runners look tasks = map (λ task. core_of task look.cores) (numbers tasks)
 
--- the spans of what the row of the task shows
+-- the stretches of what the row of the task shows
 unfoldable pub row_stretches : ℕ → List Look → ℕ → List (Stretch RowState)
 row_stretches first looks task =
     stretches_of are_same_row_states first (map (row_state_in task) looks)
@@ -56,7 +56,7 @@ terms_of_row state = record { base = state.priorities.base; mask = state.mask }
 abbrev pub preempt_of_row : RowState → Bool
 preempt_of_row state = state.preempt
 
--- the spans of one part of what a row shows
+-- the stretches of one part of what a row shows
 unfoldable pub row_stances : List (Stretch RowState) → List (Stretch Stance)
 row_stances stretches = merged are_same_stances (map (with_value stance_of_row) stretches)
 

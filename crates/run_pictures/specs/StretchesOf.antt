@@ -2,8 +2,8 @@
 use Rattle.std.specs.Prelude.{◌≡◌, ◌≢◌, ◌≤◌, ℕ, suc, ◌-◌, List, [], ◌∷◌, flat_map, replicate, Bool, if◌then◌else◌}
 use Rattle.run_pictures.specs.declared.stretch.Stretch.{Stretch}
 
--- the spans with one place more in front of them: the first of them is longer by it where the value
--- stays, and else the place is a span of its own
+-- the stretches with one place more in front of them: the first of them is longer by it where the
+-- value stays, and else the place is a stretch of its own
 abbrev pub extended :
     {X : Type 0} → (X → X → Bool) → ℕ → X → List (Stretch X) → List (Stretch X)
 extended same place value [] = record { first = place; last = place; value = value } ∷ []
@@ -11,21 +11,21 @@ extended same place value (stretch ∷ stretches) =
     if same stretch.value value then record stretch { first = place } ∷ stretches
     else record { first = place; last = place; value = value } ∷ stretch ∷ stretches
 
--- the spans of values, the first of which stands at the place
+-- the stretches of values, the first of which stands at the place
 abbrev pub stretches_of : {X : Type 0} → (X → X → Bool) → ℕ → List X → List (Stretch X)
 stretches_of same place [] = []
 stretches_of same place (value ∷ values) =
     extended same place value (stretches_of same (suc place) values)
 
--- the spans with one span more in front of them: it and the first of them are one where their
--- values are the same
+-- the stretches with one stretch more in front of them: it and the first of them are one where
+-- their values are the same
 abbrev pub joined : {X : Type 0} → (X → X → Bool) → Stretch X → List (Stretch X) → List (Stretch X)
 joined same stretch [] = stretch ∷ []
 joined same stretch (next ∷ stretches) =
     if same next.value stretch.value then record next { first = stretch.first } ∷ stretches
     else stretch ∷ next ∷ stretches
 
--- the spans, of which neighbours that have the same value are one
+-- the stretches, of which neighbours that have the same value are one
 abbrev pub merged : {X : Type 0} → (X → X → Bool) → List (Stretch X) → List (Stretch X)
 merged same [] = []
 merged same (stretch ∷ stretches) = joined same stretch (merged same stretches)
@@ -35,11 +35,11 @@ abbrev pub with_value : {X Y : Type 0} → (X → Y) → Stretch X → Stretch Y
 with_value f stretch =
     record { first = stretch.first; last = stretch.last; value = f stretch.value }
 
--- a span's value, once for each of its places
+-- a stretch's value, once for each of its places
 abbrev pub values_in : {X : Type 0} → Stretch X → List X
 values_in stretch = replicate (suc stretch.last - stretch.first) stretch.value
 
--- the spans follow one another, and the first begins at the place
+-- the stretches follow one another, and the first begins at the place
 abbrev pub Follow : {X : Type 0} → ℕ → List (Stretch X) → Type 0
 Follow place [] = Unit {0}
 Follow place (stretch ∷ stretches) =
@@ -52,7 +52,7 @@ NeighboursDiffer (stretch ∷ []) = Unit {0}
 NeighboursDiffer (stretch ∷ next ∷ stretches) =
     (stretch.value ≢ next.value) × NeighboursDiffer (next ∷ stretches)
 
--- the spans tile the values, the first of which stands at the place: none overlaps, none is
+-- the stretches tile the values, the first of which stands at the place: none overlaps, none is
 -- missing, and each has the value of its places
 pub record Tiles {X : Type 0} (place : ℕ) (values : List X) (stretches : List (Stretch X))
     : Type 0 where

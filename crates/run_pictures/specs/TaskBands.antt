@@ -86,7 +86,7 @@ label_of frame y first last wait (Blocked wake) = blocked_label frame y first la
 unfoldable pub stance_label : Frame → ℕ → Option Wait → Stretch Stance → List ℕ
 stance_label frame y wait stretch = label_of frame y stretch.first stretch.last wait stretch.value
 
--- the span without what is in the way
+-- the stretch without what is in the way
 abbrev pub stance_stretch : Stretch Pose → Stretch Stance
 stance_stretch stretch =
     record { first = stretch.first; last = stretch.last; value = stretch.value.stance }

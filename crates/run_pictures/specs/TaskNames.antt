@@ -63,7 +63,7 @@ terms_line header y task [] = []
 terms_line header y task (stretch ∷ stretches) =
     line_text header y task stretch.value (stretch ∷ stretches)
 
--- the name of the task's row, and below it its base priority and its mask, by their spans
+-- the name of the task's row, and below it its base priority and its mask, by their stretches
 unfoldable pub name_lines : Header → ℕ → ℕ → List (Stretch Terms) → List ℕ
 name_lines header y task stretches =
     name_text (y + 16) (name_of header task) ++ terms_line header (y + 32) task stretches

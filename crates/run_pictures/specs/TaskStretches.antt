@@ -1,4 +1,4 @@
--- The spans of the bands.
+-- The stretches of the bands.
 use Rattle.std.specs.Prelude.{ℕ, List, map, slice_index_or, nat_eq, false, ◌==◌, Option, Some, None, if◌then◌else◌}
 use Rattle.bench_types.specs.declared.kernel_data.CoreLook.{CoreLook}
 use Rattle.bench_types.specs.declared.kernel_data.Hold.{Hold}
@@ -33,7 +33,7 @@ own_hold core (Some hold) = if hold.core == core then Some hold else None
 abbrev pub hold_in : ℕ → Look → Option Hold
 hold_in core look = own_hold core look.hold
 
--- the spans of a core, where the first look is that of the place
+-- the stretches of a core, where the first look is that of the place
 unfoldable pub current_stretches : ℕ → List Look → ℕ → List (Stretch ℕ)
 current_stretches first looks core = stretches_of nat_eq first (map (current_in core) looks)
 
@@ -47,11 +47,11 @@ hold_stretches first looks core =
 abbrev pub tick_in : Look → ℕ
 tick_in look = look.tick
 
--- the spans of one tick count
+-- the stretches of one tick count
 unfoldable pub tick_stretches : ℕ → List Look → List (Stretch ℕ)
 tick_stretches first looks = stretches_of nat_eq first (map tick_in looks)
 
--- the spans of how the task stands
+-- the stretches of how the task stands
 unfoldable pub stance_stretches : ℕ → List Look → ℕ → List (Stretch Stance)
 stance_stretches first looks task = stretches_of are_same_stances first (map (stance_in task) looks)
 

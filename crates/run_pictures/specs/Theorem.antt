@@ -102,9 +102,9 @@ taken_of places header steps =
     filter (λ mutex. list_any is_some (holders_of places header steps mutex))
     (numbers header.config.mutexes)
 
--- the spans that are drawn tile what the replay has at the places that are shown, a mutex has a row
--- where a task holds it at one of these, and a task is told to wait for what it began to wait for
--- last in the replay
+-- the stretches that are drawn tile what the replay has at the places that are shown, a mutex has a
+-- row where a task holds it at one of these, and a task is told to wait for what it began to wait
+-- for last in the replay
 pub record IsTiled (places : Places) (header : Header) (steps : List Step) : Type 0 where
   pub cores : (core : ℕ) → core < header.config.cores
       → Tiles places.from (currents_of places header steps core)

@@ -64,7 +64,7 @@ fn holds(alloc: Global, looks: &[Look], core: u32) -> Result<Vec<Option<Hold>>, 
     looks.iter().map(|look| hold_in(look, core)).collect(alloc)
 }
 
-// The spans of the core's current tasks.
+// The stretches of the core's current tasks.
 #[tactic(auto, unfolding(crate::specs::TaskStretches::current_stretches))]
 fn current_stretches(
     alloc: Global,

@@ -379,7 +379,7 @@ pub fn timeline(
     requires few { length steps.now + 1 < 2 ^ 32 }
     ensures picture { IfOk result (Answers (shown_count extent.places (length steps.now))
         (picture_text extent.places extent.axis header.now steps.now)) }
-    // The spans that are drawn tile what the replay has.
+    // The stretches that are drawn tile what the replay has.
     ensures tiled { IsTiled extent.places header.now steps.now }
 {
     let Extent { places, axis } = extent;
@@ -577,7 +577,7 @@ pub fn timelines(
     ensures picture { IfOk result
         (Answers (count_of_both extent.places (drawn before.now) (drawn after.now))
         (pictures_text extent.places extent.axis (drawn before.now) (drawn after.now))) }
-    // The spans that are drawn tile what each replay has.
+    // The stretches that are drawn tile what each replay has.
     ensures tiled { IsTiled extent.places before.now.header.now before.now.steps.now
         × IsTiled extent.places after.now.header.now after.now.steps.now }
 {

@@ -66,7 +66,7 @@ fn poses(alloc: Global, looks: &[Look], task: u32) -> Result<Vec<Pose>, AllocErr
     Ok(poses)
 }
 
-/// The spans of how the task stands and of what is in its way.
+/// The stretches of how the task stands and of what is in its way.
 #[tactic(auto, unfolding(crate::specs::Poses::pose_stretches))]
 pub(crate) fn pose_stretches(
     alloc: Global,
@@ -81,7 +81,7 @@ pub(crate) fn pose_stretches(
     stretches_of(alloc, first, values)
 }
 
-// The span, with what is in the way at its first place.
+// The stretch, with what is in the way at its first place.
 fn opening(
     alloc: Global,
     first: u32,
@@ -105,7 +105,7 @@ fn opening(
     })
 }
 
-/// The spans, each with what is in the way at its first place.
+/// The stretches, each with what is in the way at its first place.
 pub(crate) fn openings(
     alloc: Global,
     first: u32,
@@ -132,7 +132,7 @@ pub(crate) fn stands_ready(stance: Stance) -> bool
     }
 }
 
-// How many of the spans are of a ready task.
+// How many of the stretches are of a ready task.
 fn count_ready(stretches: &[Stretch<Pose>]) -> usize
     ensures { result ≡ count_ready stretches.now }
 {
@@ -142,7 +142,7 @@ fn count_ready(stretches: &[Stretch<Pose>]) -> usize
         .count()
 }
 
-// How many spans are of the task while it is ready.
+// How many stretches are of the task while it is ready.
 fn count_pieces(alloc: Global, first: u32, looks: &[Look], task: u32) -> Result<usize, AllocError>
     requires { first + length looks.now ≤ 2 ^ 32 }
     ensures { IfOk result

@@ -1,4 +1,4 @@
-//! What the rows of tasks show, and its spans, which are found for all tasks look by look.
+//! What the rows of tasks show, and its stretches, which are found for all tasks look by look.
 ghost use Rattle.std.specs.Prelude.{◌≡◌, [], ◌+◌, ◌<◌, ◌≤◌, ◌^◌, IfOk, None, OnOk, Some, length, map, slice_index_or, slice_set};
 ghost use Rattle.list_orders.specs.Search.{numbers};
 ghost use Rattle.bench_types.specs.Limits.{max_cores, max_tasks};
@@ -40,7 +40,7 @@ impl StretchValue for RowState {
     }
 }
 
-/// The spans of what one row shows, from some place on to the last.
+/// The stretches of what one row shows, from some place on to the last.
 #[derive(Drop)]
 pub(crate) struct RowStretches {
     queue: VecDeque<Stretch<RowState>>,
@@ -72,7 +72,7 @@ impl RowStretches {
         extend(&mut self.queue, place, state)
     }
 
-    /// The spans, the first one first.
+    /// The stretches, the first one first.
     pub(crate) fn to_vec(&self, alloc: Global) -> Result<Vec<Stretch<RowState>>, AllocError>
         ensures { IfOk result (λ stretches. stretches.items ≡ self.now) }
     {
@@ -125,7 +125,7 @@ fn row_state_on(look: &Look, task: u32, core: Option<usize>) -> RowState
     }
 }
 
-// The place of the look more in front of the spans of each user task.
+// The place of the look more in front of the stretches of each user task.
 fn extend_rows(
     rows: &mut Vec<RowStretches>,
     place: u32,
@@ -161,8 +161,8 @@ fn no_rows(alloc: Global, users: usize) -> Result<Vec<RowStretches>, AllocError>
     Ok(rows)
 }
 
-/// The spans of what the row of each user task shows. One look after another is gone through for
-/// all tasks, the last one first, since what it has of its tasks lies together.
+/// The stretches of what the row of each user task shows. One look after another is gone through
+/// for all tasks, the last one first, since what it has of its tasks lies together.
 pub(crate) fn all_row_stretches(
     alloc: Global,
     header: &Header,

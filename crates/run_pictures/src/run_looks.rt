@@ -30,7 +30,7 @@ pub struct RunLooks {
 }
 
 impl RunLooks {
-    /// The film of a checked session.
+    /// The looks and steps of a checked session.
     #[tactic(auto, unfolding(crate::specs::RunLooks::run_looks))]
     pub fn of_run(
         alloc: Global,

@@ -71,7 +71,7 @@ pub fn stretches_of<T: StretchValue>(
     Ok(Vec::from(stretches))
 }
 
-/// One place more in front of the spans.
+/// One place more in front of the stretches.
 pub(crate) fn extend<T: StretchValue>(
     stretches: &mut VecDeque<Stretch<T>>,
     place: u32,
@@ -94,8 +94,8 @@ pub(crate) fn extend<T: StretchValue>(
     }
 }
 
-// One span more in front of the spans: it and the first of them are one where their values are the
-// same.
+// One stretch more in front of the stretches: it and the first of them are one where their values
+// are the same.
 fn join<T: StretchValue>(
     stretches: &mut VecDeque<Stretch<T>>,
     stretch: Stretch<T>,
@@ -112,7 +112,7 @@ fn join<T: StretchValue>(
     }
 }
 
-/// The spans, of which neighbours that have the same value are one.
+/// The stretches, of which neighbours that have the same value are one.
 pub(crate) fn merged<T: StretchValue>(
     alloc: Global,
     stretches: Vec<Stretch<T>>,

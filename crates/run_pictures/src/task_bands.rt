@@ -157,7 +157,7 @@ fn push_stance_label(
     }
 }
 
-// The span without what is in the way.
+// The stretch without what is in the way.
 fn stance_stretch(stretch: &Stretch<Pose>) -> Stretch<Stance>
     ensures { result ≡ stance_stretch stretch.now }
 {
@@ -292,7 +292,7 @@ fn push_inheritances(
     Ok(())
 }
 
-/// Writes the row of a task that shows these spans.
+/// Writes the row of a task that shows these stretches.
 #[tactic(auto, unfolding(crate::specs::Preemption::off_bars, crate::specs::TaskBands::task_row, crate::specs::TaskNames::task_name))]
 pub(crate) fn push_task_row(
     alloc: Global,

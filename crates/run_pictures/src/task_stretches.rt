@@ -1,4 +1,4 @@
-//! The spans that a task's row is drawn by, from those of all that it shows.
+//! The stretches that a task's row is drawn by, from those of all that it shows.
 ghost use Rattle.std.specs.Prelude.{◌≡◌, ◌+◌, ◌≤◌, ◌^◌, IfOk, length, map};
 ghost use Rattle.run_pictures.specs.Poses.{detailed_stretches};
 ghost use Rattle.run_pictures.specs.Preemption.{preempt_stretches};
@@ -17,7 +17,7 @@ use bench_types::Items;
 use run_views::Look;
 use std::alloc::{AllocError, Global};
 
-/// The spans that a task's row is drawn by.
+/// The stretches that a task's row is drawn by.
 #[derive(Debug, Drop)]
 pub(crate) struct TaskStretches {
     pub(crate) terms: Items<Stretch<Terms>>,
@@ -118,7 +118,7 @@ fn preempts(alloc: Global, states: &[Stretch<RowState>]) -> Result<Vec<Stretch<b
     merged(alloc, each)
 }
 
-// The spans of how the task stands, and of what is in its way.
+// The stretches of how the task stands, and of what is in its way.
 fn poses(
     alloc: Global,
     detail: Detail,
@@ -142,7 +142,7 @@ fn poses(
 }
 
 impl TaskStretches {
-    /// The spans of the task whose row shows these.
+    /// The stretches of the task whose row shows these.
     pub(crate) fn of_states(
         alloc: Global,
         detail: Detail,

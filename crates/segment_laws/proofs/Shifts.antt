@@ -22,7 +22,7 @@ use Rattle.segment_laws.proofs.Starts.{total, all_length, starts_append, start_f
 use Rattle.segment_laws.proofs.Starts.{AreParts, ascend_parts, parts_front}
 
 -- The front are the segments of the session that do not move: those before the edit, and the one
--- that is parted, where there is one.
+-- that is split, where there is one.
 pub record IsShift (kept : CheckpointedSession) (edit : Edit) (segments before : List SegmentView) (steps : List Step) (after front : List SegmentView) : Type 0
   where
     pub whole : segments ≡ front ++ after

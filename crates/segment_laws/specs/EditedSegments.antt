@@ -1,4 +1,4 @@
--- Segments of an edited session: one is parted from the others, edited and cut, and those after it
+-- Segments of an edited session: one is split from the others, edited and cut, and those after it
 -- are replayed up to the first whose kernel the replay comes to, but for a tick count that no later
 -- step reads.
 use Rattle.std.specs.Prelude.{◌≡◌, ℕ, ◌+◌, ◌-◌, ◌*◌, ◌<◌, ◌≤◌, List, [], ◌∷◌, ◌++◌, length, map, take, drop, insert, remove, Bool, true, false, not, ◌&&◌}

@@ -27,9 +27,18 @@ max_notes = 8
 abbrev pub max_steps : ℕ
 max_steps = 1000000
 
+-- the bytes of a task's name: `configMAX_TASK_NAME_LEN` is 16, and counts the closing zero byte
+-- (FreeRTOS Reference Manual, xTaskCreate)
+abbrev pub max_name : ℕ
+max_name = 15
+
 -- how many times over a core may hold the kernel
 abbrev pub max_depth : ℕ
 max_depth = 255
+
+-- how many times over a core may take a word of a lock pair
+abbrev pub max_takes : ℕ
+max_takes = 255
 
 -- the steps from one checkpoint to the next
 abbrev pub max_span : ℕ

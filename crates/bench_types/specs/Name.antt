@@ -1,6 +1,7 @@
 -- Which texts are names of user tasks.
 use Rattle.std.specs.Prelude.{ℕ, List, length, Bool, not, ◌&&◌, nat_eq, nat_le, codes}
 use Rattle.std.specs.List.{list_all, starts_with}
+use Rattle.bench_types.specs.Limits.{max_name}
 
 -- the number is from low to high
 abbrev pub is_within : ℕ → ℕ → ℕ → Bool
@@ -14,5 +15,5 @@ is_name_byte byte = is_within 0x21 0x7E byte
 -- xTaskCreate); names that begin with IDLE are those of the idle tasks
 abbrev pub is_name : List ℕ → Bool
 is_name text =
-    is_within 1 15 (length text) && list_all is_name_byte text
+    is_within 1 max_name (length text) && list_all is_name_byte text
     && not (starts_with nat_eq text (codes "IDLE"))

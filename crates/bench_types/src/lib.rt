@@ -31,8 +31,8 @@ pub use kernel_data::{
     CoreLook, Delayed, Hold, MutexWait, Settings, TaskControl, TaskLook, Waiter,
 };
 pub use limits::{
-    MAX_CORES, MAX_DEPTH, MAX_INPUT, MAX_MUTEXES, MAX_NOTES, MAX_PRIORITIES, MAX_SPAN, MAX_STEPS,
-    MAX_TASKS, MIN_CORES, laws_of_limits,
+    MAX_CORES, MAX_DEPTH, MAX_INPUT, MAX_MUTEXES, MAX_NAME, MAX_NOTES, MAX_PRIORITIES, MAX_SPAN,
+    MAX_STEPS, MAX_TAKES, MAX_TASKS, MIN_CORES, laws_of_limits,
 };
 pub use mask::cores_of_mask;
 pub use name::Name;

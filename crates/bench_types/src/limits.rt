@@ -1,6 +1,6 @@
 //! How large a session may be.
 ghost use Rattle.std.specs.Prelude.{◌≡◌};
-ghost use Rattle.bench_types.specs.Limits.{min_cores, max_cores, max_priorities, max_tasks, max_mutexes, max_notes, max_steps, max_depth, max_span, max_input};
+ghost use Rattle.bench_types.specs.Limits.{min_cores, max_cores, max_priorities, max_tasks, max_mutexes, max_notes, max_steps, max_name, max_depth, max_takes, max_span, max_input};
 
 /// The least number of cores.
 pub const MIN_CORES: u32 = 2;
@@ -23,8 +23,15 @@ pub const MAX_NOTES: u32 = 8;
 /// How many steps a session has at most.
 pub const MAX_STEPS: u32 = 1_000_000;
 
+/// How many bytes the name of a task has at most: `configMAX_TASK_NAME_LEN` is 16, and counts the
+/// closing zero byte (FreeRTOS Reference Manual, `xTaskCreate`).
+pub const MAX_NAME: usize = 15;
+
 /// How many times over a core may hold the kernel.
 pub const MAX_DEPTH: u32 = 255;
+
+/// How many times over a core may take a word of a lock pair.
+pub const MAX_TAKES: u8 = 255;
 
 /// The greatest span of checkpoints, in steps.
 pub const MAX_SPAN: u32 = 1_000;
@@ -41,7 +48,9 @@ pub fn laws_of_limits()
     ensures mutexes { MAX_MUTEXES ≡ max_mutexes }
     ensures notes { MAX_NOTES ≡ max_notes }
     ensures steps { MAX_STEPS ≡ max_steps }
+    ensures name { MAX_NAME ≡ max_name }
     ensures depth { MAX_DEPTH ≡ max_depth }
+    ensures takes { MAX_TAKES ≡ max_takes }
     ensures span { MAX_SPAN ≡ max_span }
     ensures input { MAX_INPUT ≡ max_input }
 {}

@@ -1,19 +1,18 @@
 //! Names of tasks.
 ghost use Rattle.std.specs.Prelude.{◌≡◌, IsTrue, Ok, Err, if◌then◌else◌, length};
 ghost use Rattle.std.specs.List.{list_all};
+ghost use Rattle.bench_types.specs.Limits.{max_name};
 ghost use Rattle.bench_types.specs.Name.{is_name, is_name_byte, is_within};
 
-use crate::Fault;
+use crate::{Fault, MAX_NAME};
 use arrayvec::ArrayString;
 use std::marker::Model;
 
-/// The name of a user task: 1 to 15 bytes, each from `!` to `~`, that do not begin with `IDLE`.
-///
-/// The limit is that of `configMAX_TASK_NAME_LEN` 16, which counts the closing zero byte (FreeRTOS
-/// Reference Manual, `xTaskCreate`). Names that begin with `IDLE` belong to the idle tasks.
+/// The name of a user task: 1 to [`MAX_NAME`] bytes, each from `!` to `~`, that do not begin with
+/// `IDLE`, as those of the idle tasks do.
 #[derive(Debug, Drop)]
 pub struct Name {
-    text: ArrayString<15>,
+    text: ArrayString<MAX_NAME>,
 }
 
 impl Model for Name {
@@ -85,9 +84,9 @@ pub(crate) fn spells_name(bytes: &[u8]) -> bool
 }
 
 fn has_name_length(bytes: &[u8]) -> bool
-    ensures { result ≡ is_within 1 15 (length bytes.now) }
+    ensures { result ≡ is_within 1 max_name (length bytes.now) }
 {
-    1 <= bytes.len() && bytes.len() <= 15
+    1 <= bytes.len() && bytes.len() <= MAX_NAME
 }
 
 fn is_printable(bytes: &[u8]) -> bool

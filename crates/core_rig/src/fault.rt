@@ -2,7 +2,7 @@
 ghost use Rattle.std.specs.Prelude.{◌≡◌};
 ghost use Rattle.core_rig.specs.CoreActions.{refusal_of};
 
-use bench_types::Fault;
+use bench_types::{Fault, MAX_STEPS};
 use recordings::RecordRefusal;
 use std::alloc::AllocError;
 use thiserror::Error;
@@ -13,8 +13,8 @@ pub enum RigFault {
     /// F1: a number of the header is outside its limits, or a name is repeated.
     #[error("{}", Fault::BadHeader)]
     BadHeader,
-    /// F5: the limit is over 1,000,000 entries.
-    #[error("the limit is over 1,000,000 entries")]
+    /// F5: the limit is over [`MAX_STEPS`] entries.
+    #[error("the limit is over {} entries", MAX_STEPS)]
     BadLimit,
     /// The allocator had no memory left.
     #[error("out of memory")]

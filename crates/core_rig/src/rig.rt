@@ -60,8 +60,8 @@ impl Rig {
     /// A rig of the header's cores, with a seat for each of them, in their order, and room for
     /// `limit` entries. It takes all the memory that it will ever have.
     ///
-    /// F1 where the header is at fault, else F5 where the limit is over 1,000,000, and else only
-    /// memory can be wanting.
+    /// F1 where the header is at fault, else F5 where the limit is over [`MAX_STEPS`], and else
+    /// only memory can be wanting.
     #[tactic(auto, using(bench_types::proofs::Passes::checked_header))]
     pub fn new(
         rt: &HostRuntime,

@@ -1,6 +1,7 @@
 //! What a core does while it owns the interrupt word.
 ghost use Rattle.std.specs.Prelude.{◌≡◌, ◌<◌, ◌+◌, length, true, false, if◌then◌else◌, Ok};
 ghost use Rattle.bench_types.specs.CoreAction.{IsCheckedCoreAction};
+ghost use Rattle.bench_types.specs.Limits.{max_takes};
 ghost use Rattle.bench_types.specs.Step.{settings_of};
 ghost use Rattle.bench_model.specs.Holds.{depth_by, is_held_by};
 ghost use Rattle.bench_model.specs.History.{IsLegal};
@@ -88,7 +89,7 @@ pub(crate) fn act_and_leave(
 pub(crate) fn enter_task<R: Wait>(rt: &R, pair: &LockPair<Recording>, seat: &mut Seat<Recording>)
     requires own { IsSeatOf pair.now seat.old }
     requires outside { seat.old.interrupt_depth ≡ 0 }
-    requires few { seat.old.task_depth < 255 }
+    requires few { seat.old.task_depth < max_takes }
     ensures { seat.new ≡ record seat.old { task_depth = seat.old.task_depth + 1 } }
 {
     let Ok(()) = pair.take_task(rt, seat) else {

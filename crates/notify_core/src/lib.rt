@@ -1,4 +1,4 @@
-//! Task notifications: the value and the state of each task.
+//! Task notifications: the value and the state of each task at each index.
 #![tactic(auto)]
 
 mod notes;

@@ -1,6 +1,6 @@
 //! Why a word is not taken, or a pair not closed.
 
-/// L2: the word is taken 255 times over already.
+/// L2: the word is taken [`MAX_TAKES`](bench_types::MAX_TAKES) times over already.
 #[derive(Clone, Copy, Debug, Drop, PartialEq, Eq, thiserror::Error)]
 #[error("L2")]
 pub struct Deep;
@@ -11,7 +11,7 @@ pub enum TryFault {
     /// L1: another seat owned it.
     #[error("L1")]
     Busy,
-    /// L2: this seat has taken it 255 times over already.
+    /// L2: this seat has taken it [`MAX_TAKES`](bench_types::MAX_TAKES) times over already.
     #[error("L2")]
     Deep,
 }

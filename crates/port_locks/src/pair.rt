@@ -1,5 +1,6 @@
 //! The task lock and the interrupt lock, and the value that they keep.
 ghost use Rattle.std.specs.Prelude.{◌≡◌, ◌<◌, ◌+◌, ◌-◌, ◌↔◌, Ok, Err, IsErr, OnOk, OnErr, MatchBool};
+ghost use Rattle.bench_types.specs.Limits.{max_takes};
 ghost use Rattle.port_locks.specs.Seats.{IsSeatOf, HasTaken, MayReturn, HasFreed, HasNoHold};
 ghost use Rattle.port_locks.specs.declared.fault.TryFault.{TryFault};
 
@@ -62,11 +63,12 @@ impl<V: Kept> LockPair<V> {
         true
     }
     /// Takes the interrupt word, waiting until no other seat owns it. The first time over, the seat
-    /// has the value in hand from then on. L2 where the seat has taken it 255 times over.
+    /// has the value in hand from then on. L2 where the seat has taken it
+    /// [`MAX_TAKES`](bench_types::MAX_TAKES) times over.
     #[inline(always)]
     pub fn take_interrupt<R: Wait>(&self, rt: &R, seat: &mut Seat<V>) -> Result<(), Deep>
         requires own { IsSeatOf self.now seat.old }
-        ensures deep { IsErr result ↔ (seat.old.interrupt_depth ≡ 255) }
+        ensures deep { IsErr result ↔ (seat.old.interrupt_depth ≡ max_takes) }
         ensures unchanged { OnErr result (seat.new ≡ seat.old) }
         ensures nested { OnOk result (0 < seat.old.interrupt_depth
             → seat.new ≡ record seat.old { interrupt_depth = seat.old.interrupt_depth + 1 }) }
@@ -90,7 +92,7 @@ impl<V: Kept> LockPair<V> {
     pub fn try_interrupt(&self, seat: &mut Seat<V>) -> Result<(), TryFault>
         requires own { IsSeatOf self.now seat.old }
         ensures busy { result ≡ Err TryFault.Busy → seat.old.interrupt_depth ≡ 0 }
-        ensures deep { (result ≡ Err TryFault.Deep) ↔ (seat.old.interrupt_depth ≡ 255) }
+        ensures deep { (result ≡ Err TryFault.Deep) ↔ (seat.old.interrupt_depth ≡ max_takes) }
         ensures unchanged { OnErr result (seat.new ≡ seat.old) }
         ensures nested { OnOk result (0 < seat.old.interrupt_depth
             → seat.new ≡ record seat.old { interrupt_depth = seat.old.interrupt_depth + 1 }) }
@@ -160,15 +162,15 @@ impl<V: Kept> LockPair<V> {
         true
     }
 
-    /// Takes the task word, waiting until no other seat owns it. L2 where the seat has taken it 255
-    /// times over.
+    /// Takes the task word, waiting until no other seat owns it. L2 where the seat has taken it
+    /// [`MAX_TAKES`](bench_types::MAX_TAKES) times over.
     ///
     /// A seat takes the task word before the interrupt word.
     #[inline(always)]
     pub fn take_task<R: Wait>(&self, rt: &R, seat: &mut Seat<V>) -> Result<(), Deep>
         requires own { IsSeatOf self.now seat.old }
         requires before { seat.old.task_depth ≡ 0 → seat.old.interrupt_depth ≡ 0 }
-        ensures deep { IsErr result ↔ (seat.old.task_depth ≡ 255) }
+        ensures deep { IsErr result ↔ (seat.old.task_depth ≡ max_takes) }
         ensures unchanged { OnErr result (seat.new ≡ seat.old) }
         ensures deeper { OnOk result
             (seat.new ≡ record seat.old { task_depth = seat.old.task_depth + 1 }) }

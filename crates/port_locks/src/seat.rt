@@ -1,11 +1,13 @@
 //! A core's seat at a lock pair.
 ghost use Rattle.std.specs.Prelude.{◌≡◌, ◌<◌, ◌+◌, ◌↔◌, length, Some, IsErr, OnOk, OnErr};
 ghost use Rattle.std.specs.Borrow.{sem};
+ghost use Rattle.bench_types.specs.Limits.{max_takes};
 ghost use Rattle.port_locks.specs.Lent.{LendsValue};
 
 use crate::Deep;
 use crate::kept::Kept;
 use crate::view::View;
+use bench_types::MAX_TAKES;
 use std::marker::Model;
 
 /// A core's seat at a lock pair.
@@ -84,12 +86,12 @@ impl<V: Kept> Seat<V> {
     // The interrupt word once more, of the seat that owns it.
     pub(crate) fn enter_nested(&mut self) -> Result<(), Deep>
         requires inside { 0 < self.old.interrupt_depth }
-        ensures deep { IsErr result ↔ (self.old.interrupt_depth ≡ 255) }
+        ensures deep { IsErr result ↔ (self.old.interrupt_depth ≡ max_takes) }
         ensures unchanged { OnErr result (self.new ≡ self.old) }
         ensures deeper { OnOk result
             (self.new ≡ record self.old { interrupt_depth = self.old.interrupt_depth + 1 }) }
     {
-        if self.interrupt_depth == 255 {
+        if self.interrupt_depth == MAX_TAKES {
             return Err(Deep);
         }
         self.interrupt_depth += 1;
@@ -99,12 +101,12 @@ impl<V: Kept> Seat<V> {
     // The task word once more, of the seat that owns it.
     pub(crate) fn enter_task_nested(&mut self) -> Result<(), Deep>
         requires inside { 0 < self.old.task_depth }
-        ensures deep { IsErr result ↔ (self.old.task_depth ≡ 255) }
+        ensures deep { IsErr result ↔ (self.old.task_depth ≡ max_takes) }
         ensures unchanged { OnErr result (self.new ≡ self.old) }
         ensures deeper { OnOk result
             (self.new ≡ record self.old { task_depth = self.old.task_depth + 1 }) }
     {
-        if self.task_depth == 255 {
+        if self.task_depth == MAX_TAKES {
             return Err(Deep);
         }
         self.task_depth += 1;

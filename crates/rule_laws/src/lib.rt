@@ -4,7 +4,7 @@
 
 ghost use Rattle.rule_laws.specs.CoresLaws.{ChangeIsApart, ChangeKeepsConsistent, InUseSimulates, InUseKeepsConsistent, AskOnCores, SeekOnCores, WakeOnCores, WaitOnCores, SwitchOnCores, SlicesOnCores, InUseOnCores};
 ghost use Rattle.rule_laws.specs.MutexLaws.{FirstWaiterSimulates, DeadlineSimulates, ForgettingSimulates, InheritSimulates, InheritKeepsConsistent, TakeSimulates, TakeKeepsConsistent, FinishSimulates, FinishKeepsConsistent, GiveSimulates, GiveKeepsConsistent, LowerSimulates, LowerKeepsConsistent, InheritOnCores, LowerOnCores};
-ghost use Rattle.rule_laws.specs.NoteLaws.{NotifySimulates, NotifyKeepsConsistent, NotesKeepOrders, NotesKeepConsistent};
+ghost use Rattle.rule_laws.specs.NoteLaws.{PlacesAreApart, NotifyLeavesOthers, NotifyWakesOnlyAWaiter, NotifySimulates, NotifyKeepsConsistent, NotesKeepOrders, NotesKeepConsistent};
 ghost use Rattle.rule_laws.specs.SeekLaws.{BestCoreIsAsked, SeekSimulates, WakeSimulates, AfterSwitchSimulates, SlicesAreSeen, AskKeepsConsistent, SeekKeepsConsistent, WakeKeepsConsistent, AfterSwitchKeepsConsistent, SlicesKeepConsistent};
 ghost use Rattle.rule_laws.specs.SetLaws.{AskItsCoreSimulates, YieldsAfterPrioritySetSimulates, YieldsAfterAffinitySetSimulates, PrioritySetSimulates, AffinitySetSimulates, PreemptionOffSimulates, PreemptionOnSimulates, AskItsCoreKeepsConsistent, YieldsAfterPrioritySetKeepsConsistent, YieldsAfterAffinitySetKeepsConsistent, PrioritySetKeepsConsistent, AffinitySetKeepsConsistent, PreemptionOffKeepsConsistent, PreemptionOnKeepsConsistent};
 
@@ -68,16 +68,25 @@ pub fn laws_of_priority_and_affinity()
     ensures preemption_on_keeps_consistent { PreemptionOnKeepsConsistent }
 {}
 
-/// Notifying a task. The rule is the same over stamps and over lists, and keeps a table consistent.
+/// Notifying a task at an index. No other notification changes, and the rule is the same over
+/// stamps and over lists, and keeps a table consistent.
 pub fn laws_of_notifications()
+    // Two pairs of a task and an index stand in two places among the notifications.
+    ensures places_are_apart { PlacesAreApart }
+    // Notifying a task at an index leaves its notifications at other indices, and those of other
+    // tasks, as they are.
+    ensures notify_leaves_others { NotifyLeavesOthers }
+    // It wakes nobody, and changes nothing but the notification, where the task does not wait at
+    // that index.
+    ensures notify_wakes_only_a_waiter { NotifyWakesOnlyAWaiter }
     // Notifying a task, and waking it where it waits for that, is so over lists.
     ensures notify_simulates { NotifySimulates }
     // A sound table is sound when a task was notified with a number of 32 bits.
     ensures notify_keeps_consistent { NotifyKeepsConsistent }
     // Notifications are seen as they are, and no order of tasks reads them.
     ensures notes_keep_orders { NotesKeepOrders }
-    // A sound table is sound with other notifications, one for each task, whose values are numbers
-    // of 32 bits.
+    // A sound table is sound with other notifications, of which each task has as many as the
+    // settings say, whose values are numbers of 32 bits.
     ensures notes_keep_consistent { NotesKeepConsistent }
 {}
 

@@ -19,7 +19,7 @@ use Rattle.bench_types.specs.declared.step.Call.{Call}
 use Rattle.bench_types.specs.declared.step.Call.TheVariants as call
 use Rattle.bench_types.specs.Name.{is_name, is_name_byte, is_within}
 use Rattle.bench_types.specs.Step.{IsNotifyActionOfWord, IsOfWords, IsStepOfWords}
-use Rattle.bench_types.specs.Limits.{max_priorities}
+use Rattle.bench_types.specs.Limits.{max_name, max_priorities}
 use Rattle.session_text.specs.declared.format.Format.{Format}
 use Rattle.session_text.specs.declared.format.Format.TheVariants.{One, Two}
 use Rattle.session_write.specs.Written.{task_data, task_name, bare_call, call_for, notify_data, interrupt_data, wait_data, take_data, state_clear_data}
@@ -36,7 +36,7 @@ ascii_bytes (byte ∷ bytes) all =
 
 pub utf8_name : (name : List ℕ) → is_name name ≡ true → IsUtf8 name
 utf8_name name named =
-    let sized = is_within 1 15 (length name) in
+    let sized = is_within 1 max_name (length name) in
     let bytes = list_all is_name_byte name in
     IsUtf8-are_ascii name (ascii_bytes name (and_parts sized bytes (and_parts (sized && bytes) _ named).0).1)
 

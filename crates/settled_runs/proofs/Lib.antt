@@ -1,6 +1,7 @@
 pub mod Endings
 pub mod Finishes
 pub mod Leavings
+pub mod Ordered
 pub mod Pieces
 pub mod Rests
 pub mod Settlings

@@ -41,6 +41,52 @@ QuietWorkEnds =
     (table : Table) (waiting : List WaitingCall) → IsSound table → table.settings.cores < 2 ^ 32
     → All (MayWait table.settings) waiting → (made : List Step) × IsQuietWork table waiting made
 
+-- ---- the order of quiet work
+
+-- a switch comes first: where cores can switch, that of the least of them is next
+abbrev pub SwitchesComeFirst : Type 0
+SwitchesComeFirst =
+    (table : Table) (waiting : List WaitingCall) (core : ℕ) → core < table.settings.cores
+    → is_open table (Switch core) ≡ true
+    → ((less : ℕ) → less < core → is_open table (Switch less) ≡ false) →
+    quiet_step table waiting ≡ Some (Switch core)
+
+-- no core can switch
+abbrev pub CannotSwitch : Table → Type 0
+CannotSwitch table =
+    (core : ℕ) → core < table.settings.cores → is_open table (Switch core) ≡ false
+
+-- no user task can finish a call on the core
+abbrev pub CannotFinishOn : Table → ℕ → Type 0
+CannotFinishOn table core =
+    (task : ℕ) → table.settings.cores ≤ task
+    → is_open table (steps.Call core task Finish) ≡ false
+
+-- then comes a `finish`: where no core can switch, that on the least of the cores that have one
+abbrev pub FinishesComeNext : Type 0
+FinishesComeNext =
+    (table : Table) (waiting : List WaitingCall) (core task : ℕ) → core < table.settings.cores
+    → table.settings.cores ≤ task → is_open table (steps.Call core task Finish) ≡ true
+    → CannotSwitch table → ((less : ℕ) → less < core → CannotFinishOn table less) →
+    quiet_step table waiting ≡ Some (steps.Call core task Finish)
+
+-- the call can be made on no core
+abbrev pub CannotCall : Table → WaitingCall → Type 0
+CannotCall table waits =
+    (core : ℕ) → core < table.settings.cores
+    → is_timely table (steps.Call core waits.task waits.call) ≡ false
+
+-- then a waiting call: where no core can switch and none has a `finish`, the first that can be made
+abbrev pub CallsComeLast : Type 0
+CallsComeLast =
+    (table : Table) (before after : List WaitingCall) (waits : WaitingCall) (core : ℕ)
+    → IsSound table → is_finish waits.call ≡ false → core < table.settings.cores
+    → is_timely table (steps.Call core waits.task waits.call) ≡ true → CannotSwitch table
+    → ((other : ℕ) → other < table.settings.cores → CannotFinishOn table other)
+    → All (CannotCall table) before →
+    quiet_step table (before ++ waits ∷ after)
+    ≡ Some (steps.Call core waits.task waits.call)
+
 -- ---- settled runs
 
 -- every session has a settled run

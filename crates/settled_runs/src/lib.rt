@@ -2,7 +2,7 @@
 //! it. Each function does nothing: its contract is the laws, one a clause.
 #![tactic(auto)]
 
-ghost use Rattle.settled_runs.specs.SettleLaws.{ThereIsASettledRun, SettledRunIsOne, SettledRunIsSession, SettlingKeepsCalls, SettlingKeepsEvents, FewAreLeft, RefusalsAreAnswers, SettledRunIsAtRest, SettlingIsSettled, QuietWorkLessens, QuietWorkEnds};
+ghost use Rattle.settled_runs.specs.SettleLaws.{ThereIsASettledRun, SettledRunIsOne, SettledRunIsSession, SettlingKeepsCalls, SettlingKeepsEvents, FewAreLeft, RefusalsAreAnswers, SettledRunIsAtRest, SettlingIsSettled, QuietWorkLessens, QuietWorkEnds, SwitchesComeFirst, FinishesComeNext, CallsComeLast};
 
 mod waiting_call;
 
@@ -15,6 +15,12 @@ pub fn laws_of_quiet_work()
     ensures quiet_work_lessens { QuietWorkLessens }
     // So it ends.
     ensures quiet_work_ends { QuietWorkEnds }
+    // A switch comes first, of the least core that can switch.
+    ensures switches_come_first { SwitchesComeFirst }
+    // Then comes a `finish`, on the least core whose task can finish a call.
+    ensures finishes_come_next { FinishesComeNext }
+    // Then comes a waiting call, the first in the order of the session that can be made.
+    ensures calls_come_last { CallsComeLast }
 {}
 
 /// The settled run of a session.

@@ -110,13 +110,13 @@ impl Kernel {
 
     /// Whether the two kernels are equal, and so reply alike to every step from now on.
     ///
-    /// Compared are the settings (cores, priorities, slicing, mutexes, tasks), the tick count as 32
-    /// bits, each core's current task and flags, each task's control block, notification and
-    /// unfinished call, the holder of each mutex, the open hold, and the orders: of each ready
-    /// list, of the delays with the ticks left, and of the waiters of each mutex with their
-    /// priorities. Of an unfinished call that takes a mutex these are the mutex, its mark and the
-    /// ticks left to its deadline, and not the ticks that it named. Not compared are names, the
-    /// header's arguments, and how a kernel came there.
+    /// Compared are the settings (cores, priorities, slicing, mutexes, tasks, and how many
+    /// notifications each task has), the tick count as 32 bits, each core's current task and flags,
+    /// each task's control block, notifications and unfinished call, the holder of each mutex, the
+    /// open hold, and the orders: of each ready list, of the delays with the ticks left, and of the
+    /// waiters of each mutex with their priorities. Of an unfinished call that takes a mutex these
+    /// are the mutex, its mark and the ticks left to its deadline, and not the ticks that it named.
+    /// Not compared are names, the header's arguments, and how a kernel came there.
     pub fn same(&self, other: &Kernel) -> bool
         ensures { (a b : Table) → StandsFor self.now a → StandsFor other.now b
             → ((result ≡ true) ↔ Same a b) }

@@ -5,4 +5,5 @@ pub mod MutexExamples
 pub mod NoteExamples
 pub mod SeekExamples
 pub mod SetExamples
+pub mod SettledExamples
 pub mod TallyExamples

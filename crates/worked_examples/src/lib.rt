@@ -10,6 +10,7 @@ ghost use Rattle.worked_examples.specs.MutexExamples.{WorkedMutexes};
 ghost use Rattle.worked_examples.specs.NoteExamples.{WorkedNotes, WorkedWaits, WorkedTakes, WorkedClears, WorkedNotifies, WorkedCalls, WorkedIndexes};
 ghost use Rattle.worked_examples.specs.SeekExamples.{AskedCores, SoughtCores, WorkedChoices};
 ghost use Rattle.worked_examples.specs.SetExamples.{WorkedPriorities, WorkedMasks, WorkedPreemption};
+ghost use Rattle.worked_examples.specs.SettledExamples.{WorkedQuietWork};
 ghost use Rattle.worked_examples.specs.TallyExamples.{WorkedTallies};
 
 /// Whole sessions, worked out by hand.
@@ -98,6 +99,12 @@ pub fn examples_of_holds()
 pub fn examples_of_tallies()
     // The definitions give the tallies that were worked out by hand.
     ensures { WorkedTallies }
+{}
+
+/// Quiet work of settled runs.
+pub fn examples_of_quiet_work()
+    // The next of several pieces that can be made, as it was worked out by hand.
+    ensures { WorkedQuietWork }
 {}
 
 /// Edits of sessions with checkpoints: which steps are replayed for them, and where the checkpoints

@@ -1,6 +1,6 @@
 -- A step is counted in three parts: what a tick finds, the one event of another step, and the
 -- priorities in use after it.
-use Rattle.std.specs.Prelude.{ℕ, ◌+◌, ◌-◌, ◌^◌, ◌≤◌, ◌<◌, max, List, length, map, Bool, true, false, ◌&&◌, ◌==◌, nat_lt, Option, Some, None, if◌then◌else◌}
+use Rattle.std.specs.Prelude.{◌≡◌, ℕ, ◌+◌, ◌-◌, ◌^◌, ◌≤◌, ◌<◌, max, List, length, map, Bool, true, false, ◌&&◌, ◌==◌, nat_lt, Option, Some, None, if◌then◌else◌}
 use Rattle.std.specs.Prelude.{slice_index_or}
 use Rattle.bench_types.specs.declared.reply.Reply.{Reply}
 use Rattle.bench_types.specs.declared.step.Call.{Call as KernelCall}
@@ -150,10 +150,12 @@ unfoldable pub topped : Control → List TaskTally → List TaskTally
 topped control tallies =
     map (λ task. top_tally control task (tally_at tallies task)) (numbers (length tallies))
 
--- no current task has a lower effective priority
-abbrev pub IsLowest : Control → ℕ → ℕ → Type 0
-IsLowest control cores lowest =
-    (core : ℕ) → core < cores → lowest ≤ effective control (current control core)
+-- the lowest effective priority of the current tasks of these cores: one of them has it, and none a
+-- lower one
+pub record IsLowest (control : Control) (cores lowest : ℕ) : Type 0 where
+  pub below : (core : ℕ) → core < cores → lowest ≤ effective control (current control core)
+  pub reached :
+      (core : ℕ) × (core < cores) × (effective control (current control core) ≡ lowest)
 
 -- one more event can be counted
 pub record HasEventRoom (tally : TaskTally) : Type 0 where

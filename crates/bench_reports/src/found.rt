@@ -24,8 +24,9 @@ fn effective(kernel: &Kernel, task: u32) -> u64
 pub(crate) fn lowest_current(kernel: &Kernel) -> u64
     ensures { IsLowest kernel.now.control kernel.now.settings.cores result }
 {
-    let mut lowest = u64::MAX;
-    for core in 0..kernel.settings().cores {
+    let cores = kernel.settings().cores;
+    let mut lowest = effective(kernel, kernel.running(0));
+    for core in 1..cores {
         lowest = lowest.min(effective(kernel, kernel.running(core)));
     }
     lowest

@@ -6,3 +6,5 @@ pub mod Rankings
 pub mod OneRanking
 pub mod Parts
 pub mod Ranges
+pub mod Told
+pub mod Counted

@@ -3,3 +3,4 @@ pub mod Changed
 pub mod Verdicts
 pub mod Ranking
 pub mod ChangeLaws
+pub mod Tellings

@@ -1,5 +1,5 @@
 -- By what a session is judged.
-use Rattle.std.specs.Prelude.{◌≡◌, ℕ, ◌<◌, ◌≤◌, List, [], length}
+use Rattle.std.specs.Prelude.{◌≡◌, ℕ, ◌+◌, ◌<◌, ◌≤◌, List, [], length}
 use Rattle.std.specs.Bool.{MatchBool}
 use Rattle.bench_types.specs.declared.header.Header.{Header}
 use Rattle.bench_types.specs.declared.step.Step.{Step}
@@ -7,6 +7,7 @@ use Rattle.bench_types.specs.Limits.{max_steps}
 use Rattle.bench_types.specs.Session.{Session}
 use Rattle.settled_runs.specs.declared.waiting_call.WaitingCall.{WaitingCall}
 use Rattle.settled_runs.specs.Settled.{IsSettled}
+use Rattle.smp_kernel.specs.Counting.{meter_after, CountsUpTo}
 use Rattle.run_numbers.specs.declared.subject.Reading.{Reading}
 use Rattle.run_numbers.specs.Readings.{reading_of}
 use Rattle.run_advice.specs.declared.judge.Judge.{Judge}
@@ -49,3 +50,18 @@ abbrev pub IsVerdict : Judge → Session → Verdict → Type 0
 IsVerdict judge session verdict =
     MatchBool judge.settled (IsSettledVerdict judge session verdict)
     (IsPlainVerdict judge session verdict)
+
+-- The steps of the settled run were counted as they were found and as they were measured. Of one
+-- that is too long, at most as many as a session may have were found.
+abbrev pub CountsSettled : Session → Verdict → ℕ → ℕ → Type 0
+CountsSettled session (Number number) old new =
+    (run : List Step) × (left : List WaitingCall)
+    × IsSettled session.header session.steps run left
+    × (new ≡ meter_after (length run + length run) old)
+CountsSettled session TooLong old new = CountsUpTo max_steps old new
+
+-- the same of the session as it is to be judged: its own steps are counted once
+abbrev pub CountsVerdict : Judge → Session → Verdict → ℕ → ℕ → Type 0
+CountsVerdict judge session verdict old new =
+    MatchBool judge.settled (CountsSettled session verdict old new)
+    (new ≡ meter_after (length session.steps) old)

@@ -1,10 +1,11 @@
 //! By what a session is judged.
-ghost use Rattle.std.specs.Prelude.{◌≡◌, ◌<◌, ◌≤◌, ◌^◌, [], IfOk, length};
+ghost use Rattle.std.specs.Prelude.{◌≡◌, ◌<◌, ◌≤◌, ◌+◌, ◌^◌, [], IfOk, OnErr, OnOk, length};
 ghost use Rattle.bench_types.specs.Limits.{max_steps};
 ghost use Rattle.bench_types.specs.Session.{IsSession};
 ghost use Rattle.bench_types.specs.Step.{settings_of};
+ghost use Rattle.smp_kernel.specs.Counting.{meter_after, CountsUpTo};
 ghost use Rattle.run_numbers.specs.Readings.{IsSubjectOf};
-ghost use Rattle.run_advice.specs.Verdicts.{number_in, number_of, IsPlainVerdict, IsSettledVerdict, IsVerdict};
+ghost use Rattle.run_advice.specs.Verdicts.{number_in, number_of, CountsSettled, CountsVerdict, IsPlainVerdict, IsSettledVerdict, IsVerdict};
 
 use bench_types::{Header, Step};
 use run_numbers::{Reading, Subject, measure};
@@ -62,7 +63,9 @@ fn number_in(
     requires few { length run.now ≤ max_steps }
     requires left { length left.now < 2 ^ 32 }
     requires known { IsSubjectOf (settings_of header.now) judge.subject }
-    ensures { IfOk result (λ number. number ≡ number_in judge header.now run.now left.now) }
+    ensures number { IfOk result (λ number. number ≡ number_in judge header.now run.now left.now) }
+    ensures meter { OnOk result (meter.new ≡ meter_after (length run.now) meter.old) }
+    ensures some { OnErr result (CountsUpTo (length run.now) meter.old meter.new) }
 {
     let measured = measure(alloc, meter, header, run, left, &[judge.subject])?;
     Ok(number_of(judge.measure, measured[0].reading))
@@ -79,8 +82,10 @@ fn plain_verdict(
     requires session { IsSession (record { header = header.now; steps = steps.now }) }
     requires few { length steps.now ≤ max_steps }
     requires known { IsSubjectOf (settings_of header.now) judge.subject }
-    ensures { IfOk result
+    ensures verdict { IfOk result
         (IsPlainVerdict judge (record { header = header.now; steps = steps.now })) }
+    ensures meter { OnOk result (meter.new ≡ meter_after (length steps.now) meter.old) }
+    ensures some { OnErr result (CountsUpTo (length steps.now) meter.old meter.new) }
 {
     let number = number_in(alloc, meter, header, steps, &[], judge)?;
     Ok(Verdict::Number(number))
@@ -97,8 +102,12 @@ fn settled_verdict(
     requires session { IsSession (record { header = header.now; steps = steps.now }) }
     requires few { length steps.now ≤ max_steps }
     requires known { IsSubjectOf (settings_of header.now) judge.subject }
-    ensures { IfOk result
+    ensures verdict { IfOk result
         (IsSettledVerdict judge (record { header = header.now; steps = steps.now })) }
+    ensures meter { IfOk result
+        (λ verdict. CountsSettled (record { header = header.now; steps = steps.now }) verdict
+        meter.old meter.new) }
+    ensures some { OnErr result (CountsUpTo (max_steps + max_steps) meter.old meter.new) }
 {
     let settled = match settle(alloc, header, steps, meter) {
         Ok(settled) => settled,
@@ -110,7 +119,8 @@ fn settled_verdict(
     Ok(Verdict::Number(number))
 }
 
-/// What the judge says of the session. It is an error only where memory is refused.
+/// What the judge says of the session. It is an error only where memory is refused. The meter
+/// counts the steps of the run, those of a settled run twice: they are found and then measured.
 pub fn verdict_of(
     alloc: Global,
     meter: &mut Meter,
@@ -121,7 +131,12 @@ pub fn verdict_of(
     requires session { IsSession (record { header = header.now; steps = steps.now }) }
     requires few { length steps.now ≤ max_steps }
     requires known { IsSubjectOf (settings_of header.now) judge.subject }
-    ensures { IfOk result (IsVerdict judge (record { header = header.now; steps = steps.now })) }
+    ensures verdict { IfOk result
+        (IsVerdict judge (record { header = header.now; steps = steps.now })) }
+    ensures meter { IfOk result
+        (λ verdict. CountsVerdict judge (record { header = header.now; steps = steps.now }) verdict
+        meter.old meter.new) }
+    ensures some { OnErr result (CountsUpTo (max_steps + max_steps) meter.old meter.new) }
 {
     if judge.settled {
         settled_verdict(alloc, meter, header, steps, judge)

@@ -1,5 +1,5 @@
 //! All changes of a family, tried and ranked.
-ghost use Rattle.std.specs.Prelude.{◌≡◌, ◌<◌, ◌≤◌, ◌^◌, All, IfOk, length};
+ghost use Rattle.std.specs.Prelude.{◌≡◌, ◌<◌, ◌≤◌, ◌^◌, All, IfOk, OnErr, OnOk, length};
 ghost use Rattle.bench_types.specs.Limits.{max_steps};
 ghost use Rattle.bench_types.specs.Session.{IsSession};
 ghost use Rattle.bench_types.specs.Step.{settings_of};
@@ -7,6 +7,7 @@ ghost use Rattle.run_numbers.specs.Readings.{IsSubjectOf};
 ghost use Rattle.run_advice.specs.Changed.{changed, IsChangeOf, IsHeaderChange};
 ghost use Rattle.run_advice.specs.Changes.{changes_of};
 ghost use Rattle.run_advice.specs.Ranking.{AreRead, AreVerdicts, IsRanking};
+ghost use Rattle.run_advice.specs.Tellings.{TellsSome, TellsUpTo};
 ghost use Rattle.run_advice.specs.Verdicts.{IsVerdict};
 
 use crate::candidate::judge_change;
@@ -84,9 +85,13 @@ fn verdicts_of<R: Threads + Sync, P: Progress>(
     requires known { IsSubjectOf (settings_of header.now) judge.subject }
     requires allowed { All (IsChangeOf (record { header = header.now; steps = steps.now }))
         changes.now }
-    ensures { IfOk result
+    ensures verdicts { IfOk result
         (λ verdicts. AreVerdicts judge (record { header = header.now; steps = steps.now })
         changes.now verdicts.items) }
+    ensures told { OnOk result
+        (TellsUpTo P.tells (length changes.now) (length changes.now) progress.old progress.new) }
+    ensures told_some { OnErr result
+        (TellsSome P.tells (length changes.now) progress.old progress.new) }
 {
     let mut verdicts = Vec::new(alloc);
     let mut done = 0;
@@ -129,7 +134,7 @@ fn entries_of(
 /// Tries each change of the family in the session, each alone, and ranks them. The work is split
 /// among as many threads as there are processors, and a thread that can't be started leaves its
 /// part to the one that would have. From time to time the progress is told how many of the changes
-/// were tried.
+/// were tried: more each time, and at the end all.
 ///
 /// The lower number is the better one, of equals the smaller change, of equals the one that comes
 /// first among the changes. It is an error only where memory is refused.
@@ -159,6 +164,12 @@ pub fn advise<R: Threads + Sync, P: Progress>(
     ensures allowed { IfOk result
         (λ advice. All (IsChangeOf (record { header = header.now; steps = steps.now }))
         advice.changes.items) }
+    ensures told { OnOk result
+        (let all = length (changes_of (record { header = header.now; steps = steps.now }) family)
+        in TellsUpTo P.tells all all progress.old progress.new) }
+    ensures told_some { OnErr result
+        (let all = length (changes_of (record { header = header.now; steps = steps.now }) family)
+        in TellsSome P.tells all progress.old progress.new) }
 {
     let changes = changes_of(alloc, header, steps, family)?;
     let verdicts = verdicts_of(

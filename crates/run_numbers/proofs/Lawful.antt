@@ -1,27 +1,25 @@
 -- The laws of the numbers of a run.
-use Rattle.std.proofs.Common.{◌≡◌, ℕ, zero, suc, ◌+◌, ◌-◌, ◌<◌, ◌≤◌, max, Bool, true, false, cond, not, ◌&&◌, nat_lt, List, [], ◌∷◌, ◌++◌, length, map, refl}
-use Rattle.std.proofs.Common.{sym, ap, subst, ◌∙◌, arith, add-one, inl, inr}
+use Rattle.std.proofs.Common.{◌≡◌, ℕ, zero, suc, ◌+◌, ◌-◌, ◌<◌, ◌≤◌, Bool, true, false, not, ◌&&◌, nat_lt, List, length, refl}
+use Rattle.std.proofs.Common.{sym, ap, subst, ◌∙◌, arith, inl, inr}
 use Rattle.std.specs.Prelude.{count_by, if◌then◌else◌}
 use Rattle.std.specs.List.{range_with_len}
 use Rattle.std.proofs.Math.Bool.{and_assoc}
 use Rattle.std.proofs.lemmas.Bool.{cases_lt}
 use Rattle.std.proofs.lemmas.Bool.Decides.{nat_tests}
 use Rattle.bench_types.specs.declared.header.Header.{Header}
-use Rattle.bench_types.specs.declared.reply.Refusal.{Refusal}
 use Rattle.bench_types.specs.declared.reply.Refusal.TheVariants as refusal
 use Rattle.bench_types.specs.declared.reply.Reply.{Reply}
 use Rattle.bench_types.specs.declared.reply.Reply.TheVariants as reply
 use Rattle.bench_types.specs.declared.step.Step.{Step}
-use Rattle.bench_model.specs.Tally.{Moment, greatest, is_call_of, is_current, inverted_ticks, is_displacement, is_tick, outranks_some, steps_that}
-use Rattle.bench_model.specs.Table.{Stamps, stamp_queues}
+use Rattle.bench_model.specs.Tally.{is_call_of, is_current, inverted_ticks, is_displacement, is_tick, outranks_some, steps_that}
+use Rattle.bench_model.specs.Table.{stamp_queues}
 use Rattle.bench_model.specs.Tallied.{one_if}
-use Rattle.list_orders.specs.Search.{numbers}
 use Rattle.run_numbers.specs.declared.subject.Condition.{Condition}
 use Rattle.run_numbers.specs.declared.subject.Condition.TheVariants.{Inverted}
 use Rattle.run_numbers.specs.Events.{is_refusal}
-use Rattle.run_numbers.specs.NumberLaws.{ticks_between, HoldsBetween, NoneIsLonger, NumbersAreTallies, OneIsAsLong}
+use Rattle.run_numbers.specs.NumberLaws.{ticks_between, NoneIsLonger, NumbersAreTallies, OneIsAsLong}
 use Rattle.run_numbers.specs.SoFar.{first_top, top}
-use Rattle.run_numbers.specs.Stretches.{holds_at, is_tick_at, longest_stretch, stretch_at, ticks_found}
+use Rattle.run_numbers.specs.Stretches.{holds_at, is_tick_at, stretch_at, ticks_found}
 use Rattle.run_numbers.proofs.Places.{count_longer, greatest_more}
 
 displacement : (given : Reply) → is_refusal refusal.Displaced given ≡ is_displacement given
@@ -61,7 +59,7 @@ numbers_are_tallies = record {
   top = λ header steps left task. refl;
 }
 
-below_top : (f : ℕ → ℕ) (n k : ℕ) → k ≤ n → f k ≤ top f n
+pub below_top : (f : ℕ → ℕ) (n k : ℕ) → k ≤ n → f k ≤ top f n
 below_top f zero k low = let same : 0 ≡ k = omega (arith, low) in subst (λ j. f j ≤ top f 0) same (omega (arith, greatest_more f 0))
 below_top f (suc n) k low = elim (cases_lt k (suc n)) [
   | inl under ↦ omega (arith, below_top f n k (omega (arith, under)), greatest_more f (suc n))
@@ -70,10 +68,10 @@ below_top f (suc n) k low = elim (cases_lt k (suc n)) [
 
 -- Ticks between two places, one place further.
 module _ (header : Header) (steps : List Step) where
-  between_none : (first : ℕ) → ticks_between header steps first first ≡ 0
+  pub between_none : (first : ℕ) → ticks_between header steps first first ≡ 0
   between_none first = let none : first - first ≡ 0 = omega arith in ap (λ n. count_by (is_tick_at header steps) (range_with_len first n)) none
 
-  between_more : (first last : ℕ) → first ≤ last → ticks_between header steps first (suc last) ≡ ticks_between header steps first last + one_if
+  pub between_more : (first last : ℕ) → first ≤ last → ticks_between header steps first (suc last) ≡ ticks_between header steps first last + one_if
       (is_tick_at header steps last)
   between_more first last order =
       let longer : suc last - first ≡ suc (last - first) = omega (arith, order) in
@@ -83,7 +81,7 @@ module _ (header : Header) (steps : List Step) where
 
   module _ (condition : Condition) where
     -- where the condition holds throughout, the stretch at the end has all these ticks
-    stretch_holds : (first last : ℕ) → first ≤ last → ((place : ℕ) → first ≤ place → place < last → holds_at header steps condition place ≡ true) →
+    pub stretch_holds : (first last : ℕ) → first ≤ last → ((place : ℕ) → first ≤ place → place < last → holds_at header steps condition place ≡ true) →
         ticks_between header steps first last ≤ stretch_at header steps condition last
     stretch_holds first zero order throughout = omega (arith, order, ap (λ k. ticks_between header steps k zero) (starts first order), between_none zero)
       where
@@ -134,7 +132,7 @@ module _ (header : Header) (steps : List Step) where
             before)
         at false holding before = rw holding (between_none (suc place))
 
-first_top_within : (f : ℕ → ℕ) (n : ℕ) → first_top f n ≤ n
+pub first_top_within : (f : ℕ → ℕ) (n : ℕ) → first_top f n ≤ n
 first_top_within f zero = omega arith
 first_top_within f (suc n) = at (nat_lt (top f n) (f (suc n))) (first_top_within f n)
   where
@@ -142,7 +140,7 @@ first_top_within f (suc n) = at (nat_lt (top f n) (f (suc n))) (first_top_within
     at true low = omega arith
     at false low = omega (arith, low)
 
-top_there : (f : ℕ → ℕ) (n : ℕ) → f (first_top f n) ≡ top f n
+pub top_there : (f : ℕ → ℕ) (n : ℕ) → f (first_top f n) ≡ top f n
 top_there f zero = omega (arith, greatest_more f 0)
 top_there f (suc n) = at (nat_lt (top f n) (f (suc n))) refl (top_there f n)
   where

@@ -4,3 +4,4 @@ pub mod Seeing
 pub mod Steps
 pub mod Runs
 pub mod Lawful
+pub mod FirstStretches

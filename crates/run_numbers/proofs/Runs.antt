@@ -1,27 +1,23 @@
 -- The gauges of all subjects, from the start of a run to its end.
-use Rattle.std.proofs.Common.{◌≡◌, ℕ, zero, suc, ◌+◌, ◌<◌, ◌≤◌, ◌-◌, ◌^◌, max, Bool, true, false, ◌&&◌, List, length, map, get_or, Option, Some, All, refl, sym}
-use Rattle.std.proofs.Common.{ap, subst, ◌∙◌, arith, add-one}
+use Rattle.std.proofs.Common.{◌≡◌, ℕ, zero, suc, ◌<◌, ◌≤◌, Bool, true, false, List, length, map, Some, All, refl, sym}
+use Rattle.std.proofs.Common.{ap, subst, ◌∙◌, arith}
 use Rattle.std.proofs.lemmas.List.{ext_get_or, length-map, get_or-map}
 use Rattle.std.proofs.lemmas.List.Elements.{All-get_or}
 use Rattle.std.proofs.lemmas.List.FromFn.{length-range_with_len, length-map-range_with_len, get_or-map-range_with_len}
 use Rattle.std.proofs.lemmas.List.Sums.{count_by-le-length}
 use Rattle.std.specs.Prelude.{slice_get}
 use Rattle.bench_types.specs.declared.header.Header.{Header}
-use Rattle.bench_types.specs.declared.kernel_data.Settings.{Settings}
 use Rattle.bench_types.specs.declared.step.Step.{Step}
-use Rattle.bench_types.specs.Step.{settings_of}
 use Rattle.list_orders.specs.Search.{numbers}
-use Rattle.bench_model.specs.Control.{Control, task_at}
 use Rattle.bench_model.specs.Equal.{StandsFor}
 use Rattle.bench_model.specs.Lists.{View, view_of}
 use Rattle.bench_model.specs.Session.{state_at, step_of}
 use Rattle.bench_model.specs.Start.{start}
-use Rattle.bench_model.specs.Table.{Stamps, Table}
+use Rattle.bench_model.specs.Table.{Stamps}
 use Rattle.bench_model.specs.Tally.{Moment}
 use Rattle.settled_runs.specs.declared.waiting_call.WaitingCall.{WaitingCall}
 use Rattle.run_numbers.specs.declared.gauge.Gauge.{Gauge}
 use Rattle.run_numbers.specs.declared.subject.Condition.{Condition}
-use Rattle.run_numbers.specs.declared.subject.Measured.{Measured}
 use Rattle.run_numbers.specs.declared.subject.Subject.{Subject}
 use Rattle.run_numbers.specs.declared.subject.Subject.TheVariants.{Ticks, Steps, TopPriority, NotMade}
 use Rattle.run_numbers.specs.Gauges.{initial_gauge, HasRoom}

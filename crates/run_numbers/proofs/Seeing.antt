@@ -1,19 +1,17 @@
 -- A condition and an event, as they are seen of a kernel and as they stand in a table.
-use Rattle.std.proofs.Common.{◌≡◌, ℕ, suc, ◌<◌, Bool, true, false, not, ◌&&◌, ◌==◌, nat_lt, length, Option, Some, None, refl, sym, ap, subst, ◌∙◌, arith, inl}
+use Rattle.std.proofs.Common.{◌≡◌, ℕ, ◌<◌, Bool, true, false, ◌&&◌, ◌==◌, nat_lt, Option, Some, None, refl, sym, ap, arith, inl}
 use Rattle.std.proofs.Common.{inr}
 use Rattle.std.specs.Prelude.{option_map}
-use Rattle.std.specs.Option.{option_map_or}
-use Rattle.std.proofs.Math.Bool.{and-false}
 use Rattle.std.proofs.lemmas.Bool.{cases_eq}
 use Rattle.std.proofs.lemmas.Bool.Decides.{nat_tests}
 use Rattle.bench_types.specs.declared.reply.Reply.{Reply}
 use Rattle.bench_types.specs.declared.step.Step.{Step}
 use Rattle.bench_types.specs.declared.step.Step.TheVariants.{Tick, Switch, Interrupt}
 use Rattle.bench_types.specs.declared.step.Step.TheVariants as steps
-use Rattle.bench_model.specs.Control.{Control, current, task_at}
-use Rattle.bench_model.specs.Lists.{View, list_queues, view_of}
+use Rattle.bench_model.specs.Control.{Control, task_at}
+use Rattle.bench_model.specs.Lists.{list_queues, view_of}
 use Rattle.bench_model.specs.Sound.{IsConsistent}
-use Rattle.bench_model.specs.Tally.{Moment, is_switched_in}
+use Rattle.bench_model.specs.Tally.{Moment}
 use Rattle.bench_model.specs.Table.{Stamps, Table, stamp_queues}
 use Rattle.order_laws.proofs.SeenMoves.{is_ready_seen}
 use Rattle.smp_kernel.specs.Raised.{raised_by, KeepsOthers}
@@ -21,8 +19,8 @@ use Rattle.run_numbers.specs.declared.subject.Condition.{Condition}
 use Rattle.run_numbers.specs.declared.subject.Condition.TheVariants.{Running, RunningOn, Waiting, Inverted, Blocked, HeldUp, Busy, Idle, Due, Held}
 use Rattle.run_numbers.specs.declared.subject.Event.{Event}
 use Rattle.run_numbers.specs.declared.subject.Event.TheVariants.{SwitchedIn, Inherits, TimesOut, Refused, Awaited}
-use Rattle.run_numbers.specs.AfterStep.{happens_after, inherited, left_by, risen, known_before}
-use Rattle.run_numbers.specs.Conditions.{holder_before, holds, holds_up, is_cause}
+use Rattle.run_numbers.specs.AfterStep.{happens_after, inherited, risen, known_before}
+use Rattle.run_numbers.specs.Conditions.{holds}
 use Rattle.run_numbers.specs.Events.{happens, inherits}
 use Rattle.run_numbers.specs.Readings.{IsConditionOf}
 

@@ -6,7 +6,6 @@ use Rattle.bench_model.specs.Control.{core_at, task_at}
 use Rattle.bench_model.specs.Equal.{StandsFor}
 use Rattle.bench_model.specs.Lists.{View}
 use Rattle.bench_model.specs.Looks.{task_look}
-use Rattle.bench_model.specs.State.{holder_at}
 use Rattle.bench_model.specs.Table.{Table}
 use Rattle.smp_kernel.specs.Kernel.{StandsForSome}
 

@@ -1,33 +1,26 @@
 -- The numbers of a subject at a place, and one place further.
-use Rattle.std.proofs.Common.{◌≡◌, ℕ, zero, suc, ◌+◌, ◌<◌, ◌≤◌, max, Bool, true, false, cond, ◌&&◌, ◌==◌, nat_lt, List, length, map, get_or, Option, Some, None}
+use Rattle.std.proofs.Common.{◌≡◌, ℕ, suc, ◌+◌, max, Bool, true, false, ◌&&◌, nat_lt, List, Some}
 use Rattle.std.proofs.Common.{refl, sym, ap, subst, ◌∙◌, arith}
-use Rattle.std.specs.Prelude.{count_by, if◌then◌else◌, slice_get}
-use Rattle.std.specs.Option.{option_map_or}
-use Rattle.std.proofs.lemmas.Option.{slice_get-get_or}
+use Rattle.std.specs.Prelude.{if◌then◌else◌, slice_get}
 use Rattle.bench_types.specs.declared.header.Header.{Header}
 use Rattle.bench_types.specs.declared.reply.Reply.{Reply}
 use Rattle.bench_types.specs.declared.step.Step.{Step}
-use Rattle.list_orders.specs.Search.{numbers}
-use Rattle.bench_model.specs.Control.{task_at}
-use Rattle.bench_model.specs.Lists.{View, list_queues, view_of}
+use Rattle.bench_model.specs.Lists.{view_of}
 use Rattle.bench_model.specs.Session.{state_at, step_of}
 use Rattle.bench_model.specs.Sound.{IsConsistent}
 use Rattle.bench_model.specs.Table.{Stamps, Table, stamp_queues}
 use Rattle.bench_model.specs.Tallied.{one_if}
-use Rattle.bench_model.specs.Tally.{Moment, greatest, is_tick, moment_at}
+use Rattle.bench_model.specs.Tally.{Moment, is_tick, moment_at}
 use Rattle.smp_kernel.specs.Raised.{raised_by, KeepsOthers}
 use Rattle.smp_kernel.proofs.Raises.{step_others}
 use Rattle.run_numbers.specs.declared.gauge.Gauge.{Gauge}
 use Rattle.run_numbers.specs.declared.subject.Condition.{Condition}
-use Rattle.run_numbers.specs.declared.subject.Event.{Event}
 use Rattle.run_numbers.specs.declared.subject.Subject.{Subject}
 use Rattle.run_numbers.specs.declared.subject.Subject.TheVariants.{Ticks, Steps, TopPriority, NotMade}
-use Rattle.run_numbers.specs.AfterStep.{happens_after, known_before}
-use Rattle.run_numbers.specs.Conditions.{holds}
 use Rattle.run_numbers.specs.Events.{happens}
 use Rattle.run_numbers.specs.Gauges.{initial_gauge, spell_after}
 use Rattle.run_numbers.specs.Progress.{stepped}
-use Rattle.run_numbers.specs.Readings.{IsConditionOf, IsSubjectOf}
+use Rattle.run_numbers.specs.Readings.{IsSubjectOf}
 use Rattle.run_numbers.specs.Stretches.{holds_at, is_found, is_tick_at, start_at, stretch_at}
 use Rattle.run_numbers.specs.SoFar.{first_top, gauge_at, in_use_at, passed, passes_at, top}
 use Rattle.run_numbers.proofs.Places.{count_more, greatest_more}

@@ -12,7 +12,7 @@ use Rattle.run_numbers.specs.declared.subject.Event.TheVariants.{SwitchedIn, Tim
 use Rattle.run_numbers.specs.declared.subject.Subject.{Subject}
 use Rattle.run_numbers.specs.declared.subject.Subject.TheVariants.{Ticks, Steps, TopPriority}
 use Rattle.run_numbers.specs.Readings.{reading_of}
-use Rattle.run_numbers.specs.Stretches.{holds_at, is_tick_at, longest_stretch}
+use Rattle.run_numbers.specs.Stretches.{holds_at, is_tick_at, longest_from, longest_stretch}
 
 -- the number of a subject
 abbrev pub total_of : Header → List Step → List WaitingCall → Subject → ℕ
@@ -62,3 +62,28 @@ OneIsAsLong =
     (header : Header) (steps : List Step) (condition : Condition)
     → (first : ℕ) × (last : ℕ) × HoldsBetween header steps condition first last
     × (ticks_between header steps first last ≡ longest_stretch header steps condition)
+
+-- from the tick at the place on, the condition holds for so many ticks in one stretch
+pub record IsStretch (header : Header) (steps : List Step) (condition : Condition)
+    (first ticks : ℕ) : Type 0 where
+  pub begins : is_tick_at header steps first ≡ true
+  pub last : ℕ
+  pub holds : HoldsBetween header steps condition first last
+  pub lasts : ticks_between header steps first last ≡ ticks
+
+-- It is the first place at which a stretch of so many ticks begins: no tick before it is in the
+-- same stretch, and no other stretch of so many begins before it.
+pub record IsFirstStretch (header : Header) (steps : List Step) (condition : Condition)
+    (first ticks : ℕ) : Type 0 where
+  pub stretch : IsStretch header steps condition first ticks
+  pub begins : (earlier : ℕ) → HoldsBetween header steps condition earlier first
+      → ticks_between header steps earlier first ≡ 0
+  pub earliest : (other : ℕ) → IsStretch header steps condition other ticks → first ≤ other
+
+-- the place that is told is that of the first stretch of the greatest length
+abbrev pub FirstIsTold : Type 0
+FirstIsTold =
+    (header : Header) (steps : List Step) (condition : Condition)
+    → 0 < longest_stretch header steps condition
+    → IsFirstStretch header steps condition (longest_from header steps condition)
+    (longest_stretch header steps condition)

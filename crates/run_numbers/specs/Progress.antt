@@ -1,5 +1,5 @@
 -- All subjects of a run, one step further.
-use Rattle.std.specs.Prelude.{◌≡◌, ℕ, ◌<◌, ◌≤◌, ◌-◌, ◌^◌, List, length, slice_index_or, ⊤}
+use Rattle.std.specs.Prelude.{◌≡◌, ℕ, ◌<◌, List, length, slice_index_or}
 use Rattle.bench_types.specs.declared.reply.Reply.{Reply}
 use Rattle.bench_types.specs.declared.step.Step.{Step}
 use Rattle.bench_model.specs.Control.{Control, task_at}
@@ -9,7 +9,7 @@ use Rattle.run_numbers.specs.declared.gauge.Gauge.{Gauge}
 use Rattle.run_numbers.specs.declared.subject.Measured.{Measured}
 use Rattle.run_numbers.specs.declared.subject.Reading.{Reading}
 use Rattle.run_numbers.specs.declared.subject.Subject.{Subject}
-use Rattle.run_numbers.specs.declared.subject.Subject.TheVariants.{Ticks, Steps, TopPriority, NotMade}
+use Rattle.run_numbers.specs.declared.subject.Subject.TheVariants.{TopPriority, NotMade}
 use Rattle.run_numbers.specs.AfterStep.{known_before}
 use Rattle.run_numbers.specs.Gauges.{initial_gauge, found, left, HasRoom, HasTotal}
 use Rattle.run_numbers.specs.Readings.{calls_of, only}

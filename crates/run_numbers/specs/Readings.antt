@@ -1,15 +1,14 @@
 -- The numbers of a run.
-use Rattle.std.specs.Prelude.{◌≡◌, ℕ, ◌<◌, List, length, filter, ◌==◌, ⊤}
+use Rattle.std.specs.Prelude.{ℕ, ◌<◌, List, length, filter, ◌==◌, ⊤}
 use Rattle.bench_types.specs.declared.header.Header.{Header}
 use Rattle.bench_types.specs.declared.kernel_data.Settings.{Settings}
 use Rattle.bench_types.specs.declared.step.Step.{Step}
 use Rattle.bench_model.specs.Tally.{steps_that, top_priority}
 use Rattle.settled_runs.specs.declared.waiting_call.WaitingCall.{WaitingCall}
-use Rattle.run_numbers.specs.declared.subject.Cause.{Cause}
 use Rattle.run_numbers.specs.declared.subject.Condition.{Condition}
 use Rattle.run_numbers.specs.declared.subject.Condition.TheVariants.{Running, RunningOn, Waiting, Inverted, Blocked, HeldUp, Busy, Idle, Due, Held}
 use Rattle.run_numbers.specs.declared.subject.Event.{Event}
-use Rattle.run_numbers.specs.declared.subject.Event.TheVariants.{SwitchedIn, Inherits, TimesOut, Refused, Awaited}
+use Rattle.run_numbers.specs.declared.subject.Event.TheVariants.{Inherits}
 use Rattle.run_numbers.specs.declared.subject.Measured.{Measured}
 use Rattle.run_numbers.specs.declared.subject.Reading.{Reading}
 use Rattle.run_numbers.specs.declared.subject.Subject.{Subject}

@@ -1,5 +1,5 @@
 //! The laws of the numbers of a run. Each function does nothing: its contract is the laws.
-ghost use Rattle.run_numbers.specs.NumberLaws.{NoneIsLonger, NumbersAreTallies, OneIsAsLong};
+ghost use Rattle.run_numbers.specs.NumberLaws.{FirstIsTold, NoneIsLonger, NumbersAreTallies, OneIsAsLong};
 
 /// What a tally counts too is the same number here.
 pub fn law_of_tallies()
@@ -12,4 +12,6 @@ pub fn law_of_stretches()
     ensures none_is_longer { NoneIsLonger }
     // One has as many.
     ensures one_is_as_long { OneIsAsLong }
+    // The place that is told is the first at which such a one begins.
+    ensures first_is_told { FirstIsTold }
 {}

@@ -1,5 +1,5 @@
 //! The numbers of a whole run.
-ghost use Rattle.std.specs.Prelude.{◌≡◌, ◌<◌, ◌≤◌, ◌-◌, ◌^◌, Ok, IfOk, length, map, All};
+ghost use Rattle.std.specs.Prelude.{◌≡◌, ◌<◌, ◌≤◌, ◌+◌, ◌-◌, ◌^◌, Ok, IfOk, OnErr, OnOk, length, map, min, All};
 ghost use Rattle.std.specs.Option.{ForSome};
 ghost use Rattle.bench_types.specs.Limits.{max_steps};
 ghost use Rattle.bench_types.specs.Session.{IsSession};
@@ -8,6 +8,7 @@ ghost use Rattle.bench_model.specs.Equal.{StandsFor};
 ghost use Rattle.bench_model.specs.Session.{step_of};
 ghost use Rattle.bench_model.specs.Table.{Table};
 ghost use Rattle.list_orders.specs.Search.{numbers};
+ghost use Rattle.smp_kernel.specs.Counting.{meter_after, CountsUpTo};
 ghost use Rattle.smp_kernel.specs.Kernel.{StandsForSome};
 ghost use Rattle.run_numbers.specs.Gauges.{found, left, HasRoom};
 ghost use Rattle.run_numbers.specs.Progress.{first, measured_at, measured_in, reading_in, stepped, AreMade, HaveRoom, HaveTotals};
@@ -102,6 +103,7 @@ fn step_all(
     ensures state { (table : Table) → StandsFor kernel.old table
         → StandsFor kernel.new (step_of step.now table).1 }
     ensures shape { kernel.new.settings ≡ kernel.old.settings }
+    ensures meter { meter.new ≡ min (meter.old + 1) (2 ^ 64 - 1) }
     ensures counted { (table : Table) → StandsFor kernel.old table
         → AreMade
         (stepped kernel.old step.now (step_of step.now table).0 kernel.new.control place)
@@ -160,7 +162,7 @@ fn all_measured(
     Ok(all)
 }
 
-// The gauges after the last step.
+// The gauges after the last step. The meter counts each step once.
 fn gauges(
     alloc: Global,
     meter: &mut Meter,
@@ -171,8 +173,10 @@ fn gauges(
     requires session { IsSession (record { header = header.now; steps = steps.now }) }
     requires few { length steps.now ≤ max_steps }
     requires known { All (IsSubjectOf (settings_of header.now)) subjects.now }
-    ensures { IfOk result
+    ensures gauges { IfOk result
         (λ gauges. AreGauges header.now steps.now (length steps.now) subjects.now gauges.items) }
+    ensures meter { OnOk result (meter.new ≡ meter_after (length steps.now) meter.old) }
+    ensures uncounted { OnErr result (meter.new ≡ meter.old) }
 {
     let mut kernel = match Kernel::start(alloc, header) {
         Ok(kernel) => kernel,
@@ -193,7 +197,8 @@ fn gauges(
     Ok(gauges)
 }
 
-/// The numbers of each subject in the run of these steps, of which these calls were not made.
+/// The numbers of each subject in the run of these steps, of which these calls were not made. The
+/// meter counts each step once.
 pub fn measure(
     alloc: Global,
     meter: &mut Meter,
@@ -206,9 +211,11 @@ pub fn measure(
     requires few { length steps.now ≤ max_steps }
     requires left { length left.now < 2 ^ 32 }
     requires known { All (IsSubjectOf (settings_of header.now)) subjects.now }
-    ensures { IfOk result
+    ensures numbers { IfOk result
         (λ found. found.items
         ≡ map (measured header.now steps.now left.now) subjects.now) }
+    ensures meter { OnOk result (meter.new ≡ meter_after (length steps.now) meter.old) }
+    ensures some { OnErr result (CountsUpTo (length steps.now) meter.old meter.new) }
 {
     let gauges = gauges(alloc, meter, header, steps, subjects)?;
     all_measured(alloc, gauges.as_slice(), left, subjects)

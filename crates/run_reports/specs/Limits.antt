@@ -1,5 +1,5 @@
 -- Limits that figures keep or do not.
-use Rattle.std.specs.Prelude.{ℕ, Bool, List, [], ◌++◌, nat_le, bytes_eq, codes, decimal, Option, Some, None, if◌then◌else◌}
+use Rattle.std.specs.Prelude.{ℕ, ◌≤◌, Bool, List, [], ◌++◌, nat_le, bytes_eq, codes, decimal, Option, Some, None, if◌then◌else◌}
 use Rattle.bench_types.specs.declared.header.Header.{Header}
 use Rattle.run_reports.specs.declared.figures.Figure.{Figure}
 use Rattle.run_reports.specs.declared.limits.Bound.{Bound}
@@ -11,6 +11,11 @@ use Rattle.run_reports.specs.Names.{figure_name}
 abbrev pub has_name : Header → List ℕ → Figure → Bool
 has_name header name figure =
     bytes_eq (figure_name header figure.subject figure.part) name
+
+-- the value keeps the bound
+abbrev pub Keeps : Bound → ℕ → Type 0
+Keeps (AtMost most) value = value ≤ most
+Keeps (AtLeast least) value = least ≤ value
 
 -- the value is one that it may be
 abbrev pub is_kept : Bound → ℕ → Bool

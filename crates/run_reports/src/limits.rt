@@ -1,6 +1,6 @@
 //! Limits that figures keep or do not.
-ghost use Rattle.std.specs.Prelude.{◌≡◌, ◌++◌, IfOk, OnOk, Option, bytes_eq, decimal, find, flat_map, string_bytes};
-ghost use Rattle.run_reports.specs.Limits.{bound_text, from_text, has_name, is_kept, limit_line, name_line, unkept_line, value_text};
+ghost use Rattle.std.specs.Prelude.{◌≡◌, ◌++◌, ◌↔◌, IfOk, IsTrue, OnOk, Option, bytes_eq, decimal, find, flat_map, string_bytes};
+ghost use Rattle.run_reports.specs.Limits.{bound_text, from_text, has_name, is_kept, limit_line, name_line, unkept_line, value_text, Keeps};
 
 use crate::figures::Figure;
 use crate::names::push_name;
@@ -51,7 +51,8 @@ fn has_name(alloc: Global, header: &Header, figure: Figure, name: &str) -> Resul
 
 /// Whether the value is one that it may be.
 pub fn is_kept(bound: Bound, value: u32) -> bool
-    ensures { result ≡ is_kept bound value }
+    ensures test { result ≡ is_kept bound value }
+    ensures kept { IsTrue result ↔ Keeps bound value }
 {
     match bound {
         Bound::AtMost(most) => value <= most,

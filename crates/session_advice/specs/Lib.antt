@@ -4,3 +4,4 @@ pub mod Words
 pub mod Costs
 pub mod Advice
 pub mod AdviceLaws
+pub mod Telling

@@ -1,11 +1,14 @@
 //! Advice on a number of a session's run.
-ghost use Rattle.std.specs.Prelude.{◌≡◌, ◌≤◌, IfOk, Err, length, string_bytes, take};
+ghost use Rattle.std.specs.Prelude.{◌≡◌, ◌≤◌, IfErr, IfOk, OnErr, OnOk, Err, length, string_bytes, take};
 ghost use Rattle.bench_types.specs.Limits.{max_steps};
 ghost use Rattle.bench_types.specs.Session.{IsSession};
 ghost use Rattle.settling.specs.declared.run.SettleFault.TheVariants.{TooManySteps};
+ghost use Rattle.run_advice.specs.Changes.{changes_of};
+ghost use Rattle.run_advice.specs.Tellings.{TellsSome, TellsUpTo};
 ghost use Rattle.session_reports.specs.Figures.{IsTooLong};
 ghost use Rattle.session_advice.specs.Advice.{IsAdvice, IsAdviceText};
 ghost use Rattle.session_advice.specs.Basis.{basis_of, IsBasis};
+ghost use Rattle.session_advice.specs.Telling.{TellsByFault, TellsByStatus};
 
 use crate::basis::{Base, judge_of};
 use crate::entries::{push_entries, push_head};
@@ -38,8 +41,14 @@ fn advice_text<R: Threads + Sync, P: Progress>(
     best: u32,
 ) -> Result<String, AllocError>
     requires { IsBasis (basis_of base.now) }
-    ensures { IfOk result
+    ensures text { IfOk result
         (λ text. IsAdviceText (basis_of base.now) family best (string_bytes text)) }
+    ensures told { OnOk result
+        (let all = length (changes_of (basis_of base.now).session family)
+        in TellsUpTo P.tells all all progress.old progress.new) }
+    ensures told_some { OnErr result
+        (let all = length (changes_of (basis_of base.now).session family)
+        in TellsSome P.tells all progress.old progress.new) }
 {
     let judge = judge_of(base);
     let advice = advise(
@@ -83,6 +92,15 @@ pub fn advise_session<R: Threads + Sync, P: Progress>(
         printed) }
     ensures long { result ≡ Err TooManySteps
         → IsTooLong question.now.settled (record { header = header.now; steps = steps.now }) }
+    // How many of the changes were tried, where any were.
+    ensures told { IfOk result
+        (λ printed. let all = length (changes_of
+        (record { header = header.now; steps = steps.now }) question.now.family)
+        in TellsByStatus P.tells printed.status all progress.old progress.new) }
+    ensures told_some { IfErr result
+        (λ fault. let all = length (changes_of
+        (record { header = header.now; steps = steps.now }) question.now.family)
+        in TellsByFault P.tells fault all progress.old progress.new) }
 {
     let (family, settled, best) = (question.family, question.settled, question.best);
     let own = figures_of_session(alloc, meter, header, steps, settled)?;

@@ -1,1 +1,2 @@
 pub mod OneList
+pub mod KeptLimits

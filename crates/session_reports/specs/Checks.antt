@@ -1,10 +1,10 @@
 -- Whether a run keeps limits.
-use Rattle.std.specs.Prelude.{◌≡◌, ℕ, List, [], ◌∷◌, ◌++◌, find, flat_map, Bool, codes, Option, Some, None, is_none}
+use Rattle.std.specs.Prelude.{◌≡◌, ℕ, List, [], ◌∷◌, ◌++◌, find, flat_map, All, Any, Bool, codes, Option, Some, None, is_none}
 use Rattle.bench_types.specs.declared.header.Header.{Header}
 use Rattle.bench_types.specs.Session.{Session}
 use Rattle.run_reports.specs.declared.figures.Figure.{Figure}
 use Rattle.run_reports.specs.declared.limits.Limit.{Limit}
-use Rattle.run_reports.specs.Limits.{has_name, limit_line, name_line}
+use Rattle.run_reports.specs.Limits.{has_name, limit_line, name_line, Keeps}
 use Rattle.session_reports.specs.declared.limits.CheckStatus.TheVariants.{Kept, NotKept, Unknown}
 use Rattle.session_reports.specs.Asked.{Asked, Printed}
 use Rattle.session_reports.specs.Figures.{AreFigures}
@@ -58,3 +58,21 @@ pub record IsCheck (settled : Bool) (session : Session) (wanted : List Asked) (p
   pub figures : List Figure
   pub are : AreFigures settled session figures
   pub is : printed ≡ checked session.header figures wanted
+
+-- the figure of the name is there, and its value keeps the bound
+pub record KeepsLimit (header : Header) (figures : List Figure) (asked : Asked) : Type 0 where
+  pub figure : Figure
+  pub named : figure_for header figures asked ≡ Some figure
+  pub kept : Keeps asked.bound figure.value
+
+-- each limit is kept in the session's run, settled or as its steps stand
+pub record KeepsAll (settled : Bool) (session : Session) (wanted : List Asked) : Type 0 where
+  pub figures : List Figure
+  pub are : AreFigures settled session figures
+  pub each : All (KeepsLimit session.header figures) wanted
+
+-- some limit has a name that no figure of the run has
+pub record NamesUnknown (settled : Bool) (session : Session) (wanted : List Asked) : Type 0 where
+  pub figures : List Figure
+  pub are : AreFigures settled session figures
+  pub some : Any (λ asked. figure_for session.header figures asked ≡ None) wanted

@@ -1,9 +1,10 @@
 //! Whether a run keeps limits.
-ghost use Rattle.std.specs.Prelude.{◌≡◌, ◌++◌, ◌≤◌, IfOk, OnOk, Err, find, flat_map, length, option_map, string_bytes};
+ghost use Rattle.std.specs.Prelude.{◌≡◌, ◌++◌, ◌↔◌, ◌≤◌, IfOk, OnOk, Err, find, flat_map, length, option_map, string_bytes};
 ghost use Rattle.bench_types.specs.Limits.{max_steps};
 ghost use Rattle.bench_types.specs.Session.{IsSession};
 ghost use Rattle.settling.specs.declared.run.SettleFault.TheVariants.{TooManySteps};
-ghost use Rattle.session_reports.specs.Checks.{checked, is_unknown, kept_or, limits_in, unknown_text, IsCheck};
+ghost use Rattle.session_reports.specs.Checks.{checked, is_unknown, kept_or, limits_in, unknown_text, IsCheck, KeepsAll, NamesUnknown};
+ghost use Rattle.session_reports.specs.declared.limits.CheckStatus.TheVariants.{Kept, Unknown};
 ghost use Rattle.session_reports.specs.Figures.{IsTooLong};
 
 use crate::figures::figures_of_session;
@@ -197,6 +198,13 @@ pub fn check(
     ensures check { IfOk result
         (λ printed. IsCheck settled (record { header = header.now; steps = steps.now })
         wanted.now printed) }
+    // All limits are kept, each by the figure of its name, or some name is unknown.
+    ensures kept { IfOk result
+        (λ printed. (printed.status ≡ Kept)
+        ↔ KeepsAll settled (record { header = header.now; steps = steps.now }) wanted.now) }
+    ensures unknown { IfOk result
+        (λ printed. (printed.status ≡ Unknown)
+        ↔ NamesUnknown settled (record { header = header.now; steps = steps.now }) wanted.now) }
     ensures long { result ≡ Err TooManySteps
         → IsTooLong settled (record { header = header.now; steps = steps.now }) }
 {

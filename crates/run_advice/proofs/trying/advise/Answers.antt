@@ -13,7 +13,7 @@ use Rattle.run_advice.proofs.trying.advise.Goals as goal
 pub entries_of-requires-clause-count : goal.entries_of-requires-clause-count
 entries_of-requires-clause-count g c =
     ap length c.as_slice-3.ensures.value
-    ∙ zip_length _ c.as_slice.result.now c.in_ok-verdicts.verdicts.items c.in_ok-verdicts.ensures
+    ∙ zip_length _ c.as_slice.result.now c.in_ok-verdicts.verdicts.items c.in_ok-verdicts.ensures.verdicts
     ∙ ap length (c.as_slice.ensures.value ∙ sym c.as_slice-2.ensures.value)
 
 pub entries_of-requires-clause-few : goal.entries_of-requires-clause-few
@@ -27,7 +27,7 @@ returns-clause-ranked g c =
     let session : Session = record { header = c.args.header.now; steps = c.args.steps.now } in
     let changes : List Change = c.in_ok-changes.changes.items in
     let verdicts : List (Result Verdict AllocError) = c.in_ok-verdicts.verdicts.items in
-    let judged = subst (λ (changes : List Change). AreVerdicts c.args.judge session changes verdicts) c.as_slice.ensures.value c.in_ok-verdicts.ensures in
+    let judged = subst (λ (changes : List Change). AreVerdicts c.args.judge session changes verdicts) c.as_slice.ensures.value c.in_ok-verdicts.ensures.verdicts in
     let read = subst (λ (changes : List Change). AreRead c.args.header.now changes verdicts c.in_ok-entries.entries.items) c.as_slice-2.ensures.value
     (subst (λ (verdicts : List (Result Verdict AllocError)). AreRead c.args.header.now c.as_slice-2.result.now verdicts c.in_ok-entries.entries.items)
     c.as_slice-3.ensures.value c.in_ok-entries.ensures.read) in

@@ -1,4 +1,4 @@
-use Rattle.std.proofs.Common.{◌+◌, ◌≤◌, take, sym, subst, arith}
+use Rattle.std.proofs.Common.{◌+◌, ◌≤◌, length, take, sym, subst, arith}
 use Rattle.std.specs.Prelude.{IfOk, List, Result}
 use Rattle.std.specs.declared.alloc.AllocError.{AllocError}
 use Rattle.bench_types.specs.Session.{Session}
@@ -8,6 +8,7 @@ use Rattle.run_advice.specs.Changed.{changed}
 use Rattle.run_advice.specs.Ranking.{AreVerdicts}
 use Rattle.run_advice.specs.Verdicts.{IsVerdict}
 use Rattle.run_advice.proofs.Parts.{part_more}
+use Rattle.run_advice.proofs.Told.{tells_more}
 use Rattle.run_advice.proofs.trying.verdicts_of.Goals as goal
 
 pub loop-done-preserved : goal.loop-done-preserved
@@ -22,4 +23,6 @@ loop-done-preserved g c =
           (sym c.in_ok-append.ensures.items)
           (part_more (λ (made : Change) (verdict : Result Verdict AllocError). IfOk verdict (IsVerdict c.args.judge (changed session made)))
           c.args.changes.now c.loop-done.verdicts.items c.in_ok-more.more.items done end more c.loop-done.invariant.judged c.in_ok-more.ensures);
+      told = tells_more g.P.Progress.tells (length c.args.changes.now) done end c.args.progress.now c.loop-done.progress c.tell.new.self
+          c.loop-done.invariant.told (omega arith) c.tell.ensures;
     }

@@ -1,3 +1,4 @@
+use Rattle.run_numbers.proofs.FirstStretches.{first_is_told}
 use Rattle.run_numbers.proofs.Lawful.{none_is_longer, one_is_as_long}
 use Rattle.run_numbers.proofs.laws.law_of_stretches.Goals as goal
 
@@ -6,3 +7,6 @@ returns-clause-none_is_longer c = none_is_longer
 
 pub returns-clause-one_is_as_long : goal.returns-clause-one_is_as_long
 returns-clause-one_is_as_long c = one_is_as_long
+
+pub returns-clause-first_is_told : goal.returns-clause-first_is_told
+returns-clause-first_is_told c = first_is_told

@@ -1,11 +1,11 @@
-use Rattle.std.proofs.Common.{◌≡◌, suc, All, List, ◌++◌, length, map, take, drop, ◌+◌, sym, ap, subst, ◌∙◌, arith, add-one}
+use Rattle.std.proofs.Common.{◌≡◌, suc, All, ◌++◌, length, map, take, drop, ◌+◌, ◌-◌, ◌^◌, min, refl, sym, ap, subst, ◌∙◌, arith, add-one}
 use Rattle.std.proofs.lemmas.List.{take-append-le, take_all}
 use Rattle.std.proofs.lemmas.Option.{slice_get-get_or}
 use Rattle.bench_types.specs.declared.kernel_data.Settings.{Settings}
-use Rattle.bench_types.specs.Step.{settings_of}
 use Rattle.bench_model.specs.Equal.{StandsFor}
 use Rattle.bench_model.specs.Lists.{View}
 use Rattle.bench_model.specs.Session.{state_at}
+use Rattle.smp_kernel.proofs.Counts.{counted_more}
 use Rattle.run_numbers.specs.Progress.{first}
 use Rattle.run_numbers.specs.Readings.{IsSubjectOf}
 use Rattle.run_numbers.specs.SoFar.{AreGauges}
@@ -22,6 +22,7 @@ loop-place-init c =
       c.in-Ok.ensures.shape,
       start_gauges header c.args.steps.now c.args.subjects.now c.in_ok-gauges.gauges.items
           (c.in_ok-gauges.ensures ∙ ap (λ (v : View). map (first v.control) c.args.subjects.now) (sym started.shows)),
+      refl,
     )
 
 pub step_all-requires-clause-room : goal.step_all-requires-clause-room
@@ -55,4 +56,5 @@ loop-place-preserved c =
       c.step_all.ensures.shape ∙ before.1,
       subst (AreGauges header steps (place + 1) c.args.subjects.now) (sym all)
           (subst (λ next. AreGauges header steps next c.args.subjects.now made) (sym (add-one place)) grown),
+      c.step_all.ensures.meter ∙ ap (λ count. min (count + 1) (2 ^ 64 - 1)) before.3 ∙ counted_more place c.args.meter.now,
     )

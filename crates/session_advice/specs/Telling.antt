@@ -1,0 +1,19 @@
+-- What is told on the way of how many changes were tried.
+use Rattle.std.specs.Prelude.{◌≡◌, ℕ}
+use Rattle.settling.specs.declared.run.SettleFault.{SettleFault}
+use Rattle.settling.specs.declared.run.SettleFault.TheVariants.{TooManySteps, NoMemory}
+use Rattle.run_advice.specs.Tellings.{TellsSome, TellsUpTo}
+use Rattle.session_advice.specs.declared.question.AdviceStatus.{AdviceStatus}
+use Rattle.session_advice.specs.declared.question.AdviceStatus.TheVariants.{Given, Unknown}
+
+-- to the end where advice is given; nothing where none has the name
+abbrev pub TellsByStatus : {P : Type 0} → (P → ℕ → ℕ → P → Type 0) → AdviceStatus → ℕ → P → P
+    → Type 0
+TellsByStatus tells Given all old new = TellsUpTo tells all all old new
+TellsByStatus tells Unknown all old new = new ≡ old
+
+-- up to some of all where memory was refused; nothing of a session that is too long
+abbrev pub TellsByFault : {P : Type 0} → (P → ℕ → ℕ → P → Type 0) → SettleFault → ℕ → P → P
+    → Type 0
+TellsByFault tells NoMemory all old new = TellsSome tells all old new
+TellsByFault tells TooManySteps all old new = new ≡ old

@@ -168,7 +168,7 @@ after_tiles = run_tiles place_after (λ pair. pair.after) (λ before after. afte
 
 -- ---- the laws
 
-events_before_kept : (session : Session) (before : SettledRun session) → AreEventsOf session.steps before.run
+pub events_before_kept : (session : Session) (before : SettledRun session) → AreEventsOf session.steps before.run
 events_before_kept session before = settling_keeps_events session.header session.steps before.run before.left before.settled
 
 pub each_settled_before : EachSettledBefore

@@ -21,7 +21,9 @@ use Rattle.run_comparisons.specs.Alike.{are_alike}
 use Rattle.run_comparisons.specs.RowLaws.{place_after, place_before}
 use Rattle.run_comparisons.specs.Shared.{is_same_event, place_in, places_in, shared_among, shared_at, AreEventsOf}
 use Rattle.run_comparisons.specs.SideBySide.{IsWithin}
-use Rattle.run_comparisons.proofs.EventPlaces.{place_listed, stands_behind, stands_within}
+use Rattle.run_comparisons.specs.SettledRowLaws.{AreAlikeAt}
+use Rattle.run_comparisons.proofs.AlikeSteps.{may_share}
+use Rattle.run_comparisons.proofs.EventPlaces.{place_listed, stands_behind, stands_there, stands_within}
 
 -- ---- events that are alike
 
@@ -57,6 +59,7 @@ record IsSharedRow (session edited : List Step) (places later : List ℕ) (row :
   pub met : slice_get edited new ≡ Some other
   pub outside : comes_from_outside event ≡ true
   pub too : comes_from_outside other ≡ true
+  pub alike : are_alike event other ≡ true
   pub before : pair.before ≡ get_or places old 0
   pub after : pair.after ≡ get_or later new 0
 
@@ -84,6 +87,7 @@ shared_row session edited places later (Both old new) pair is = at (slice_get se
           met = met;
           outside = both.0;
           too = alike_outside step other both.0 both.1;
+          alike = both.1;
           before = sym (ap (λ (one : PlacePair). one.before) pair_is);
           after = sym (ap (λ (one : PlacePair). one.after) pair_is);
         }
@@ -214,6 +218,33 @@ module _ (session edited before after : List Step) (first : AreEventsOf session 
           (cons_option found (filter_map at_row rows))
       at rest None is = rest
       at rest (Some pair) is = All-cons (IsWithin before after) pair (filter_map at_row rows) (one_within row pair is) rest
+
+  -- at alike steps
+  one_alike : (row : Row) (pair : PlacePair) → at_row row ≡ Some pair → AreAlikeAt before after pair.before pair.after
+  one_alike row pair is =
+      let one = shared_row session edited (places_in before session) (places_in after edited) row pair is in
+      let old : pair.before ≡ place_in before session one.old = one.before ∙ place_listed before session one.old
+      (slice_get_within session one.old one.event one.found) in
+      let new : pair.after ≡ place_in after edited one.new = one.after ∙ place_listed after edited one.new
+      (slice_get_within edited one.new one.other one.met) in
+      record {
+        step = one.event;
+        other = one.other;
+        stands = ap (slice_get before) old ∙ (stands_there session before one.old one.event first one.found one.outside).stands;
+        beside = ap (slice_get after) new ∙ (stands_there edited after one.new one.other second one.met one.too).stands;
+        alike = may_share one.event one.other one.alike;
+      }
+
+  pub all_alike : (rows : List Row) → All (λ pair. AreAlikeAt before after pair.before pair.after) (shared_among session edited before after rows)
+  all_alike [] = λ k d short. absurd (omega (arith, short))
+  all_alike (row ∷ rows) = at (all_alike rows) (at_row row) refl
+    where
+      it : PlacePair → Type 0
+      it pair = AreAlikeAt before after pair.before pair.after
+
+      at : All it (filter_map at_row rows) → (found : Option PlacePair) → at_row row ≡ found → All it (cons_option found (filter_map at_row rows))
+      at rest None is = rest
+      at rest (Some pair) is = All-cons it pair (filter_map at_row rows) (one_alike row pair is) rest
 
 -- so it is with what equals them
 pub each_within : (session edited before after s e b a : List Step) (rows : List Row) (events : List PlacePair) → AreEventsOf session before → AreEventsOf

@@ -1,5 +1,5 @@
 -- Steps of two runs that stand beside one another.
-use Rattle.std.specs.Prelude.{Bool, true, false, ◌&&◌, ◌==◌}
+use Rattle.std.specs.Prelude.{◌≡◌, Bool, true, false, ◌&&◌, ◌==◌}
 use Rattle.bench_types.specs.declared.step.Step.{Step}
 use Rattle.bench_types.specs.declared.step.Step.TheVariants.{Tick, Switch, Call, Interrupt}
 use Rattle.bench_model.specs.SameTest.{are_same_calls, are_same_notes}
@@ -12,3 +12,8 @@ are_alike (Call core task call) (Call other caller made) =
     task == caller && are_same_calls call made
 are_alike (Interrupt core note) (Interrupt other sent) = core == other && are_same_notes note sent
 are_alike step other = false
+
+-- they are one step, or one call of one task, on whatever cores: the same in words of equality
+abbrev pub MayShareRow : Step → Step → Type 0
+MayShareRow (Call core task call) (Call other caller made) = (task ≡ caller) × (call ≡ made)
+MayShareRow step other = step ≡ other

@@ -1,5 +1,5 @@
 -- The run of a session beside the run after edits of it.
-use Rattle.std.specs.Prelude.{ℕ, List, [], ◌∷◌, ◌++◌, filter, flat_map, codes, decimal, Some, None}
+use Rattle.std.specs.Prelude.{◌≡◌, ◌↔◌, ℕ, List, [], ◌∷◌, ◌++◌, All, filter, flat_map, codes, decimal, false, Some, None}
 use Rattle.bench_types.specs.declared.edit.Edit.{Edit}
 use Rattle.bench_types.specs.Session.{Session}
 use Rattle.bench_model.specs.Edits.{after_edits}
@@ -44,10 +44,10 @@ not_made_text place places =
 abbrev pub not_made_line : ℕ → List ℕ → List ℕ
 not_made_line place places = not_made_text place places ++ codes "\n"
 
--- Where no step differs, the places of the edits that are refused: the runs do not differ where
--- there are none.
+-- No step differs, which is no word of what the tasks gained and lost. Behind it stand the places
+-- of the edits that are refused, where there are some.
 abbrev pub no_difference_text : List ℕ → List ℕ
-no_difference_text [] = codes "the runs do not differ\n"
+no_difference_text [] = codes "no step differs\n"
 no_difference_text (place ∷ places) = not_made_line place places
 
 -- The first and the last of the rows in which the runs differ. Where there are none, the edits that
@@ -55,6 +55,17 @@ no_difference_text (place ∷ places) = not_made_line place places
 abbrev pub differences_text : List ℕ → List Row → List ℕ
 differences_text refused [] = no_difference_text refused
 differences_text refused (row ∷ rows) = ends_text row (last_of row rows)
+
+-- the text begins with these words
+abbrev pub SaysNoDifference : List ℕ → Type 0
+SaysNoDifference text = (rest : List ℕ) × (text ≡ codes "no step differs" ++ rest)
+
+-- It is said that no step differs exactly where the runs differ in no row.
+abbrev pub NoDifferenceIsSaid : Type 0
+NoDifferenceIsSaid =
+    (before after : Session) (refused : List ℕ) (rows : List Row)
+    → SaysNoDifference (differences_text refused (filter (differs before after) rows))
+    ↔ All (λ row. differs before after row ≡ false) rows
 
 -- rows of a session and an edited one, and the places of the edits that are refused
 abbrev pub rows_text : Session → Session → List ℕ → List Row → List ℕ

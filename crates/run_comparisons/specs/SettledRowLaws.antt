@@ -1,5 +1,5 @@
 -- What the rows of two settled runs have to do with their steps, and what is told of them.
-use Rattle.std.specs.Prelude.{◌≡◌, ℕ, List, length, flat_map, Contains, true, Some, slice_get}
+use Rattle.std.specs.Prelude.{◌≡◌, ◌⊎◌, ℕ, suc, List, length, flat_map, Contains, true, Some, slice_get}
 use Rattle.list_orders.specs.Search.{numbers}
 use Rattle.bench_types.specs.declared.edit.Edit.{Edit}
 use Rattle.bench_types.specs.declared.step.Step.{Step}
@@ -7,7 +7,8 @@ use Rattle.bench_types.specs.Session.{Session}
 use Rattle.bench_model.specs.Edits.{after_edits}
 use Rattle.settled_runs.specs.SettleLaws.{comes_from_outside}
 use Rattle.run_comparisons.specs.declared.rows.Row.{Row}
-use Rattle.run_comparisons.specs.declared.rows.Row.TheVariants.{Both}
+use Rattle.run_comparisons.specs.declared.rows.Row.TheVariants.{Both, Removed, Inserted}
+use Rattle.run_comparisons.specs.Alike.{MayShareRow}
 use Rattle.run_comparisons.specs.RowLaws.{place_after, place_before}
 use Rattle.run_comparisons.specs.Rows.{rows_of}
 use Rattle.run_comparisons.specs.Settled.{IsSettledComparison, SettledRun}
@@ -50,6 +51,42 @@ SharedStandTogether =
     (place : ℕ) × (later : ℕ) × Contains rows (Both place later)
     × StandsAs session.steps old event before.run place
     × StandsAs (after_edits session edits).steps new event after.run later
+
+-- both steps are there, and they may share a row
+pub record AreAlikeAt (before after : List Step) (old new : ℕ) : Type 0 where
+  pub step : Step
+  pub other : Step
+  pub stands : slice_get before old ≡ Some step
+  pub beside : slice_get after new ≡ Some other
+  pub alike : MayShareRow step other
+
+-- In a row of both settled runs stands one step of both, or one call of one task.
+abbrev pub SettledRowsAreAlike : Type 0
+SettledRowsAreAlike =
+    (session : Session) (edits : List Edit) (before : SettledRun session)
+    (after : SettledRun (after_edits session edits)) (rows : List Row) (old new : ℕ)
+    → AreSettledRows session edits before.run after.run rows → Contains rows (Both old new)
+    → AreAlikeAt before.run after.run old new
+
+-- the second row stands directly behind the first
+abbrev pub StandInTurn : List Row → ℕ → Row → Row → Type 0
+StandInTurn rows place first second =
+    (slice_get rows place ≡ Some first) × (slice_get rows (suc place) ≡ Some second)
+
+-- the steps have rows of their own, one directly behind the other, in either order
+abbrev pub AreNeighbours : List Row → ℕ → ℕ → Type 0
+AreNeighbours rows old new =
+    (place : ℕ)
+    × (StandInTurn rows place (Removed old) (Inserted new)
+    ⊎ StandInTurn rows place (Inserted new) (Removed old))
+
+-- Steps that may share a row have no rows of their own one directly behind the other.
+abbrev pub AlikeAreNotApart : Type 0
+AlikeAreNotApart =
+    (session : Session) (edits : List Edit) (before : SettledRun session)
+    (after : SettledRun (after_edits session edits)) (rows : List Row) (old new : ℕ)
+    → AreSettledRows session edits before.run after.run rows → AreNeighbours rows old new
+    → ¬ AreAlikeAt before.run after.run old new
 
 -- one text is told of a session and edits of it
 abbrev pub SettledComparisonIsOne : Type 0

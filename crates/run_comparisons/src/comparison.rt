@@ -147,7 +147,7 @@ fn push_no_difference(text: &mut String, refused: &[usize]) -> Result<(), AllocE
         (string_bytes text.new ≡ string_bytes text.old ++ no_difference_text refused.now) }
 {
     match refused {
-        [] => text.push_str("the runs do not differ\n"),
+        [] => text.push_str("no step differs\n"),
         [place, ..] => push_not_made_line(text, *place, &refused[1..]),
     }
 }

@@ -1,8 +1,8 @@
 -- What a ready task is told to be hindered by is so, and all that is.
 use Rattle.std.proofs.Common.{◌≡◌, ◌≢◌, ◌<◌, ◌≤◌, ℕ, List, [], ◌∷◌, length, map, get_or, Bool, true, false, nat_lt, nat_le, Option, Some, None, refl, sym, ap}
 use Rattle.std.proofs.Common.{subst, ◌∙◌, arith, true≢false}
-use Rattle.std.specs.Prelude.{◌==◌, All, Contains, position, cond, if◌then◌else◌}
-use Rattle.std.specs.List.{position_or_len}
+use Rattle.std.specs.Prelude.{◌==◌, ◌&&◌, not, All, Contains, position, cond, if◌then◌else◌}
+use Rattle.std.specs.List.{list_any, position_or_len}
 use Rattle.std.proofs.lemmas.Bool.Decides.{nat_tests}
 use Rattle.std.proofs.lemmas.List.Sums.{fails_before_first}
 use Rattle.bench_types.proofs.Passes.{header_facts, passes_whole}
@@ -11,15 +11,18 @@ use Rattle.bench_types.specs.declared.kernel_data.Hold.{Hold}
 use Rattle.bench_types.specs.declared.kernel_data.Settings.{Settings}
 use Rattle.list_orders.specs.Search.{numbers}
 use Rattle.bench_model.specs.Control.{core_at, current, is_allowed, is_due, task_at}
+use Rattle.bench_model.specs.Seek.{effective}
 use Rattle.bench_model.specs.Session.{state_at}
 use Rattle.bench_model.specs.Sound.{IsSound}
 use Rattle.bench_model.specs.Table.{Table, is_ready}
-use Rattle.session_laws.proofs.Tallies.{each_at, length_each}
+use Rattle.bench_model.specs.Tally.{outranks_some}
+use Rattle.list_orders.proofs.Filters.{list_any-map}
+use Rattle.session_laws.proofs.Tallies.{each_at, length_each, numbers_so}
 use Rattle.run_pictures.specs.declared.hindrance.Hindrance.{Hindrance}
 use Rattle.run_pictures.specs.declared.hindrance.Obstacle.{Obstacle}
 use Rattle.run_pictures.specs.declared.hindrance.Obstacle.TheVariants.{Masked, Held, Due, Unpreempted, Outranked, Lower}
 use Rattle.run_pictures.specs.declared.stance.Stance.TheVariants.{Ready, Blocked}
-use Rattle.run_pictures.specs.HindranceLaws.{in_use, AreHindrances, HindrancesAreSo, IsHindered, IsFree, IsSettled, IsTask, RunsInstead}
+use Rattle.run_pictures.specs.HindranceLaws.{in_use, is_lower, AreHindrances, HindrancesAreSo, IsHindered, IsFree, IsSettled, IsTask, RunsInstead}
 use Rattle.run_pictures.specs.Hindrances.{hindrance_of, hindrances_of, hold_or, where_ready}
 use Rattle.run_pictures.specs.Stances.{core_of, stance_of, stance_on}
 use Rattle.run_pictures.proofs.Seen.{kept_settings, sound_state}
@@ -50,10 +53,33 @@ first_of allowed hold due higher preempt other priority =
     (if preempt then Lower other priority else Unpreempted other priority)))
     else Masked
 
+both_true : (a b : Bool) → (a && b) ≡ true → (a ≡ true) × (b ≡ true)
+both_true true b are = (refl, are)
+both_true false b are = absurd (true≢false (sym are))
+
+-- one number is below the other where that is not at most the one
+not_at_most : (a b : ℕ) → nat_lt a b ≡ not (nat_le b a)
+not_at_most a b = at (nat_le b a) refl
+  where
+    at : (c : Bool) → nat_le b a ≡ c → nat_lt a b ≡ not c
+    at true is = grind (arith, nat_tests, is)
+    at false is = grind (arith, nat_tests, is)
+
+-- of a core that is not due under no hold
+lower_first : (allowed higher preempt : Bool) (other priority : ℕ) → is_lower (first_of allowed None false higher preempt other priority) ≡
+    (allowed && not higher)
+lower_first false higher preempt other priority = refl
+lower_first true true preempt other priority = refl
+lower_first true false true other priority = refl
+lower_first true false false other priority = refl
+
 -- of a sound state, and a ready task that is on no core
 module _ (table : Table) (task : ℕ) (sound : IsSound table) (ready : stance_of table task ≡ Ready) where
   abbrev own : ℕ
-  own = in_use table task
+  own = effective table.control task
+
+  abbrev rank : ℕ → ℕ
+  rank other = effective table.control other
 
   abbrev preempts : ℕ → Bool
   preempts other = (task_at table.control other).preempt
@@ -93,16 +119,18 @@ module _ (table : Table) (task : ℕ) (sound : IsSound table) (ready : stance_of
     runs : IsFree table task core → RunsInstead table task core other (in_use table other)
     runs free = record { free = free; current = refl; another = not_current core few; ready = current_ready core few free.settled; level = refl }
 
-    by_task : IsFree table task core → IsHindered table task core (if nat_le own (in_use table other) then Outranked other (in_use table other) else
+    by_task : IsFree table task core → IsHindered table task core (if nat_le own (rank other) then Outranked other (in_use table other) else
         (if preempts other then Lower other (in_use table other) else Unpreempted other (in_use table other)))
-    by_task free = by (nat_le own (in_use table other)) refl
+    by_task free = by (nat_le own (rank other)) refl
       where
-        lower : (b : Bool) → preempts other ≡ b → in_use table other < own → IsHindered table task core
+        lower : (b : Bool) → preempts other ≡ b → rank other < own → IsHindered table task core
             (if b then Lower other (in_use table other) else Unpreempted other (in_use table other))
-        lower true is less = (runs free, less, is)
+        lower true is less =
+            let below : nat_lt (rank other) own ≡ true = grind (arith, nat_tests, less) in
+            (runs free, λ i. not (free.settled i) && is i && below i)
         lower false is less = (runs free, less, is)
 
-        by : (b : Bool) → nat_le own (in_use table other) ≡ b → IsHindered table task core
+        by : (b : Bool) → nat_le own (rank other) ≡ b → IsHindered table task core
             (if b then Outranked other (in_use table other) else (if preempts other then Lower other (in_use table other) else Unpreempted other
             (in_use table other)))
         by true is = (runs free, grind (arith, nat_tests, is))
@@ -112,7 +140,7 @@ module _ (table : Table) (task : ℕ) (sound : IsSound table) (ready : stance_of
     so = by_mask (is_allowed table.control core task) refl
       where
         rest : Obstacle
-        rest = if nat_le own (in_use table other) then Outranked other (in_use table other) else
+        rest = if nat_le own (rank other) then Outranked other (in_use table other) else
             (if preempts other then Lower other (in_use table other) else Unpreempted other (in_use table other))
 
         by_due : is_allowed table.control core task ≡ true → table.hold ≡ None → (b : Bool) → is_due table.control core ≡ b → IsHindered table task core
@@ -131,35 +159,58 @@ module _ (table : Table) (task : ℕ) (sound : IsSound table) (ready : stance_of
         by_mask false is = is
 
     -- ---- and nothing else
-    runs_found : {rival priority : ℕ} (higher preempt : Bool) → RunsInstead table task core rival priority → nat_le own priority ≡ higher → preempts rival ≡
+    runs_found : {rival priority : ℕ} (higher preempt : Bool) → RunsInstead table task core rival priority → nat_le own (rank rival) ≡ higher → preempts rival ≡
         preempt → found core ≡ first_of true None false higher preempt rival priority
     runs_found {rival} {priority} higher preempt instead ranks is =
         let level : in_use table other ≡ priority = ap (in_use table) instead.current ∙ instead.level in
-        let ranked : nat_le own (in_use table other) ≡ higher = ap (nat_le own) level ∙ ranks in
+        let ranked : nat_le own (rank other) ≡ higher = ap (λ n. nat_le own (rank n)) instead.current ∙ ranks in
         let off : preempts other ≡ preempt = ap preempts instead.current ∙ is in
         λ i. first_of (instead.free.allowed i) (instead.free.unheld i) (instead.free.settled i) (ranked i) (off i) (instead.current i) (level i)
 
     alone : (by : Obstacle) → IsHindered table task core by → found core ≡ by
-    alone Masked is = λ i. first_of (is i) table.hold (is_due table.control core) (nat_le own (in_use table other)) (preempts other) other (in_use table other)
+    alone Masked is = λ i. first_of (is i) table.hold (is_due table.control core) (nat_le own (rank other)) (preempts other) other (in_use table other)
     alone (Held holder) is =
-        (λ i. first_of (is.0 i) (is.1.held i) (is_due table.control core) (nat_le own (in_use table other)) (preempts other) other (in_use table other))
+        (λ i. first_of (is.0 i) (is.1.held i) (is_due table.control core) (nat_le own (rank other)) (preempts other) other (in_use table other))
         ∙ ap Held is.1.by_core
-    alone Due is = λ i. first_of (is.0 i) (is.1 i) (is.2 i) (nat_le own (in_use table other)) (preempts other) other (in_use table other)
+    alone Due is = λ i. first_of (is.0 i) (is.1 i) (is.2 i) (nat_le own (rank other)) (preempts other) other (in_use table other)
     alone (Unpreempted rival priority) is = runs_found false false is.0 (grind (arith, nat_tests, is.1)) is.2
     alone (Outranked rival priority) is = runs_found true (preempts rival) is.0 (grind (arith, nat_tests, is.1)) refl
-    alone (Lower rival priority) is = runs_found false true is.0 (grind (arith, nat_tests, is.1)) is.2
+    alone (Lower rival priority) is =
+        let tests = both_true (not (is_due table.control core) && preempts other) (nat_lt (rank other) own) is.1 in
+        let preempt : preempts other ≡ true = (both_true (not (is_due table.control core)) (preempts other) tests.0).1 in
+        let ranks : nat_le own (rank other) ≡ false = grind (arith, nat_tests, tests.1) in
+        runs_found false true is.0 (ap (λ n. nat_le own (rank n)) (sym is.0.current) ∙ ranks) (ap preempts (sym is.0.current) ∙ preempt)
 
     -- ---- once no core is due
     tasks : IsSettled table → is_allowed table.control core task ≡ true → IsTask (found core)
     tasks settled allowed =
-        subst IsTask (sym (λ i. first_of (allowed i) (settled.unheld i) (settled.settled core few i) (nat_le own (in_use table other)) (preempts other) other
+        subst IsTask (sym (λ i. first_of (allowed i) (settled.unheld i) (settled.settled core few i) (nat_le own (rank other)) (preempts other) other
         (in_use table other)))
-        (by (nat_le own (in_use table other)) (preempts other))
+        (by (nat_le own (rank other)) (preempts other))
       where
         by : (higher preempt : Bool) → IsTask (first_of true None false higher preempt other (in_use table other))
         by true preempt = tt
         by false true = tt
         by false false = tt
+
+    lower_so : IsSettled table → is_lower (found core) ≡ (is_allowed table.control core task && nat_lt (rank other) own)
+    lower_so settled =
+        (λ i. is_lower (first_of (is_allowed table.control core task) (settled.unheld i) (settled.settled core few i) (nat_le own (rank other)) (preempts other)
+        other (in_use table other)))
+        ∙ lower_first (is_allowed table.control core task) (nat_le own (rank other)) (preempts other) other (in_use table other)
+        ∙ ap (λ b. is_allowed table.control core task && b) (sym (not_at_most (rank other) own))
+
+  -- a lower task is among them where a tick counts an inverted wait
+  inverted_so : IsSettled table → list_any (λ (hindrance : Hindrance). is_lower hindrance.by) (hindrances_of table task) ≡ outranks_some table.control task
+  inverted_so settled =
+      let lowers : ℕ → Bool = λ core. is_allowed table.control core task && nat_lt (rank (current table.control core)) own in
+      ap (list_any (λ (hindrance : Hindrance). is_lower hindrance.by)) all_printed
+      ∙ list_any-map (λ (hindrance : Hindrance). is_lower hindrance.by) (hindrance_of table task) (numbers table.settings.cores)
+      ∙ sym (list_any-map (λ b. b) (λ core. is_lower (found core)) (numbers table.settings.cores))
+      ∙ ap (list_any (λ b. b)) (numbers_so (λ core. is_lower (found core)) lowers table.settings.cores table.settings.cores refl
+      (λ core few. lower_so core few settled))
+      ∙ list_any-map (λ b. b) lowers (numbers table.settings.cores)
+      ∙ ap (λ n. list_any lowers (numbers n)) (sym sound.consistent.sized.cores)
 
   -- what holds of the hindrance at each core holds of each
   each_decided : (P : Hindrance → Type 0) → ((core : ℕ) → core < table.settings.cores → P (hindrance_of table task core)) → All P (hindrances_of table task)
@@ -187,6 +238,7 @@ module _ (table : Table) (task : ℕ) (sound : IsSound table) (ready : stance_of
     alone = is_decided;
     tasks = λ settled. each_decided (λ hindrance. is_allowed table.control hindrance.core task ≡ true → IsTask hindrance.by)
         (λ core few. tasks core few settled);
+    inverted = inverted_so;
   }
 
 pub hindrances_are_so : HindrancesAreSo

@@ -1,6 +1,6 @@
 -- What a picture shows is what the replay has.
 use Rattle.std.proofs.Common.{◌≡◌, ℕ, zero, suc, ◌+◌, ◌<◌, List, [], ◌∷◌, ◌++◌, filter, length, map, Bool, refl, subst, sym, ap, ◌∙◌, add-one, arith}
-use Rattle.std.specs.Prelude.{All, Decides, is_some, nat_eq, if◌then◌else◌}
+use Rattle.std.specs.Prelude.{All, Decides, is_some, nat_eq, slice_index_or, if◌then◌else◌}
 use Rattle.std.specs.List.{list_any}
 use Rattle.bench_types.specs.declared.header.Header.{Header}
 use Rattle.bench_types.specs.declared.kernel_data.CoreLook.{CoreLook}
@@ -22,7 +22,12 @@ use Rattle.run_views.specs.Changes.{are_same_numbers}
 use Rattle.run_views.specs.Looks.{look_of}
 use Rattle.run_pictures.specs.RunLooks.{looks_of, shown_places}
 use Rattle.run_pictures.specs.MutexLines.{taken_mutexes}
-use Rattle.run_pictures.specs.Poses.{pose_in, pose_of, pose_stretches}
+use Rattle.run_pictures.specs.declared.pose.Detail.TheVariants.{FirstPlace}
+use Rattle.run_pictures.specs.declared.pose.Pose.{Pose}
+use Rattle.run_pictures.specs.declared.stance.Stance.{Stance}
+use Rattle.run_pictures.specs.declared.stretch.Stretch.{Stretch}
+use Rattle.run_pictures.specs.Hindrances.{hindrances_in, hindrances_of}
+use Rattle.run_pictures.specs.Poses.{detailed_stretches, openings, pose_in, pose_of, pose_stretches}
 use Rattle.run_pictures.specs.Preemption.{preempt_in, preempt_stretches}
 use Rattle.run_pictures.specs.Same.{are_same_dues, are_same_poses, are_same_priorities, are_same_stances, are_same_terms}
 use Rattle.run_pictures.specs.StretchValues.{dues_decided, flags_decided, holders_decided, holds_decided, numbers_decided, poses_decided, priorities_decided}
@@ -33,10 +38,11 @@ use Rattle.run_pictures.specs.Stances.{stance_in, stance_of}
 use Rattle.run_pictures.specs.StretchesOf.{stretches_of, Tiles}
 use Rattle.run_pictures.specs.TaskNames.{terms_in, terms_stretches}
 use Rattle.run_pictures.specs.Theorem.{currents_of, due_at, dues_of, holders_of, holds_of, poses_of, preempts_of, priorities_at, priorities_of, stances_of}
-use Rattle.run_pictures.specs.Theorem.{taken_of, terms_at, terms_of, ticks_of, IsTiled}
+use Rattle.run_pictures.specs.Theorem.{taken_of, terms_at, terms_of, ticks_of, AreOpened, IsTiled}
 use Rattle.run_views.proofs.States.{filter_more}
 use Rattle.run_pictures.proofs.Seen.{core_seen, hold_seen, holder_seen, kept_settings, pose_seen, preempt_seen, priorities_seen, sound_state, stance_seen}
 use Rattle.run_pictures.proofs.Seen.{terms_seen, tick_seen}
+use Rattle.run_pictures.proofs.Opened.{all_told, look_there, stances_opened}
 use Rattle.run_pictures.proofs.Tiling.{tiled}
 use Rattle.run_pictures.proofs.Waiting.{decided_last}
 
@@ -117,6 +123,25 @@ module _ (places : Places) (header : Header) (steps : List Step) (is : IsChecked
       seen_tiled are_same_poses poses_decided (pose_in task) (λ table. pose_of table task)
       (λ place. pose_seen (state_at header steps place) (sound_state header steps place is checked) task (task_within place task few))
 
+  -- the stretches that are told of their first place alone
+  opened_so : (task : ℕ) → task < header.config.cores + length header.tasks → AreOpened places header steps task
+      (detailed_stretches FirstPlace places.from (looks_of places header steps) task)
+  unfolding stance_stretches
+  opened_so task few =
+      let looks = looks_of places header steps in
+      let there : ℕ → Look = λ place. look_of (state_at header steps place) in
+      let stretches = openings places.from looks task (stretches_of are_same_stances places.from (map (stance_in task) looks)) in
+      let same : (place : ℕ) → hindrances_in task (there place) ≡ hindrances_of (state_at header steps place) task =
+      λ place. ap (λ (pose : Pose). pose.hindrances) (pose_seen (state_at header steps place) (sound_state header steps place is checked) task
+      (task_within place task few)) in
+      record {
+        stances = subst (λ (drawn : List (Stretch Stance)). Tiles places.from (stances_of places header steps task) drawn)
+            (sym (stances_opened places.from looks task (stretches_of are_same_stances places.from (map (stance_in task) looks))))
+            (task_tiled task few);
+        first = λ k d within. all_told places.from looks task there (look_there places header steps) are_same_stances (stance_in task) k d within
+            ∙ same (slice_index_or stretches k d).first;
+      }
+
   priorities_tiled : (task : ℕ) → task < header.config.cores + length header.tasks → Tiles places.from (priorities_of places header steps task)
       (priority_stretches places.from (looks_of places header steps) task)
   unfolding priority_stretches
@@ -163,6 +188,7 @@ module _ (places : Places) (header : Header) (steps : List Step) (is : IsChecked
     cores = core_tiled;
     tasks = task_tiled;
     poses = pose_tiled;
+    opened = opened_so;
     priorities = priorities_tiled;
     terms = terms_tiled;
     preempts = preempts_tiled;

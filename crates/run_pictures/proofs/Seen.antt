@@ -1,5 +1,5 @@
 -- What is seen in the look of a state is what the state has.
-use Rattle.std.proofs.Common.{◌≡◌, ℕ, ◌<◌, List, length, map, take, Bool, true, false, Option, refl, subst, sym, ap, ◌∙◌, zero-add, arith, nat_lt, ◌||◌}
+use Rattle.std.proofs.Common.{◌≡◌, ℕ, suc, ◌<◌, List, length, map, take, Bool, true, false, Option, refl, subst, sym, ap, ◌∙◌, zero-add, arith, nat_lt, ◌||◌}
 use Rattle.std.specs.Prelude.{All, if◌then◌else◌}
 use Rattle.std.proofs.lemmas.List.FromFn.{get_or-map-range_with_len}
 use Rattle.std.proofs.lemmas.List.Elements.{All-take}
@@ -10,6 +10,7 @@ use Rattle.bench_types.specs.Step.{settings_of, IsCheckedStep}
 use Rattle.list_orders.specs.Search.{numbers}
 use Rattle.bench_model.specs.Control.{core_at, current, task_at}
 use Rattle.bench_model.specs.Looks.{task_look}
+use Rattle.bench_model.specs.Seek.{effective}
 use Rattle.bench_model.specs.Session.{state_at}
 use Rattle.bench_model.specs.Sound.{IsSound}
 use Rattle.bench_model.specs.Start.{start}
@@ -22,7 +23,7 @@ use Rattle.run_views.specs.declared.look.Standing.TheVariants as standing
 use Rattle.run_views.specs.declared.look.TaskStatus.{TaskStatus}
 use Rattle.run_views.specs.Looks.{look_of, status_of}
 use Rattle.run_pictures.specs.declared.stance.Stance.TheVariants.{Blocked}
-use Rattle.run_pictures.specs.Hindrances.{has_core, hindrance_in, hindrance_of, obstacle_at, rival_in, rival_of, site_in, site_of, where_ready}
+use Rattle.run_pictures.specs.Hindrances.{effective_in, has_core, hindrance_in, hindrance_of, obstacle_at, rival_in, rival_of, site_in, site_of, where_ready}
 use Rattle.run_pictures.specs.Poses.{pose_in, pose_of}
 use Rattle.run_pictures.specs.Preemption.{preempt_in}
 use Rattle.run_pictures.specs.TaskStretches.{core_in, holder_in, priorities_in, tick_in}
@@ -99,16 +100,28 @@ stance_seen table task few =
 
 -- ---- what is in the way of a task
 
-rival_seen : (table : Table) (task : ℕ) → task < table.settings.tasks → rival_in task (look_of table) ≡ rival_of table task
-unfolding task_look
-rival_seen table task few = λ i. record { task = task; priority = (status_seen table task few i).in_use; preempt = (status_seen table task few i).preempt }
-
-cores_seen : (table : Table) → length (look_of table).cores ≡ table.settings.cores
+pub cores_seen : (table : Table) → length (look_of table).cores ≡ table.settings.cores
 unfolding look_of
 cores_seen table = length_each (core_at table.control) table.settings.cores
 
 -- of a sound state
 module _ (table : Table) (sound : IsSound table) where
+  cores_all : length (look_of table).cores ≡ length table.control.cores
+  cores_all = cores_seen table ∙ sym sound.consistent.sized.cores
+
+  effective_seen : (task : ℕ) → task < table.settings.tasks → effective_in task (look_of table) ≡ effective table.control task
+  unfolding task_look
+  effective_seen task few = λ i. if nat_lt task (cores_all i) then 0 else suc (status_seen table task few i).in_use
+
+  rival_seen : (task : ℕ) → task < table.settings.tasks → rival_in task (look_of table) ≡ rival_of table task
+  unfolding task_look
+  rival_seen task few = λ i. record {
+    task = task;
+    priority = (status_seen table task few i).in_use;
+    effective = effective_seen task few i;
+    preempt = (status_seen table task few i).preempt;
+  }
+
   -- the task that the core runs
   rival_at : (core : ℕ) → core < table.settings.cores → rival_in (core_in core (look_of table)).current (look_of table) ≡ rival_of table
       (current table.control core)
@@ -116,14 +129,13 @@ module _ (table : Table) (sound : IsSound table) where
       let sized = sound.consistent.sized in
       let task = sound.consistent.in_place.is_task core (omega (arith, few, sized.cores)) in
       ap (λ look. rival_in look.current (look_of table)) (core_seen table core few)
-      ∙ rival_seen table (current table.control core) (omega (arith, task, sized.rows))
+      ∙ rival_seen (current table.control core) (omega (arith, task, sized.rows))
 
   site_seen : (task core : ℕ) → task < table.settings.tasks → core < table.settings.cores → site_in task (look_of table) core ≡ site_of table task core
   unfolding task_look
   site_seen task core few within =
-      let cores : length (look_of table).cores ≡ length table.control.cores = cores_seen table ∙ sym sound.consistent.sized.cores in
       λ i. record {
-        allowed = nat_lt task (cores i) || has_core (status_seen table task few i).mask core;
+        allowed = nat_lt task (cores_all i) || has_core (status_seen table task few i).mask core;
         due = (core_seen table core within i).pend || (core_seen table core within i).asked;
         rival = rival_at core within i;
       }
@@ -132,7 +144,7 @@ module _ (table : Table) (sound : IsSound table) where
       task core
   unfolding task_look
   hindrance_seen task core few within =
-      λ i. record { core = core; by = obstacle_at (status_seen table task few i).in_use (hold_seen table i) (site_seen task core few within i) }
+      λ i. record { core = core; by = obstacle_at (effective_seen task few i) (hold_seen table i) (site_seen task core few within i) }
 
   pub pose_seen : (task : ℕ) → task < table.settings.tasks → pose_in task (look_of table) ≡ pose_of table task
   pose_seen task few =

@@ -27,7 +27,7 @@ entered_by : (task : ℕ) (table : Table) (step : Option Step) → option_and_th
 entered_by task table None = refl
 entered_by task table (Some step) = refl
 
-entered_at : (header : Header) (steps : List Step) (task place : ℕ) → wait_at task (made_from (start header) steps) place ≡ wait_made header steps task place
+pub entered_at : (header : Header) (steps : List Step) (task place : ℕ) → wait_at task (made_from (start header) steps) place ≡ wait_made header steps task place
 unfolding state_at
 entered_at header steps task place =
     ap (option_and_then (wait_entered task)) (made_at (start header) steps place)

@@ -1,5 +1,6 @@
 -- What a ready task is told to be hindered by is so, and all that is.
-use Rattle.std.specs.Prelude.{◌≡◌, ◌≢◌, ◌<◌, ◌≤◌, ℕ, ◌+◌, List, length, map, All, Contains, true, false, Some, None}
+use Rattle.std.specs.Prelude.{◌≡◌, ◌≢◌, ◌<◌, ◌≤◌, ℕ, ◌+◌, List, length, map, All, Bool, Contains, true, false, Some, None}
+use Rattle.std.specs.List.{list_any}
 use Rattle.bench_types.specs.declared.header.Header.{Header}
 use Rattle.bench_types.specs.declared.kernel_data.Hold.{Hold}
 use Rattle.bench_types.specs.declared.step.Step.{Step}
@@ -7,8 +8,10 @@ use Rattle.bench_types.specs.Header.{IsCheckedHeader}
 use Rattle.bench_types.specs.Step.{settings_of, IsCheckedStep}
 use Rattle.list_orders.specs.Search.{numbers}
 use Rattle.bench_model.specs.Control.{current, is_allowed, is_due, task_at}
+use Rattle.bench_model.specs.Seek.{effective, is_preemptible_by}
 use Rattle.bench_model.specs.Session.{state_at}
 use Rattle.bench_model.specs.Table.{Table, is_ready}
+use Rattle.bench_model.specs.Tally.{outranks_some}
 use Rattle.run_pictures.specs.declared.hindrance.Hindrance.{Hindrance}
 use Rattle.run_pictures.specs.declared.hindrance.Obstacle.{Obstacle}
 use Rattle.run_pictures.specs.declared.hindrance.Obstacle.TheVariants.{Masked, Held, Due, Unpreempted, Outranked, Lower}
@@ -31,6 +34,10 @@ pub record IsFree (table : Table) (task core : ℕ) : Type 0 where
   pub unheld : table.hold ≡ None
   pub settled : is_due table.control core ≡ false
 
+-- the task stands below the other one, as the kernel compares them
+abbrev pub StandsBelow : Table → ℕ → ℕ → Type 0
+StandsBelow table task other = effective table.control task < effective table.control other
+
 -- in place of the task the core runs a ready one, which has the priority in use
 pub record RunsInstead (table : Table) (task core other priority : ℕ) : Type 0 where
   pub free : IsFree table task core
@@ -39,7 +46,8 @@ pub record RunsInstead (table : Table) (task core other priority : ℕ) : Type 0
   pub ready : is_ready other table.orders ≡ true
   pub level : in_use table other ≡ priority
 
--- the core is kept from the task by that obstacle
+-- The core is kept from the task by that obstacle. A core that was not asked gives way to the task
+-- by the kernel's own rule.
 abbrev pub IsHindered : Table → ℕ → ℕ → Obstacle → Type 0
 IsHindered table task core Masked = is_allowed table.control core task ≡ false
 IsHindered table task core (Held holder) =
@@ -48,13 +56,14 @@ IsHindered table task core Due =
     (is_allowed table.control core task ≡ true) × (table.hold ≡ None)
     × (is_due table.control core ≡ true)
 IsHindered table task core (Unpreempted other priority) =
-    RunsInstead table task core other priority × (priority < in_use table task)
+    RunsInstead table task core other priority × StandsBelow table other task
     × ((task_at table.control other).preempt ≡ false)
 IsHindered table task core (Outranked other priority) =
-    RunsInstead table task core other priority × (in_use table task ≤ priority)
+    RunsInstead table task core other priority
+    × (effective table.control task ≤ effective table.control other)
 IsHindered table task core (Lower other priority) =
-    RunsInstead table task core other priority × (priority < in_use table task)
-    × ((task_at table.control other).preempt ≡ true)
+    RunsInstead table task core other priority
+    × (is_preemptible_by table.control task core ≡ true)
 
 -- a task that runs is the obstacle
 abbrev pub IsTask : Obstacle → Type 0
@@ -62,6 +71,12 @@ IsTask (Unpreempted other priority) = Unit {0}
 IsTask (Outranked other priority) = Unit {0}
 IsTask (Lower other priority) = Unit {0}
 IsTask obstacle = ⊥
+
+-- a task that stands lower is the obstacle
+abbrev pub is_lower : Obstacle → Bool
+is_lower (Unpreempted other priority) = true
+is_lower (Lower other priority) = true
+is_lower obstacle = false
 
 -- no core holds the kernel, and none is due
 pub record IsSettled (table : Table) : Type 0 where
@@ -82,6 +97,9 @@ pub record AreHindrances (table : Table) (task : ℕ) (hindrances : List Hindran
   -- once no core is due, tasks run on all cores that its mask has
   pub tasks : IsSettled table → All (λ hindrance.
       is_allowed table.control hindrance.core task ≡ true → IsTask hindrance.by) hindrances
+  -- and a lower task is among them just where a tick counts an inverted wait
+  pub inverted : IsSettled table
+      → list_any (λ hindrance. is_lower hindrance.by) hindrances ≡ outranks_some table.control task
 
 -- at each place of a session
 abbrev pub HindrancesAreSo : Type 0

@@ -1,5 +1,9 @@
 pub mod Axis
 pub mod Bar
+pub mod BarLaws
+pub mod BarTexts
+pub mod Bars
+pub mod ColumnLaws
 pub mod CoreBands
 pub mod Drawn
 pub mod Escape
@@ -9,6 +13,7 @@ pub mod HindranceLaws
 pub mod HindranceWords
 pub mod Hindrances
 pub mod Ink
+pub mod LegendLaws
 pub mod Limits
 pub mod Marks
 pub mod MutexLines
@@ -27,4 +32,5 @@ pub mod TaskBands
 pub mod TaskNames
 pub mod Theorem
 pub mod TickColumns
+pub mod WaitLaws
 pub mod Waits

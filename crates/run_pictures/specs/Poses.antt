@@ -32,6 +32,9 @@ pose_of table task =
 unfoldable pub pose_stretches : ℕ → List Look → ℕ → List (Stretch Pose)
 pose_stretches first looks task = stretches_of are_same_poses first (map (pose_in task) looks)
 
+abbrev pub stance_of_pose : Pose → Stance
+stance_of_pose pose = pose.stance
+
 -- a stretch of how the task stands, with what is in its way at the first place of it
 abbrev pub opening : ℕ → List Look → ℕ → Stretch Stance → Stretch Pose
 opening first looks task stretch = record {

@@ -1,5 +1,5 @@
 -- What a picture shows is what the replay has.
-use Rattle.std.specs.Prelude.{◌≡◌, ℕ, ◌+◌, ◌<◌, List, filter, length, map, Bool, Option, is_some}
+use Rattle.std.specs.Prelude.{◌≡◌, ℕ, ◌+◌, ◌<◌, List, All, filter, length, map, Bool, Option, is_some}
 use Rattle.std.specs.List.{list_any}
 use Rattle.list_orders.specs.Search.{numbers}
 use Rattle.bench_types.specs.declared.header.Header.{Header}
@@ -10,19 +10,22 @@ use Rattle.bench_model.specs.Session.{state_at}
 use Rattle.bench_model.specs.State.{holder_at}
 use Rattle.bench_model.specs.Table.{Table, tick_count}
 use Rattle.run_views.specs.declared.places.Places.{Places}
+use Rattle.run_pictures.specs.declared.pose.Detail.TheVariants.{FirstPlace}
 use Rattle.run_pictures.specs.declared.pose.Pose.{Pose}
 use Rattle.run_pictures.specs.declared.shown.Due.{Due}
 use Rattle.run_pictures.specs.declared.shown.Priorities.{Priorities}
 use Rattle.run_pictures.specs.declared.stance.Stance.{Stance}
+use Rattle.run_pictures.specs.declared.stretch.Stretch.{Stretch}
 use Rattle.run_pictures.specs.declared.task_names.Terms.{Terms}
+use Rattle.run_pictures.specs.Hindrances.{hindrances_of}
 use Rattle.run_pictures.specs.RunLooks.{run_looks, looks_of, shown_places}
 use Rattle.run_pictures.specs.MutexLines.{taken_mutexes}
-use Rattle.run_pictures.specs.Poses.{pose_of, pose_stretches}
+use Rattle.run_pictures.specs.Poses.{detailed_stretches, pose_of, pose_stretches, stance_of_pose}
 use Rattle.run_pictures.specs.Preemption.{preempt_stretches}
 use Rattle.run_pictures.specs.TaskStretches.{current_stretches, due_stretches, hold_stretches, holder_stretches, own_hold, priority_stretches, stance_stretches}
 use Rattle.run_pictures.specs.TaskStretches.{tick_stretches}
 use Rattle.run_pictures.specs.Stances.{stance_of}
-use Rattle.run_pictures.specs.StretchesOf.{Tiles}
+use Rattle.run_pictures.specs.StretchesOf.{with_value, Tiles}
 use Rattle.run_pictures.specs.TaskNames.{terms_stretches}
 use Rattle.run_pictures.specs.Waits.{last_wait, wait_made, IsLast}
 
@@ -102,6 +105,15 @@ taken_of places header steps =
     filter (λ mutex. list_any is_some (holders_of places header steps mutex))
     (numbers header.config.mutexes)
 
+-- Of stretches that tell what is in the way at their first place alone: how the task stands there
+-- tiles the places, and what each tells is in the way at its first place in the replay.
+pub record AreOpened (places : Places) (header : Header) (steps : List Step) (task : ℕ)
+    (stretches : List (Stretch Pose)) : Type 0 where
+  pub stances : Tiles places.from (stances_of places header steps task)
+      (map (with_value stance_of_pose) stretches)
+  pub first : All (λ stretch. stretch.value.hindrances
+      ≡ hindrances_of (state_at header steps stretch.first) task) stretches
+
 -- the stretches that are drawn tile what the replay has at the places that are shown, a mutex has a
 -- row where a task holds it at one of these, and a task is told to wait for what it began to wait
 -- for last in the replay
@@ -115,6 +127,9 @@ pub record IsTiled (places : Places) (header : Header) (steps : List Step) : Typ
   pub poses : (task : ℕ) → task < header.config.cores + length header.tasks
       → Tiles places.from (poses_of places header steps task)
       (pose_stretches places.from (looks_of places header steps) task)
+  pub opened : (task : ℕ) → task < header.config.cores + length header.tasks
+      → AreOpened places header steps task
+      (detailed_stretches FirstPlace places.from (looks_of places header steps) task)
   pub priorities : (task : ℕ) → task < header.config.cores + length header.tasks
       → Tiles places.from (priorities_of places header steps task)
       (priority_stretches places.from (looks_of places header steps) task)

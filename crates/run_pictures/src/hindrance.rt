@@ -1,7 +1,7 @@
 //! What is in the way of a ready task that is on no core.
 ghost use Rattle.std.specs.Prelude.{◌≡◌, IfOk, length, map};
 ghost use Rattle.list_orders.specs.Search.{numbers};
-ghost use Rattle.run_pictures.specs.Hindrances.{has_core, hindrance_in, hindrances_in, obstacle_at, obstacle_by, rival_in, site_in};
+ghost use Rattle.run_pictures.specs.Hindrances.{effective_in, has_core, hindrance_in, hindrances_in, is_idle_in, obstacle_at, obstacle_by, rival_in, site_in};
 ghost use Rattle.run_pictures.specs.Same.{are_same_hindrances, are_same_obstacles};
 ghost use Rattle.bench_model.specs.SameTest.{are_same_lists};
 
@@ -20,11 +20,12 @@ pub enum Obstacle {
     Held { holder: u32 },
     /// The core is due, and has not switched yet.
     Due,
-    /// A task that has a lower priority in use runs there, and its preemption is off.
+    /// A task of lower effective priority runs there, and its preemption is off. What is told of it
+    /// here and below is its priority in use.
     Unpreempted { task: u32, priority: u32 },
-    /// A task runs there whose priority in use is not lower.
+    /// A task runs there whose effective priority is not lower.
     Outranked { task: u32, priority: u32 },
-    /// A task that has a lower priority in use runs there, and the core was not asked to switch.
+    /// A task of lower effective priority runs there, and the core was not asked to switch.
     Lower { task: u32, priority: u32 },
 }
 
@@ -41,6 +42,8 @@ pub(crate) struct Rival {
     pub(crate) task: u32,
     /// Its priority in use.
     pub(crate) priority: u32,
+    /// Its effective priority.
+    pub(crate) effective: u64,
     /// Whether its preemption is on.
     pub(crate) preempt: bool,
 }
@@ -62,6 +65,23 @@ pub(crate) fn has_core(mask: u32, core: usize) -> bool
     core < 32 && (mask >> core) & 1 == 1
 }
 
+fn is_idle_in(look: &Look, task: u32) -> bool
+    ensures { result ≡ is_idle_in task look.now }
+{
+    (task as usize) < look.cores.as_slice().len()
+}
+
+// The effective priority of the task: an idle task has 0, and the priorities in use count from 1.
+fn effective_in(look: &Look, task: u32) -> u64
+    ensures { result ≡ effective_in task look.now }
+{
+    if is_idle_in(look, task) {
+        0
+    } else {
+        u64::from(status_in(look, task).in_use) + 1
+    }
+}
+
 fn rival_in(look: &Look, task: u32) -> Rival
     ensures { result ≡ rival_in task look.now }
 {
@@ -69,6 +89,7 @@ fn rival_in(look: &Look, task: u32) -> Rival
     Rival {
         task,
         priority: status.in_use,
+        effective: effective_in(look, task),
         preempt: status.preempt,
     }
 }
@@ -77,43 +98,29 @@ fn site_in(look: &Look, task: u32, core: usize) -> Site
     ensures { result ≡ site_in task look.now core }
 {
     let seen = core_in(look, core);
-    let is_idle = (task as usize) < look.cores.as_slice().len();
     Site {
-        allowed: is_idle || has_core(status_in(look, task).mask, core),
+        allowed: is_idle_in(look, task) || has_core(status_in(look, task).mask, core),
         due: seen.pend || seen.asked,
         rival: rival_in(look, seen.current),
     }
 }
 
-// The task that runs instead of one of the priority.
-fn obstacle_by(priority: u32, rival: Rival) -> Obstacle
-    ensures { result ≡ obstacle_by priority rival }
+// The task that runs instead of one of the effective priority.
+fn obstacle_by(own: u64, rival: Rival) -> Obstacle
+    ensures { result ≡ obstacle_by own rival }
 {
-    let Rival {
-        task,
-        priority: other,
-        preempt,
-    } = rival;
-    if priority <= other {
-        Obstacle::Outranked {
-            task,
-            priority: other,
-        }
-    } else if preempt {
-        Obstacle::Lower {
-            task,
-            priority: other,
-        }
+    let Rival { task, priority, .. } = rival;
+    if own <= rival.effective {
+        Obstacle::Outranked { task, priority }
+    } else if rival.preempt {
+        Obstacle::Lower { task, priority }
     } else {
-        Obstacle::Unpreempted {
-            task,
-            priority: other,
-        }
+        Obstacle::Unpreempted { task, priority }
     }
 }
 
-fn obstacle_at(priority: u32, hold: Option<Hold>, site: Site) -> Obstacle
-    ensures { result ≡ obstacle_at priority hold site }
+fn obstacle_at(own: u64, hold: Option<Hold>, site: Site) -> Obstacle
+    ensures { result ≡ obstacle_at own hold site }
 {
     if !site.allowed {
         return Obstacle::Masked;
@@ -121,17 +128,17 @@ fn obstacle_at(priority: u32, hold: Option<Hold>, site: Site) -> Obstacle
     match hold {
         Some(hold) => Obstacle::Held { holder: hold.core },
         None if site.due => Obstacle::Due,
-        None => obstacle_by(priority, site.rival),
+        None => obstacle_by(own, site.rival),
     }
 }
 
 fn hindrance_in(look: &Look, task: u32, core: usize) -> Hindrance
     ensures { result ≡ hindrance_in task look.now core }
 {
-    let priority = status_in(look, task).in_use;
+    let own = effective_in(look, task);
     Hindrance {
         core,
-        by: obstacle_at(priority, look.hold, site_in(look, task, core)),
+        by: obstacle_at(own, look.hold, site_in(look, task, core)),
     }
 }
 

@@ -1,8 +1,39 @@
 //! The laws of what a picture shows. Each function does nothing: its contract is the laws.
+ghost use Rattle.run_pictures.specs.BarLaws.{RunIsLaidOut, RunsAreLaidOut};
+ghost use Rattle.run_pictures.specs.BarTexts.{BarsAreDrawn};
+ghost use Rattle.run_pictures.specs.ColumnLaws.{PicturesBeginAtLesser};
 ghost use Rattle.run_pictures.specs.HindranceLaws.{HindrancesAreSo};
+ghost use Rattle.run_pictures.specs.LegendLaws.{LegendIsOfRun, LegendIsOfRuns};
+ghost use Rattle.run_pictures.specs.WaitLaws.{WaitsAreUnfinished};
 
 /// A ready task that is on no core is hindered by something at each core, and is told what: it is
 /// so, and nothing else is.
 pub fn law_of_hindrances()
     ensures { HindrancesAreSo }
+{}
+
+/// A picture of two runs begins at the lesser of the columns at which its first place begins in
+/// them. A run that lacks the place counts by the number of the place.
+pub fn law_of_first_columns()
+    ensures { PicturesBeginAtLesser }
+{}
+
+/// The bars that are told of are those that are drawn. In the picture of a run, and of two runs
+/// whose columns climb, each stands in its row and between the first column and the end of the
+/// last, and no two of one kind in a row stand over one another.
+pub fn law_of_bars()
+    ensures drawn { BarsAreDrawn }
+    ensures one { RunIsLaidOut }
+    ensures both { RunsAreLaidOut }
+{}
+
+/// A sign stands in the legend just where a bar of such an ink, or such a mark, is drawn.
+pub fn law_of_legends()
+    ensures one { LegendIsOfRun }
+    ensures both { LegendIsOfRuns }
+{}
+
+/// What a task is told to wait for is what its unfinished call waits for.
+pub fn law_of_waits()
+    ensures { WaitsAreUnfinished }
 {}

@@ -33,7 +33,9 @@ pub use by_ticks::{TickColumns, tick_columns};
 pub use escape::{law_of_escapes, push_escaped, push_escaped_bytes};
 pub use frame::Axis;
 pub use hindrance::{Hindrance, Obstacle};
-pub use laws::law_of_hindrances;
+pub use laws::{
+    law_of_bars, law_of_first_columns, law_of_hindrances, law_of_legends, law_of_waits,
+};
 pub use picture::{Extent, MAX_PLACES, Run, TooLong, law_of_places, timeline, timelines};
 pub use pose::Pose;
 pub use run_looks::{Made, RunLooks};

@@ -116,9 +116,10 @@ class Browser {
     await rest();
   }
 
-  async key(key) {
-    await this.send('Input.dispatchKeyEvent', { type: 'keyDown', key, code: key });
-    await this.send('Input.dispatchKeyEvent', { type: 'keyUp', key, code: key });
+  async key(key, modifiers = 0) {
+    const pressed = { key, code: key, modifiers };
+    await this.send('Input.dispatchKeyEvent', { type: 'keyDown', ...pressed });
+    await this.send('Input.dispatchKeyEvent', { type: 'keyUp', ...pressed });
     await rest();
   }
 
@@ -183,17 +184,90 @@ function isSeen(id) {
   })()`;
 }
 
-// The middle of the step of that index in the lower run of the picture, brought into view.
+// The steps of the upper and of the lower run of the picture; of one run these are the same.
+const CELLS = `const sheet = document.getElementById('sheet');
+  const steps = [...sheet.querySelectorAll('rect.z')];
+  const inRow = (one) => steps.filter((step) => step.getAttribute('y') === one.getAttribute('y'));
+  const [upper, lower] = [inRow(steps[0]), inRow(steps.at(-1))];`;
+
+// The middle of the step of that index in the lower run, brought into view.
 function cellAt(index) {
   return `(() => {
-    const cells = [...document.querySelectorAll('#sheet rect.z')];
-    const lower = cells.filter((cell) => cell.getAttribute('y') === cells.at(-1).getAttribute('y'));
+    ${CELLS}
     const cell = lower.at(${index});
-    document.getElementById('sheet').scrollIntoView();
+    sheet.scrollIntoView();
     cell.scrollIntoView({ block: 'center', inline: 'center' });
     const { left, right, top, bottom } = cell.getBoundingClientRect();
     return { x: (left + right) / 2, right, y: (top + bottom) / 2, count: lower.length };
   })()`;
+}
+
+// The same column in the row of the upper run, which may have no step there.
+function cellAbove(index) {
+  return `(() => {
+    ${CELLS}
+    sheet.scrollIntoView();
+    upper[0].scrollIntoView({ block: 'center', inline: 'nearest' });
+    const { left, right } = lower.at(${index}).getBoundingClientRect();
+    const { top, bottom } = upper[0].getBoundingClientRect();
+    return { x: (left + right) / 2, y: (top + bottom) / 2, fewer: lower.length - upper.length };
+  })()`;
+}
+
+// Whether the mark covers the column of the place from top to bottom, and is seen.
+function isMarked(place) {
+  return `(() => {
+    ${CELLS}
+    const cell = (lower[${place}] ?? lower.at(-1)).getBoundingClientRect();
+    const from = ${place} < lower.length ? cell.left : cell.right;
+    const mark = document.getElementById('mark').getBoundingClientRect();
+    const whole = sheet.querySelector('svg').getBoundingClientRect();
+    const box = sheet.getBoundingClientRect();
+    const near = (a, b) => Math.abs(a - b) < 3;
+    return near(mark.left, from) && near(mark.width, cell.width) && near(mark.height, whole.height)
+      && mark.left > box.left - 3 && mark.right < box.right + 3;
+  })()`;
+}
+
+// The links that do not lead to an element of this page, and what is loaded from elsewhere.
+const ASTRAY = `[...document.querySelectorAll('[href], [src]')]
+  .map((one) => one.getAttribute('href') ?? one.getAttribute('src'))
+  .filter((to) => !to.startsWith('#') || !document.getElementById(to.slice(1)))`;
+
+// The names of elements that two elements have.
+const NAMED_TWICE = `[...document.querySelectorAll('[id]')].map((one) => one.id)
+  .filter((id, index, ids) => ids.indexOf(id) !== index)`;
+
+// By how many characters the first line of the text that is indented is shown to the right.
+function indentOf(selector) {
+  return `(() => {
+    const text = document.querySelector('${selector}').firstChild;
+    const at = text.data.search(/(?<=^ +)[^ ]/m);
+    const leftOf = (index) => {
+      const range = document.createRange();
+      range.setStart(text, index);
+      range.setEnd(text, index + 1);
+      return range.getBoundingClientRect();
+    };
+    const { left } = text.parentNode.getBoundingClientRect();
+    return Math.round((leftOf(at).left - left) / leftOf(at).width);
+  })()`;
+}
+
+// How far it is indented in the text.
+function indentIn(text) {
+  return /^( +)[^ ]/m.exec(text)[1].length;
+}
+
+// Whether the open place, and the link to it, has a ground that no other has, nor the page.
+function groundsOf(place) {
+  return `['#trace > li', '#places > a'].map((kind) => {
+    const grounds = [...document.querySelectorAll(kind)]
+      .map((one) => getComputedStyle(one).backgroundColor);
+    const [open] = grounds.splice(${place}, 1);
+    const paper = getComputedStyle(document.body).backgroundColor;
+    return open !== paper && grounds.every((ground) => ground === grounds[0] && ground !== open);
+  }).join()`;
 }
 
 async function checkTexts(browser, name, words, file) {
@@ -211,17 +285,28 @@ async function checkTexts(browser, name, words, file) {
   return { last, edits };
 }
 
+// Looks whether the place is the open one, in all that shows it.
+async function checkOpen(browser, name, what, place) {
+  const id = `place-${place}`;
+  const told = `${name}: ${what}`;
+  check(told, (await browser.value(OPEN)).join(), id);
+  check(`${told}, in the address`, await browser.value('location.hash'), `#${id}`);
+  check(`${told}, in view`, await browser.value(isSeen(id)), true);
+  check(`${told}, marked in the picture`, await browser.value(isMarked(place)), true);
+  check(`${told}, on a ground of its own`, await browser.value(groundsOf(place)), 'true,true');
+}
+
+async function follow(browser, place) {
+  await browser.value(`document.querySelector("#places > a[href='#place-${place}']").click()`);
+  await rest();
+}
+
 async function checkSteps(browser, name, last) {
   const place = Math.min(7, last - 1);
   const cell = await browser.value(cellAt(place));
   check(`${name}: a step for each place`, cell.count, last);
   await browser.click(cell.x, cell.y);
-  const open = async (what, place) => {
-    const id = `place-${place}`;
-    check(`${name}: ${what}`, (await browser.value(OPEN)).join(), id);
-    check(`${name}: ${what}, in the address`, await browser.value('location.hash'), `#${id}`);
-    check(`${name}: ${what}, in view`, await browser.value(isSeen(id)), true);
-  };
+  const open = (what, place) => checkOpen(browser, name, what, place);
   await open(`a click on place ${place}`, place);
   await browser.key('ArrowRight');
   await open('the key right', place + 1);
@@ -230,19 +315,52 @@ async function checkSteps(browser, name, last) {
   await open('the key left, twice', Math.max(0, place - 1));
   await browser.click(cell.x, cell.y);
   await open('a click once more', place);
+  for (const [held, modifiers] of [['Alt', 1], ['Ctrl', 2], ['Meta', 4], ['Shift', 8]]) {
+    await browser.key('ArrowRight', modifiers);
+    await open(`${held} and the key right`, place);
+  }
   const end = await browser.value(cellAt(-1));
   await browser.click(end.right + 1, end.y);
   await open('a click behind the last step', last);
   await browser.key('ArrowRight');
   await open('the key right at the last place', last);
-  await browser.value(`document.querySelector("#places > a[href='#place-0']").click()`);
-  await rest();
+  await follow(browser, 0);
   await open('a link', 0);
   await browser.key('ArrowLeft');
   await open('the key left at the first place', 0);
 }
 
-async function checkLooks(browser, name) {
+// Clicks in the upper run open places of the lower one, those too that the upper one has not.
+async function checkUpper(browser, name, last, fewer) {
+  for (const place of new Set([0, Math.max(0, last - 3), last - 1])) {
+    const cell = await browser.value(cellAbove(place));
+    if (fewer) check(`${name}: so many steps fewer in the upper run`, cell.fewer, fewer);
+    await browser.click(cell.x, cell.y);
+    await checkOpen(browser, name, `a click above place ${place}`, place);
+  }
+}
+
+// In a narrow window the picture is moved to the place that is opened.
+async function checkNarrow(browser, name, last) {
+  await browser.look(400, 'light');
+  for (const place of [0, last, 0, Math.ceil(last / 2)]) {
+    await follow(browser, place);
+    await checkOpen(browser, name, `narrow, a link to place ${place}`, place);
+  }
+  await browser.look(1600, 'light');
+}
+
+// Links lead to elements of the page, and texts are shown with their indents.
+async function checkForm(browser, name, words, file) {
+  check(`${name}: links that lead nowhere`, (await browser.value(ASTRAY)).join(), '');
+  check(`${name}: names that stand twice`, (await browser.value(NAMED_TWICE)).join(), '');
+  check(`${name}: the indent of a place`, await browser.value(indentOf('#place-0 > pre')),
+    indentIn(printed(['trace', ...words], file)));
+  check(`${name}: the indent of the report`, await browser.value(indentOf('#report > pre')),
+    indentIn(printed(['report', ...words], file)));
+}
+
+async function checkLooks(browser, name, last) {
   for (const width of [800, 1600]) {
     for (const scheme of ['light', 'dark']) {
       await browser.look(width, scheme);
@@ -250,6 +368,10 @@ async function checkLooks(browser, name) {
       await rest();
       const wide = await browser.value('document.documentElement.scrollWidth');
       check(`${name}: nothing stands out at ${width}, ${scheme}`, wide <= width, true);
+      if (last > 0) {
+        const grounds = await browser.value(groundsOf(0));
+        check(`${name}: the ground of the open place at ${width}, ${scheme}`, grounds, 'true,true');
+      }
       const { data } = await browser.send('Page.captureScreenshot', { format: 'png' });
       const shot = join(shotRoom, `${name}-${width}-${scheme}.png`);
       writeFileSync(shot, Buffer.from(data, 'base64'));
@@ -278,7 +400,7 @@ function checkDump(name, url, place) {
   check(`${name}: the dump has place ${place}`, dump.includes(`<li id="place-${place}"`), true);
 }
 
-async function checkPage(browser, name, words, file) {
+async function checkPage(browser, name, words, file, fewer) {
   const page = join(room, `${name}.html`);
   writeFileSync(page, printed(['page', ...words], file), 'latin1');
   const url = pathToFileURL(page).href;
@@ -288,8 +410,14 @@ async function checkPage(browser, name, words, file) {
   check(`${name}: nothing from elsewhere`, browser.requests().join(), url);
   const { last, edits } = await checkTexts(browser, name, words, file);
   checkDump(name, url, Math.min(7, last));
-  if (last > 0) await checkSteps(browser, name, last);
-  await checkLooks(browser, name);
+  if (last > 0) {
+    await checkForm(browser, name, words, file);
+    await checkSteps(browser, name, last);
+    await checkUpper(browser, name, last, fewer);
+    await checkNarrow(browser, name, last);
+    await follow(browser, 0);
+  }
+  await checkLooks(browser, name, last);
   check(`${name}: no error in the end`, browser.errors().join('; '), '');
   await checkBare(browser, name, url, edits, last);
 }
@@ -304,13 +432,26 @@ function markedUp(file) {
   return copy;
 }
 
+// A document of 120 more steps, whose edits insert two ticks at the end.
+function longer(file) {
+  const copy = join(room, 'two-more-ticks.json');
+  const session = JSON.parse(readFileSync(file, 'utf8'));
+  const tick = { do: 'tick' };
+  session.steps.push(...Array(120).fill(tick));
+  const at = session.steps.length;
+  const edits = [at, at + 1].map((at) => ({ edit: 'insert', at, step: tick }));
+  writeFileSync(copy, JSON.stringify({ session, edits }));
+  return copy;
+}
+
 async function main() {
   const browser = new Browser();
   await browser.start();
   const files = DOCUMENTS.map(([name, words]) => [join(examples, name), words]);
   files.push([markedUp(files[0][0]), []]);
-  for (const [file, words] of files) {
-    await checkPage(browser, basename(file, '.json'), words, file);
+  files.push([longer(join(examples, 'first-run.json')), [], 2]);
+  for (const [file, words, fewer] of files) {
+    await checkPage(browser, basename(file, '.json'), words, file, fewer);
   }
   await browser.end();
 }

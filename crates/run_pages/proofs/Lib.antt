@@ -1,0 +1,2 @@
+pub mod MarksFound
+pub mod PageTexts

@@ -1,76 +1,104 @@
--- The page of a run: its picture, and its texts place by place.
-use Rattle.std.specs.Prelude.{ℕ, suc, List, [], ◌∷◌, ◌++◌, flat_map, codes, decimal, Option, Some, None}
+-- The page of a run, piece by piece: its picture, and its texts place by place.
+use Rattle.std.specs.Prelude.{ℕ, suc, List, [], ◌∷◌, ◌++◌, flat_map, decimal, Option, Some, None}
 use Rattle.run_pictures.specs.Escape.{escaped}
 use Rattle.run_pages.specs.declared.script.TheConstants.{SCRIPT, SCRIPT_HASH}
-use Rattle.run_pages.specs.declared.style.TheConstants.{COMPARISON, COMPARISON_LINK, END, OPENING, PARTS, PICTURE, PLACES, REPORT, SCRIPT_OPENING, STYLE, TITLE}
-use Rattle.run_pages.specs.declared.style.TheConstants.{TRACE, TRACE_END}
+use Rattle.run_pages.specs.declared.style.TheConstants.{BLOCK, BLOCK_END, BLOCK_WORDS, COMPARISON, COMPARISON_LINK, END, LINK, LINK_END, LINK_NAME}
+use Rattle.run_pages.specs.declared.style.TheConstants.{OPENING, PARTS, PICTURE, PLACES, REPORT, SCRIPT_OPENING, SECTION_END, STYLE, TITLE, TRACE, TRACE_END}
 use Rattle.run_pages.specs.Shown.{Shown}
 
+-- a piece of a page
+pub data Piece : Type 0 where
+  -- what is the same in all pages
+  fixed : List ℕ → Piece
+  -- words of the run
+  told : List ℕ → Piece
+  number : ℕ → Piece
+  -- the SVG
+  drawn : List ℕ → Piece
+
+-- how it stands in the page
+abbrev pub piece_text : Piece → List ℕ
+piece_text (fixed text) = text
+piece_text (told words) = flat_map escaped words
+piece_text (number value) = decimal value
+piece_text (drawn picture) = picture
+
+-- how they stand there one after another
+abbrev pub pieces_text : List Piece → List ℕ
+pieces_text pieces = flat_map piece_text pieces
+
 -- the first lines, with the title, and the heading
-unfoldable pub heading_text : List ℕ → List ℕ
-heading_text title =
-    OPENING.now ++ SCRIPT_HASH.now ++ TITLE.now ++ flat_map escaped title
-    ++ STYLE.now ++ flat_map escaped title ++ PARTS.now
+unfoldable pub heading_pieces : List ℕ → List Piece
+heading_pieces title =
+    fixed OPENING.now ∷ fixed SCRIPT_HASH.now ∷ fixed TITLE.now ∷ told title
+    ∷ fixed STYLE.now ∷ told title ∷ fixed PARTS.now ∷ []
 
 -- the comparison as one of the parts, where there is one
-abbrev pub comparison_link : Option (List ℕ) → List ℕ
+abbrev pub comparison_link : Option (List ℕ) → List Piece
 comparison_link None = []
-comparison_link (Some words) = COMPARISON_LINK.now
-
--- the name by which links know a place
-abbrev pub id_text : ℕ → List ℕ
-id_text place = codes "place-" ++ decimal place
+comparison_link (Some words) = fixed COMPARISON_LINK.now ∷ []
 
 -- a link to a place
-unfoldable pub link_text : ℕ → List ℕ
-link_text place =
-    codes "<a href='#" ++ id_text place ++ codes "'>" ++ decimal place ++ codes "</a>\n"
+unfoldable pub link_pieces : ℕ → List Piece
+link_pieces place =
+    fixed LINK.now ∷ number place ∷ fixed LINK_NAME.now ∷ number place
+    ∷ fixed LINK_END.now ∷ []
 
 -- a link to each of the places, the first of which has the number
-abbrev pub links_text : ℕ → List (List ℕ) → List ℕ
-links_text first [] = []
-links_text first (words ∷ rest) = link_text first ++ links_text (suc first) rest
+abbrev pub links_pieces : ℕ → List (List ℕ) → List Piece
+links_pieces first [] = []
+links_pieces first (words ∷ rest) = link_pieces first ++ links_pieces (suc first) rest
 
 -- what the trace tells of a place, between tags that have its number
-unfoldable pub block_text : ℕ → List ℕ → List ℕ
-block_text place words =
-    codes "<li id='" ++ id_text place ++ codes "'><pre>" ++ flat_map escaped words
-    ++ codes "</pre></li>\n"
+unfoldable pub block_pieces : ℕ → List ℕ → List Piece
+block_pieces place words =
+    fixed BLOCK.now ∷ number place ∷ fixed BLOCK_WORDS.now ∷ told words
+    ∷ fixed BLOCK_END.now ∷ []
 
 -- the places, the first of which has the number
-abbrev pub blocks_text : ℕ → List (List ℕ) → List ℕ
-blocks_text first [] = []
-blocks_text first (words ∷ rest) = block_text first words ++ blocks_text (suc first) rest
+abbrev pub blocks_pieces : ℕ → List (List ℕ) → List Piece
+blocks_pieces first [] = []
+blocks_pieces first (words ∷ rest) = block_pieces first words ++ blocks_pieces (suc first) rest
 
 -- a part of the page that is a text
-unfoldable pub section_text : List ℕ → List ℕ → List ℕ
-section_text opening words =
-    opening ++ flat_map escaped words ++ codes "</pre>\n</section>\n"
+unfoldable pub section_pieces : List ℕ → List ℕ → List Piece
+section_pieces opening words =
+    fixed opening ∷ told words ∷ fixed SECTION_END.now ∷ []
 
 -- the comparison, where there is one
-abbrev pub comparison_text : Option (List ℕ) → List ℕ
-comparison_text None = []
-comparison_text (Some words) = section_text COMPARISON.now words
+abbrev pub comparison_pieces : Option (List ℕ) → List Piece
+comparison_pieces None = []
+comparison_pieces (Some words) = section_pieces COMPARISON.now words
 
 -- what stands before the picture
-unfoldable pub opening_text : Shown → List ℕ
-opening_text shown =
-    heading_text shown.title ++ comparison_link shown.comparison ++ PICTURE.now
+unfoldable pub opening_pieces : Shown → List Piece
+opening_pieces shown =
+    heading_pieces shown.title ++ comparison_link shown.comparison ++ fixed PICTURE.now ∷ []
+
+-- the list of places
+abbrev pub list_pieces : ℕ → List (List ℕ) → List Piece
+list_pieces first places = fixed PLACES.now ∷ links_pieces first places
+
+-- what the trace tells, from its opening to its end
+abbrev pub told_pieces : ℕ → List (List ℕ) → List Piece
+told_pieces first places =
+    fixed TRACE.now ∷ blocks_pieces first places ++ fixed TRACE_END.now ∷ []
 
 -- a link to each place, and the trace
-unfoldable pub trace_text : ℕ → List (List ℕ) → List ℕ
-trace_text first places =
-    PLACES.now ++ links_text first places ++ TRACE.now ++ blocks_text first places
-    ++ TRACE_END.now
+unfoldable pub trace_pieces : ℕ → List (List ℕ) → List Piece
+trace_pieces first places = list_pieces first places ++ told_pieces first places
 
 -- the other texts, the script and the end
-unfoldable pub ending_text : Shown → List ℕ
-ending_text shown =
-    comparison_text shown.comparison ++ section_text REPORT.now shown.report
-    ++ SCRIPT_OPENING.now ++ SCRIPT.now ++ END.now
+unfoldable pub ending_pieces : Shown → List Piece
+ending_pieces shown =
+    comparison_pieces shown.comparison ++ section_pieces REPORT.now shown.report
+    ++ fixed SCRIPT_OPENING.now ∷ fixed SCRIPT.now ∷ fixed END.now ∷ []
 
 -- the whole page
+unfoldable pub page_pieces : Shown → List Piece
+page_pieces shown =
+    opening_pieces shown ++ drawn shown.picture ∷ trace_pieces shown.first shown.places
+    ++ ending_pieces shown
+
 unfoldable pub page_text : Shown → List ℕ
-page_text shown =
-    opening_text shown ++ shown.picture ++ trace_text shown.first shown.places
-    ++ ending_text shown
+page_text shown = pieces_text (page_pieces shown)

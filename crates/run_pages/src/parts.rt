@@ -1,11 +1,12 @@
 //! The page of a run.
-ghost use Rattle.std.specs.Prelude.{◌≡◌, ◌++◌, ◌+◌, ◌≤◌, ◌^◌, IfOk, OnOk, length, map, string_bytes};
-ghost use Rattle.run_pages.specs.Page.{block_text, blocks_text, comparison_link, comparison_text, ending_text, heading_text, id_text, link_text, links_text, opening_text, page_text, section_text, trace_text};
+ghost use Rattle.std.specs.Prelude.{◌≡◌, ◌++◌, ◌+◌, ◌≤◌, ◌^◌, IfOk, OnOk, decimal, length, map, string_bytes};
+ghost use Rattle.run_pages.specs.Page.{block_pieces, blocks_pieces, comparison_link, comparison_pieces, ending_pieces, heading_pieces, link_pieces, links_pieces, list_pieces, opening_pieces, page_text, pieces_text, section_pieces, told_pieces, trace_pieces};
 
 use crate::script::{SCRIPT, SCRIPT_HASH};
 use crate::style::{
-    COMPARISON, COMPARISON_LINK, END, OPENING, PARTS, PICTURE, PLACES, REPORT, SCRIPT_OPENING,
-    STYLE, TITLE, TRACE, TRACE_END,
+    BLOCK, BLOCK_END, BLOCK_WORDS, COMPARISON, COMPARISON_LINK, END, LINK, LINK_END, LINK_NAME,
+    OPENING, PARTS, PICTURE, PLACES, REPORT, SCRIPT_OPENING, SECTION_END, STYLE, TITLE, TRACE,
+    TRACE_END,
 };
 use run_pictures::{push_escaped, push_escaped_bytes};
 use std::alloc::{AllocError, Global};
@@ -44,10 +45,10 @@ impl Model for Parts {
 }
 
 // The first lines and the heading.
-#[tactic(auto, unfolding(crate::specs::Page::heading_text))]
+#[tactic(auto, unfolding(crate::specs::Page::heading_pieces))]
 fn push_heading(text: &mut String, title: &str) -> Result<(), AllocError>
     ensures { OnOk result
-        (string_bytes text.new ≡ string_bytes text.old ++ heading_text title.now) }
+        (string_bytes text.new ≡ string_bytes text.old ++ pieces_text (heading_pieces title.now)) }
 {
     text.push_str(OPENING)?;
     text.push_str(SCRIPT_HASH)?;
@@ -58,28 +59,30 @@ fn push_heading(text: &mut String, title: &str) -> Result<(), AllocError>
     text.push_str(PARTS)
 }
 
-// The name by which links know a place.
-fn push_id(text: &mut String, place: u32) -> Result<(), AllocError>
-    ensures { OnOk result (string_bytes text.new ≡ string_bytes text.old ++ id_text place) }
+fn push_number(text: &mut String, number: u32) -> Result<(), AllocError>
+    ensures { OnOk result (string_bytes text.new ≡ string_bytes text.old ++ decimal number) }
 {
-    write!(text, "place-{place}")
+    write!(text, "{number}")
 }
 
-#[tactic(auto, unfolding(crate::specs::Page::link_text))]
+#[tactic(auto, unfolding(crate::specs::Page::link_pieces))]
 fn push_link(text: &mut String, place: u32) -> Result<(), AllocError>
-    ensures { OnOk result (string_bytes text.new ≡ string_bytes text.old ++ link_text place) }
+    ensures { OnOk result
+        (string_bytes text.new ≡ string_bytes text.old ++ pieces_text (link_pieces place)) }
 {
-    text.push_str("<a href='#")?;
-    push_id(text, place)?;
-    write!(text, "'>{place}</a>\n")
+    text.push_str(LINK)?;
+    push_number(text, place)?;
+    text.push_str(LINK_NAME)?;
+    push_number(text, place)?;
+    text.push_str(LINK_END)
 }
 
 // A link to each of the places, the first of which has the number.
 fn push_links(text: &mut String, first: u32, places: &[String]) -> Result<(), AllocError>
     requires { first + length places.now ≤ 2 ^ 32 }
     ensures { OnOk result
-        (string_bytes text.new
-        ≡ string_bytes text.old ++ links_text first (map string_bytes places.now)) }
+        (string_bytes text.new ≡ string_bytes text.old
+        ++ pieces_text (links_pieces first (map string_bytes places.now))) }
 {
     for (k, _) in places.iter().enumerate() {
         push_link(text, first + k as u32)?;
@@ -88,23 +91,24 @@ fn push_links(text: &mut String, first: u32, places: &[String]) -> Result<(), Al
 }
 
 // What the trace tells of a place.
-#[tactic(auto, unfolding(crate::specs::Page::block_text))]
+#[tactic(auto, unfolding(crate::specs::Page::block_pieces))]
 fn push_block(text: &mut String, place: u32, words: &str) -> Result<(), AllocError>
     ensures { OnOk result
-        (string_bytes text.new ≡ string_bytes text.old ++ block_text place words.now) }
+        (string_bytes text.new
+        ≡ string_bytes text.old ++ pieces_text (block_pieces place words.now)) }
 {
-    text.push_str("<li id='")?;
-    push_id(text, place)?;
-    text.push_str("'><pre>")?;
+    text.push_str(BLOCK)?;
+    push_number(text, place)?;
+    text.push_str(BLOCK_WORDS)?;
     push_escaped(text, words)?;
-    text.push_str("</pre></li>\n")
+    text.push_str(BLOCK_END)
 }
 
 fn push_blocks(text: &mut String, first: u32, places: &[String]) -> Result<(), AllocError>
     requires { first + length places.now ≤ 2 ^ 32 }
     ensures { OnOk result
-        (string_bytes text.new
-        ≡ string_bytes text.old ++ blocks_text first (map string_bytes places.now)) }
+        (string_bytes text.new ≡ string_bytes text.old
+        ++ pieces_text (blocks_pieces first (map string_bytes places.now))) }
 {
     for (k, words) in places.iter().enumerate() {
         push_block(text, first + k as u32, words.as_str())?;
@@ -113,22 +117,22 @@ fn push_blocks(text: &mut String, first: u32, places: &[String]) -> Result<(), A
 }
 
 // A part of the page that is a text.
-#[tactic(auto, unfolding(crate::specs::Page::section_text))]
+#[tactic(auto, unfolding(crate::specs::Page::section_pieces))]
 fn push_section(text: &mut String, opening: &str, words: &[u8]) -> Result<(), AllocError>
     ensures { OnOk result
         (string_bytes text.new
-        ≡ string_bytes text.old ++ section_text opening.now words.now) }
+        ≡ string_bytes text.old ++ pieces_text (section_pieces opening.now words.now)) }
 {
     text.push_str(opening)?;
     push_escaped_bytes(text, words)?;
-    text.push_str("</pre>\n</section>\n")
+    text.push_str(SECTION_END)
 }
 
 // The comparison as one of the parts, where there is one.
 fn push_comparison_link(text: &mut String, parts: &Parts) -> Result<(), AllocError>
     ensures { OnOk result
         (string_bytes text.new
-        ≡ string_bytes text.old ++ comparison_link parts.now.comparison) }
+        ≡ string_bytes text.old ++ pieces_text (comparison_link parts.now.comparison)) }
 {
     match &parts.comparison {
         Some(_) => text.push_str(COMPARISON_LINK),
@@ -139,7 +143,7 @@ fn push_comparison_link(text: &mut String, parts: &Parts) -> Result<(), AllocErr
 fn push_comparison(text: &mut String, parts: &Parts) -> Result<(), AllocError>
     ensures { OnOk result
         (string_bytes text.new
-        ≡ string_bytes text.old ++ comparison_text parts.now.comparison) }
+        ≡ string_bytes text.old ++ pieces_text (comparison_pieces parts.now.comparison)) }
 {
     match &parts.comparison {
         Some(words) => push_section(text, COMPARISON, words.as_slice()),
@@ -148,36 +152,55 @@ fn push_comparison(text: &mut String, parts: &Parts) -> Result<(), AllocError>
 }
 
 // What stands before the picture.
-#[tactic(auto, unfolding(crate::specs::Page::opening_text))]
 fn push_opening(text: &mut String, parts: &Parts) -> Result<(), AllocError>
     ensures { OnOk result
-        (string_bytes text.new ≡ string_bytes text.old ++ opening_text parts.now) }
+        (string_bytes text.new
+        ≡ string_bytes text.old ++ pieces_text (opening_pieces parts.now)) }
 {
     push_heading(text, parts.title.as_str())?;
     push_comparison_link(text, parts)?;
     text.push_str(PICTURE)
 }
 
-// A link to each place, and the trace.
-#[tactic(auto, unfolding(crate::specs::Page::trace_text))]
-fn push_trace(text: &mut String, first: u32, places: &[String]) -> Result<(), AllocError>
+// The list of places.
+fn push_list(text: &mut String, first: u32, places: &[String]) -> Result<(), AllocError>
     requires { first + length places.now ≤ 2 ^ 32 }
     ensures { OnOk result
-        (string_bytes text.new
-        ≡ string_bytes text.old ++ trace_text first (map string_bytes places.now)) }
+        (string_bytes text.new ≡ string_bytes text.old
+        ++ pieces_text (list_pieces first (map string_bytes places.now))) }
 {
     text.push_str(PLACES)?;
-    push_links(text, first, places)?;
+    push_links(text, first, places)
+}
+
+// What the trace tells, from its opening to its end.
+fn push_told(text: &mut String, first: u32, places: &[String]) -> Result<(), AllocError>
+    requires { first + length places.now ≤ 2 ^ 32 }
+    ensures { OnOk result
+        (string_bytes text.new ≡ string_bytes text.old
+        ++ pieces_text (told_pieces first (map string_bytes places.now))) }
+{
     text.push_str(TRACE)?;
     push_blocks(text, first, places)?;
     text.push_str(TRACE_END)
 }
 
+// A link to each place, and the trace.
+fn push_trace(text: &mut String, first: u32, places: &[String]) -> Result<(), AllocError>
+    requires { first + length places.now ≤ 2 ^ 32 }
+    ensures { OnOk result
+        (string_bytes text.new ≡ string_bytes text.old
+        ++ pieces_text (trace_pieces first (map string_bytes places.now))) }
+{
+    push_list(text, first, places)?;
+    push_told(text, first, places)
+}
+
 // The other texts, the script and the end.
-#[tactic(auto, unfolding(crate::specs::Page::ending_text))]
 fn push_ending(text: &mut String, parts: &Parts) -> Result<(), AllocError>
     ensures { OnOk result
-        (string_bytes text.new ≡ string_bytes text.old ++ ending_text parts.now) }
+        (string_bytes text.new
+        ≡ string_bytes text.old ++ pieces_text (ending_pieces parts.now)) }
 {
     push_comparison(text, parts)?;
     push_section(text, REPORT, parts.report.as_slice())?;
@@ -190,9 +213,9 @@ fn push_ending(text: &mut String, parts: &Parts) -> Result<(), AllocError>
 fn push_rest(text: &mut String, parts: &Parts) -> Result<(), AllocError>
     requires { parts.now.first + length parts.now.places ≤ 2 ^ 32 }
     ensures { OnOk result
-        (string_bytes text.new
-        ≡ string_bytes text.old ++ trace_text parts.now.first parts.now.places
-        ++ ending_text parts.now) }
+        (string_bytes text.new ≡ string_bytes text.old
+        ++ pieces_text (trace_pieces parts.now.first parts.now.places)
+        ++ pieces_text (ending_pieces parts.now)) }
 {
     push_trace(text, parts.first, parts.places.as_slice())?;
     push_ending(text, parts)
@@ -200,7 +223,6 @@ fn push_rest(text: &mut String, parts: &Parts) -> Result<(), AllocError>
 
 /// A page of these parts, which needs nothing from elsewhere. Its places have the numbers from the
 /// first on.
-#[tactic(auto, unfolding(crate::specs::Page::page_text))]
 pub fn page(alloc: Global, parts: &Parts) -> Result<Vec<u8>, AllocError>
     requires { parts.now.first + length parts.now.places ≤ 2 ^ 32 }
     ensures { IfOk result (λ text. text.items ≡ page_text parts.now) }

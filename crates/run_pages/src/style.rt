@@ -74,9 +74,25 @@ pub(crate) const PLACES: &str = "</div>
 <nav id='places' aria-label='Places'>
 ";
 
+/// Before the number of the place that a link leads to, before that which is read, and behind it.
+pub(crate) const LINK: &str = "<a href='#place-";
+
+pub(crate) const LINK_NAME: &str = "'>";
+
+pub(crate) const LINK_END: &str = "</a>
+";
+
 /// That list ends, and the trace opens.
 pub(crate) const TRACE: &str = "</nav>
 <ol id='trace'>
+";
+
+/// Before the number of a place of the trace, before its words, and behind them.
+pub(crate) const BLOCK: &str = "<li id='place-";
+
+pub(crate) const BLOCK_WORDS: &str = "'><pre>";
+
+pub(crate) const BLOCK_END: &str = "</pre></li>
 ";
 
 /// The trace ends.
@@ -93,6 +109,11 @@ pub(crate) const COMPARISON: &str = "<section id='comparison'>
 pub(crate) const REPORT: &str = "<section id='report'>
 <h2>Report</h2>
 <pre>";
+
+/// The comparison or the report ends.
+pub(crate) const SECTION_END: &str = "</pre>
+</section>
+";
 
 /// The end, but for the script.
 pub(crate) const SCRIPT_OPENING: &str = "</main>

@@ -12,7 +12,7 @@ fn main(rt: HostRuntime) -> ExitCode {
     run_program(
         &rt,
         &rt,
-        &mut Telling::new(rt.alloc(), stderr, is_terminal),
+        &mut Telling::new(stderr, is_terminal),
         std::env::args(&rt),
         &mut DocumentSource::new(rt.stdin(), &rt),
         &mut Counted::new(rt.stdout()),

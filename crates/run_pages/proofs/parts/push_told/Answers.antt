@@ -1,0 +1,7 @@
+use Rattle.std.proofs.Common.{arith}
+use Rattle.std.proofs.lemmas.Grind.{common_steps}
+use Rattle.run_pages.proofs.PageTexts.{told_texts}
+use Rattle.run_pages.proofs.parts.push_told.Goals as goal
+
+pub returns : goal.returns
+returns c = rw (told_texts c.args.first _) (grind (arith, common_steps))

@@ -5,5 +5,6 @@ pub mod ObjectView
 pub mod Opening
 pub mod Passing
 pub mod Reading
+pub mod Refusal
 pub mod Seen
 pub mod View

@@ -1,10 +1,11 @@
 //! A JSON text as serde_json reads it.
-ghost use Rattle.std.specs.Prelude.{◌≡◌, true, is_some, option_map, Some, None, Err, IfOk};
+ghost use Rattle.std.specs.Prelude.{◌≡◌, ◌≢◌, true, false, is_some, option_map, Some, None, Err, IfOk};
 ghost use Rattle.std.specs.Str.{IsUtf8};
 ghost use Rattle.json.specs.Lex.{tokens};
-ghost use Rattle.serde_json.specs.Read.{read};
+ghost use Rattle.serde_json.specs.Read.{max_depth, read};
 ghost use Rattle.json_data.specs.Doubled.{first_doubled, key_of};
-ghost use Rattle.json_data.specs.Reading.{data_at};
+ghost use Rattle.json_data.specs.Reading.{are_in_range, data_at};
+ghost use Rattle.json_data.specs.Refusal.{refusal_of, IsTape, MayLackMemory};
 ghost use Rattle.json_data.specs.declared.document.Refused.TheVariants.{NoMemory, NotJson};
 
 use crate::doubled::{Doubled, Passed, passed_value};
@@ -23,6 +24,17 @@ pub enum Refused {
     /// Memory was refused; so is a text of 4 GiB or more.
     #[error("out of memory")]
     NoMemory,
+}
+
+impl From<Error> for Refused {
+    ghost from_gives = { λ error refused. refused ≡ refusal_of error };
+
+    fn from(error: Error) -> Refused {
+        match error {
+            Error::Invalid => Refused::NotJson,
+            _ => Refused::NoMemory,
+        }
+    }
 }
 
 /// A text that serde_json reads. Clauses see what it reads.
@@ -45,7 +57,8 @@ impl<'a> Document<'a> {
             (λ document. IsUtf8 bytes.now × (read bytes.now ≡ Some (document_view document))) }
         ensures tokens { IfOk result (λ document. tokens_view document ≡ tokens bytes.now) }
         ensures refused { result ≡ Err NotJson → IsUtf8 bytes.now → read bytes.now ≡ None }
-        ensures memory { result ≡ Err NoMemory → IsUtf8 bytes.now }
+        ensures memory { result ≡ Err NoMemory
+            → IsUtf8 bytes.now × MayLackMemory scratch.old bytes.now }
     {
         match simdutf8::compat::from_utf8(bytes) {
             Ok(text) => Document::of_text(alloc, text, scratch),
@@ -61,17 +74,25 @@ impl<'a> Document<'a> {
         ensures ok { IfOk result (λ document. read text.now ≡ Some (document_view document)) }
         ensures tokens { IfOk result (λ document. tokens_view document ≡ tokens text.now) }
         ensures refused { result ≡ Err NotJson → read text.now ≡ None }
+        ensures memory { result ≡ Err NoMemory → MayLackMemory scratch.old text.now }
     {
-        match Tape::parse(text, scratch, Vec::new(alloc)) {
-            Ok(tape) => {
-                if are_in_range(tape.nodes()) {
-                    Ok(Document { tape })
-                } else {
-                    Err(Refused::NotJson)
-                }
-            }
-            Err(Error::Invalid) => Err(Refused::NotJson),
-            Err(_) => Err(Refused::NoMemory),
+        let tape = Tape::parse(text, scratch, Vec::new(alloc))?;
+        Document::of_tape(tape)
+    }
+
+    /// The document of a text's tape. It takes no memory.
+    fn of_tape(tape: Tape<'a>) -> Result<Document<'a>, Refused>
+        requires { IsTape tape }
+        ensures ok { IfOk result
+            (λ document. (tokens_view document ≡ tape.entry)
+            × (are_in_range max_depth tape.entry ≡ true)) }
+        ensures refused { result ≡ Err NotJson → are_in_range max_depth tape.entry ≡ false }
+        ensures no_memory { result ≢ Err NoMemory }
+    {
+        if are_in_range(tape.nodes()) {
+            Ok(Document { tape })
+        } else {
+            Err(Refused::NotJson)
         }
     }
 

@@ -1,9 +1,8 @@
 -- The members that a step has in the first format are some of those that it has in any.
-use Rattle.std.proofs.Common.{◌≡◌, ℕ, List, ◌∷◌, [], codes, Option, Some, None, true}
+use Rattle.std.proofs.Common.{◌≡◌, ℕ, List, ◌∷◌, codes, Option, Some, None, true}
 use Rattle.serde_json.specs.Data.{Members}
 use Rattle.json_data.specs.Reading.{are_known}
 use Rattle.json_data.proofs.Members.{known_more}
-use Rattle.bench_types.specs.declared.note.Note.{Note}
 use Rattle.bench_types.specs.declared.step.Call.{Call}
 use Rattle.bench_types.specs.declared.step.Call.TheVariants as call
 use Rattle.bench_types.specs.declared.step.Step.{Step}

@@ -38,7 +38,11 @@ abbrev pub Gives : {A B : Type 0} → (A → B) → Result A ReadFault → Resul
 Gives view (Ok x) reading = reading ≡ Ok (view x)
 Gives view (Err stop) reading = Ends stop reading
 
+-- memory ran out
+abbrev pub no_memory : TextFault
+no_memory = record { why = NoMemory; path = []; detail = detail.None }
+
 -- what a caller is told of it
 abbrev pub known : ReadFault → TextFault
-known Memory = record { why = NoMemory; path = []; detail = detail.None }
+known Memory = no_memory
 known (Fault fault) = fault.value

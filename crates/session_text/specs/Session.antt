@@ -1,16 +1,18 @@
 -- A session: the whole text is read before the header and the steps are judged.
 use Rattle.std.specs.Prelude.{◌≡◌, ◌⊎◌, ℕ, List, [], ◌∷◌, codes, Option, Some, None, Result, Ok, Err, if◌then◌else◌, ⊤}
-use Rattle.std.specs.Str.{is_utf8}
+use Rattle.std.specs.Str.{is_utf8, IsUtf8}
 use Rattle.serde_json.specs.Data.{Data}
 use Rattle.serde_json.specs.Find.{get}
 use Rattle.serde_json.specs.Read.{read}
+use Rattle.json_data.specs.declared.document.Refused.{Refused}
+use Rattle.json_data.specs.declared.document.Refused.TheVariants as refusal
 use Rattle.bench_types.specs.declared.flaw.HeaderFlaw.{HeaderFlaw}
 use Rattle.bench_types.specs.declared.header.Header.{Header}
 use Rattle.bench_types.specs.declared.step.Step.{Step}
 use Rattle.bench_types.specs.Step.{settings_of}
 use Rattle.bench_types.specs.StepFlaw.{step_flaw}
 use Rattle.session_text.specs.declared.detail.Detail.TheVariants as detail
-use Rattle.session_text.specs.declared.fault.Why.TheVariants.{NotJson, NoMemory}
+use Rattle.session_text.specs.declared.fault.Why.TheVariants.{NotJson}
 use Rattle.session_text.specs.declared.fault.TextFault.{TextFault}
 use Rattle.session_text.specs.declared.format.Format.{Format}
 use Rattle.session_text.specs.Format.{format_at, notes_member}
@@ -19,14 +21,18 @@ use Rattle.session_text.specs.Member.{object_at, only_at}
 use Rattle.session_text.specs.Names.{known_names, user_names}
 use Rattle.session_text.specs.Accepted.{header_fault, items_accepted}
 use Rattle.session_text.specs.Array.{list_at}
-use Rattle.session_text.specs.ReadingRules.{◌>>=◌}
+use Rattle.session_text.specs.ReadingRules.{◌>>=◌, no_memory}
 use Rattle.session_text.specs.Path.{member_path}
 use Rattle.session_text.specs.Step.{step_at}
+
+-- H1
+abbrev pub not_json : TextFault
+not_json = record { why = NotJson; path = []; detail = detail.None }
 
 -- H1 where the bytes are no UTF-8, or no JSON
 abbrev pub json_or_fault : Option Data → Result Data TextFault
 json_or_fault (Some d) = Ok d
-json_or_fault None = Err (record { why = NotJson; path = []; detail = detail.None })
+json_or_fault None = Err not_json
 
 abbrev pub document : List ℕ → Result Data TextFault
 document text = json_or_fault (if is_utf8 text then read text else None)
@@ -77,5 +83,13 @@ session text = do
 -- What a call answers: what the reading gives, or that memory ran out.
 abbrev pub ReadsAs : {A B : Type 0} → (A → B) → Result A TextFault → Result B TextFault → Type 0
 ReadsAs view (Ok x) reading = reading ≡ Ok (view x)
-ReadsAs view (Err fault) reading =
-    (reading ≡ Err fault) ⊎ (fault ≡ record { why = NoMemory; path = []; detail = detail.None })
+ReadsAs view (Err fault) reading = (reading ≡ Err fault) ⊎ (fault ≡ no_memory)
+
+-- H1, of bytes that are no UTF-8; no memory is taken to find that
+abbrev pub IsRefusedAtOnce : {B : Type 0} → List ℕ → Result B TextFault → Type 0
+IsRefusedAtOnce text result = ¬ (IsUtf8 text) → result ≡ Err not_json
+
+-- what a caller is told where there is no document
+abbrev pub fault_of : Refused → TextFault
+fault_of refusal.NotJson = not_json
+fault_of refusal.NoMemory = no_memory

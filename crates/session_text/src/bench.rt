@@ -1,15 +1,15 @@
 //! Bench documents.
 ghost use Rattle.std.specs.Prelude.{◌≡◌, [], All, IfOk, OnOk};
 ghost use Rattle.std.specs.Result.{ForOk};
-ghost use Rattle.json_data.specs.Doubled.{doubled_in_text};
-ghost use Rattle.json_data.specs.View.{document_view, view};
+ghost use Rattle.json_data.specs.Doubled.{doubled_in_text, first_doubled};
+ghost use Rattle.json_data.specs.View.{document_view, tokens_view, view};
 ghost use Rattle.bench_types.specs.Edit.{IsCheckedEdit};
 ghost use Rattle.bench_types.specs.Header.{IsCheckedHeader};
 ghost use Rattle.session_text.specs.Bench.{bench_accepted, bench_at, bench_text, edited_at, edits_accepted, shapes_at, unedited_at, IsCheckedBench};
 ghost use Rattle.session_text.specs.Node.{data_of, location_of};
 ghost use Rattle.session_text.specs.Noted.{doubled_view};
 ghost use Rattle.session_text.specs.ReadingRules.{Gives};
-ghost use Rattle.session_text.specs.Session.{ReadsAs};
+ghost use Rattle.session_text.specs.Session.{IsRefusedAtOnce, ReadsAs};
 
 use crate::accepted::{Source, items_accepted};
 use crate::array::list_at;
@@ -35,23 +35,17 @@ pub struct Bench {
 /// alone.
 ///
 /// Whether a session has the locations of its edits is not looked at.
+#[tactic(auto, unfolding(crate::specs::Bench::bench_text))]
 pub fn read_bench(alloc: Global, text: &[u8]) -> Result<Bench, TextFault>
     // The session and its edits, or the first fault with its path, or that memory ran out.
     ensures reading { ReadsAs (λ bench. bench) result (bench_text text.now) }
+    ensures no_text { IsRefusedAtOnce text.now result }
     // So no check of the header, of a step or of an edit fails later.
-    ensures checked { IfOk result IsCheckedBench }
-{
-    Ok(bench_text(alloc, text)?)
-}
-
-#[tactic(auto, unfolding(crate::specs::Bench::bench_text))]
-fn bench_text(alloc: Global, text: &[u8]) -> Result<Bench, ReadFault>
-    ensures reading { Gives (λ bench. bench) result (bench_text text.now) }
     ensures checked { IfOk result IsCheckedBench }
 {
     let mut scratch = Scratch::new(alloc);
     let document = document(alloc, text, &mut scratch)?;
-    bench_in(alloc, &document)
+    Ok(bench_in(alloc, &document)?)
 }
 
 /// The bench that is the document.
@@ -67,26 +61,28 @@ fn bench_in(alloc: Global, document: &Document<'_>) -> Result<Bench, ReadFault>
 }
 
 /// The same, with its first member that stands twice.
+#[tactic(auto, unfolding(crate::specs::Bench::bench_text))]
 pub fn read_bench_noted(alloc: Global, text: &[u8]) -> Result<Noted<Bench>, TextFault>
     ensures reading { ReadsAs (λ noted. noted.document) result (bench_text text.now) }
-    ensures checked { IfOk result (λ noted. IsCheckedBench noted.document) }
-    ensures doubled { IfOk result
-        (λ noted. doubled_view noted.doubled ≡ doubled_in_text text.now) }
-{
-    Ok(noted_bench(alloc, text)?)
-}
-
-#[tactic(auto, unfolding(crate::specs::Bench::bench_text))]
-fn noted_bench(alloc: Global, text: &[u8]) -> Result<Noted<Bench>, ReadFault>
-    ensures reading { Gives (λ noted. noted.document) result (bench_text text.now) }
+    ensures no_text { IsRefusedAtOnce text.now result }
     ensures checked { IfOk result (λ noted. IsCheckedBench noted.document) }
     ensures doubled { IfOk result
         (λ noted. doubled_view noted.doubled ≡ doubled_in_text text.now) }
 {
     let mut scratch = Scratch::new(alloc);
     let document = document(alloc, text, &mut scratch)?;
-    let bench = bench_in(alloc, &document)?;
-    let doubled = doubled_member(alloc, &document)?;
+    Ok(noted_bench(alloc, &document)?)
+}
+
+fn noted_bench(alloc: Global, document: &Document<'_>) -> Result<Noted<Bench>, ReadFault>
+    ensures reading { Gives (λ noted. noted.document) result
+        (bench_at [] (document_view document.now)) }
+    ensures checked { IfOk result (λ noted. IsCheckedBench noted.document) }
+    ensures doubled { IfOk result
+        (λ noted. doubled_view noted.doubled ≡ first_doubled (tokens_view document.now)) }
+{
+    let bench = bench_in(alloc, document)?;
+    let doubled = doubled_member(alloc, document)?;
     Ok(Noted {
         document: bench,
         doubled,

@@ -7,7 +7,7 @@ ghost use Rattle.session_text.specs.Detail.{words_of};
 ghost use Rattle.session_text.specs.Edit.{edit_kind_at, edit_kind_of, edit_kinds, edit_members_of, edit_of_kind_at, edit_text, lone_edit_at, new_step_at};
 ghost use Rattle.session_text.specs.Node.{data_of, location_of};
 ghost use Rattle.session_text.specs.ReadingRules.{Gives};
-ghost use Rattle.session_text.specs.Session.{ReadsAs};
+ghost use Rattle.session_text.specs.Session.{IsRefusedAtOnce, ReadsAs};
 
 use crate::accepted::item_fault;
 use crate::array::ReadItem;
@@ -26,25 +26,18 @@ use std::alloc::Global;
 ///
 /// A step may have the index of a notification, whatever the format of the session's text is. The
 /// path of a fault begins at the edit, which is `top`.
+#[tactic(auto, unfolding(crate::specs::Edit::edit_text))]
 pub fn read_edit(alloc: Global, text: &[u8], header: &Header) -> Result<Edit, TextFault>
     requires { header_check header.now ≡ Ok tt }
     // The edit, or the first fault with its path, or that memory ran out.
     ensures reading { ReadsAs (λ edit. edit) result (edit_text header.now text.now) }
+    ensures no_text { IsRefusedAtOnce text.now result }
     // So its check doesn't fail later.
-    ensures checked { IfOk result (IsCheckedEdit header.now) }
-{
-    Ok(edit_text(alloc, text, header)?)
-}
-
-#[tactic(auto, unfolding(crate::specs::Edit::edit_text))]
-fn edit_text(alloc: Global, text: &[u8], header: &Header) -> Result<Edit, ReadFault>
-    requires { header_check header.now ≡ Ok tt }
-    ensures reading { Gives (λ edit. edit) result (edit_text header.now text.now) }
     ensures checked { IfOk result (IsCheckedEdit header.now) }
 {
     let mut scratch = Scratch::new(alloc);
     let document = document(alloc, text, &mut scratch)?;
-    edit_in(alloc, &document, header)
+    Ok(edit_in(alloc, &document, header)?)
 }
 
 /// The edit that is the document.

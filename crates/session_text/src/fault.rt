@@ -1,13 +1,16 @@
 //! Why a text is not read, and where.
-ghost use Rattle.std.specs.Prelude.{◌≡◌};
+ghost use Rattle.std.specs.Prelude.{◌≡◌, []};
+ghost use Rattle.session_text.specs.declared.detail.Detail.TheVariants as detail;
 ghost use Rattle.session_text.specs.declared.fault.ReadFault.TheVariants.{Memory};
 ghost use Rattle.session_text.specs.Accepted.{header_fault};
 ghost use Rattle.session_text.specs.ReadingRules.{known, StopsAt};
 ghost use Rattle.session_text.specs.Path.{path_of, path_text};
+ghost use Rattle.session_text.specs.Session.{fault_of};
 
 use crate::detail::Detail;
 use crate::path::{Location, Path};
 use bench_types::{Fault, HeaderFlaw};
+use json_data::Refused;
 use std::alloc::{AllocError, AllocFailed, Global};
 use std::error::Error as StdError;
 use std::fmt;
@@ -103,16 +106,35 @@ impl ReadFault {
     }
 }
 
+impl TextFault {
+    // What is told at no place of the text, and with no more words.
+    fn of_text(why: Why) -> TextFault
+        ensures { result ≡ record { why = why; path = []; detail = detail.None } }
+    {
+        TextFault {
+            why,
+            path: Path::empty(),
+            detail: Detail::None,
+        }
+    }
+
+    /// What is told where there is no document.
+    pub(crate) fn of_refused(refused: Refused) -> TextFault
+        ensures { result ≡ fault_of refused }
+    {
+        match refused {
+            Refused::NotJson => TextFault::of_text(Why::NotJson),
+            Refused::NoMemory => TextFault::of_text(Why::NoMemory),
+        }
+    }
+}
+
 impl From<ReadFault> for TextFault {
     ghost from_gives = { λ stop fault. fault ≡ known stop };
 
     fn from(stop: ReadFault) -> TextFault {
         match stop {
-            ReadFault::Memory => TextFault {
-                why: Why::NoMemory,
-                path: Path::empty(),
-                detail: Detail::None,
-            },
+            ReadFault::Memory => TextFault::of_text(Why::NoMemory),
             ReadFault::Fault(fault) => Box::into_inner(fault),
         }
     }

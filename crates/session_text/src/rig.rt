@@ -1,8 +1,8 @@
 //! Rig documents.
 ghost use Rattle.std.specs.Prelude.{◌≡◌, ◌<◌, ◌≤◌, ◌^◌, [], length, option_map, All, IfOk, OnOk};
 ghost use Rattle.std.specs.Result.{ForOk};
-ghost use Rattle.json_data.specs.Doubled.{doubled_in_text};
-ghost use Rattle.json_data.specs.View.{document_view, items_view, view};
+ghost use Rattle.json_data.specs.Doubled.{doubled_in_text, first_doubled};
+ghost use Rattle.json_data.specs.View.{document_view, items_view, tokens_view, view};
 ghost use Rattle.bench_types.specs.CoreAction.{IsCheckedCoreAction};
 ghost use Rattle.bench_types.specs.Header.{IsCheckedHeader};
 ghost use Rattle.bench_types.specs.Limits.{max_steps};
@@ -12,7 +12,7 @@ ghost use Rattle.session_text.specs.Noted.{doubled_view};
 ghost use Rattle.session_text.specs.ReadingRules.{Gives};
 ghost use Rattle.session_text.specs.Path.{path_of};
 ghost use Rattle.session_text.specs.Rig.{has_arrays, limit_accepted, no_steps_at, rig_accepted, rig_at, rig_shapes_at, rig_text, script_accepted, scripts_accepted, scripts_at, stepless_at, AreCheckedScripts, IsCheckedRig};
-ghost use Rattle.session_text.specs.Session.{ReadsAs};
+ghost use Rattle.session_text.specs.Session.{IsRefusedAtOnce, ReadsAs};
 
 use crate::accepted::{Source, items_accepted};
 use crate::array::list_at;
@@ -44,24 +44,18 @@ pub struct RigScript {
 /// `limit` and `scripts`.
 ///
 /// F5 at `limit` is a limit over [`MAX_STEPS`] entries.
+#[tactic(auto, unfolding(crate::specs::Rig::rig_text))]
 pub fn read_rig(alloc: Global, text: &[u8]) -> Result<RigScript, TextFault>
     // The header, the limit and the scripts, or the first fault with its path, or that memory ran
     // out.
     ensures reading { ReadsAs (λ rig. rig) result (rig_text text.now) }
+    ensures no_text { IsRefusedAtOnce text.now result }
     // So no check of the header or of an action fails later, and each core has a script.
-    ensures checked { IfOk result IsCheckedRig }
-{
-    Ok(rig_text(alloc, text)?)
-}
-
-#[tactic(auto, unfolding(crate::specs::Rig::rig_text))]
-fn rig_text(alloc: Global, text: &[u8]) -> Result<RigScript, ReadFault>
-    ensures reading { Gives (λ rig. rig) result (rig_text text.now) }
     ensures checked { IfOk result IsCheckedRig }
 {
     let mut scratch = Scratch::new(alloc);
     let document = document(alloc, text, &mut scratch)?;
-    rig_in(alloc, &document)
+    Ok(rig_in(alloc, &document)?)
 }
 
 /// The rig that is the document.
@@ -77,26 +71,28 @@ fn rig_in(alloc: Global, document: &Document<'_>) -> Result<RigScript, ReadFault
 }
 
 /// The same, with its first member that stands twice.
+#[tactic(auto, unfolding(crate::specs::Rig::rig_text))]
 pub fn read_rig_noted(alloc: Global, text: &[u8]) -> Result<Noted<RigScript>, TextFault>
     ensures reading { ReadsAs (λ noted. noted.document) result (rig_text text.now) }
-    ensures checked { IfOk result (λ noted. IsCheckedRig noted.document) }
-    ensures doubled { IfOk result
-        (λ noted. doubled_view noted.doubled ≡ doubled_in_text text.now) }
-{
-    Ok(noted_rig(alloc, text)?)
-}
-
-#[tactic(auto, unfolding(crate::specs::Rig::rig_text))]
-fn noted_rig(alloc: Global, text: &[u8]) -> Result<Noted<RigScript>, ReadFault>
-    ensures reading { Gives (λ noted. noted.document) result (rig_text text.now) }
+    ensures no_text { IsRefusedAtOnce text.now result }
     ensures checked { IfOk result (λ noted. IsCheckedRig noted.document) }
     ensures doubled { IfOk result
         (λ noted. doubled_view noted.doubled ≡ doubled_in_text text.now) }
 {
     let mut scratch = Scratch::new(alloc);
     let document = document(alloc, text, &mut scratch)?;
-    let rig = rig_in(alloc, &document)?;
-    let doubled = doubled_member(alloc, &document)?;
+    Ok(noted_rig(alloc, &document)?)
+}
+
+fn noted_rig(alloc: Global, document: &Document<'_>) -> Result<Noted<RigScript>, ReadFault>
+    ensures reading { Gives (λ noted. noted.document) result
+        (rig_at [] (document_view document.now)) }
+    ensures checked { IfOk result (λ noted. IsCheckedRig noted.document) }
+    ensures doubled { IfOk result
+        (λ noted. doubled_view noted.doubled ≡ first_doubled (tokens_view document.now)) }
+{
+    let rig = rig_in(alloc, document)?;
+    let doubled = doubled_member(alloc, document)?;
     Ok(Noted {
         document: rig,
         doubled,

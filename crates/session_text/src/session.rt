@@ -13,42 +13,34 @@ ghost use Rattle.session_text.specs.Names.{known_names};
 ghost use Rattle.session_text.specs.Node.{data_of, location_of};
 ghost use Rattle.session_text.specs.ReadingRules.{Gives};
 ghost use Rattle.session_text.specs.Step.{step_at};
-ghost use Rattle.session_text.specs.Session.{document, session, session_accepted, session_at, session_members, steps_accepted, whole_session, ReadsAs};
+ghost use Rattle.session_text.specs.Session.{document, session, session_accepted, session_at, session_members, steps_accepted, whole_session, IsRefusedAtOnce, ReadsAs};
 
 use crate::accepted::{Source, items_accepted};
 use crate::array::list_at;
-use crate::detail::Detail;
-use crate::fault::{ReadFault, TextFault, Why};
+use crate::fault::{ReadFault, TextFault};
 use crate::format::{Format, format_at};
 use crate::header::header_at;
 use crate::names::Names;
 use crate::node::Node;
-use crate::path::{Location, Path};
+use crate::path::Location;
 use crate::step::StepReader;
 use bench_types::{Header, HeaderFlaw, Step};
-use json_data::{Document, Gathered, Object, Refused, Scratch};
+use json_data::{Document, Gathered, Object, Scratch};
 use std::alloc::{AllocError, Global};
 
 /// Reads a session from a JSON text.
+#[tactic(auto, unfolding(crate::specs::Session::session))]
 pub fn read_session(alloc: Global, text: &[u8]) -> Result<(Header, Vec<Step>), TextFault>
     // The header and the steps, or the first fault with its path, or that memory ran out.
     ensures reading { ReadsAs (λ read. (read.0, read.1.items)) result (session text.now) }
+    ensures no_text { IsRefusedAtOnce text.now result }
     // So no check of the header or of a step fails later.
-    ensures checked { IfOk result
-        (λ read. IsSession (record { header = read.0; steps = read.1.items })) }
-{
-    Ok(session(alloc, text)?)
-}
-
-#[tactic(auto, unfolding(crate::specs::Session::session))]
-fn session(alloc: Global, text: &[u8]) -> Result<(Header, Vec<Step>), ReadFault>
-    ensures reading { Gives (λ read. (read.0, read.1.items)) result (session text.now) }
     ensures checked { IfOk result
         (λ read. IsSession (record { header = read.0; steps = read.1.items })) }
 {
     let mut scratch = Scratch::new(alloc);
     let document = document(alloc, text, &mut scratch)?;
-    session_in(alloc, &document)
+    Ok(session_in(alloc, &document)?)
 }
 
 /// The session that is the document.
@@ -76,27 +68,20 @@ fn whole_session(node: &Node<'_, '_, '_>) -> Result<(Header, Vec<Step>), ReadFau
     session_accepted(node, header, steps)
 }
 
-/// The value that the bytes spell, or H1.
+/// The value that the bytes spell, or H1, or that memory ran out.
 pub(crate) fn document<'a>(
     alloc: Global,
     text: &'a [u8],
     scratch: &'a mut Scratch,
-) -> Result<Document<'a>, ReadFault>
-    ensures reading { Gives document_view result (document text.now) }
+) -> Result<Document<'a>, TextFault>
+    ensures reading { ReadsAs document_view result (document text.now) }
+    ensures no_text { IsRefusedAtOnce text.now result }
     ensures doubled { IfOk result
         (λ document. first_doubled (tokens_view document) ≡ doubled_in_text text.now) }
 {
     match Document::parse(alloc, text, scratch) {
         Ok(document) => Ok(document),
-        Err(Refused::NoMemory) => Err(ReadFault::Memory),
-        Err(Refused::NotJson) => {
-            let fault = TextFault {
-                why: Why::NotJson,
-                path: Path::empty(),
-                detail: Detail::None,
-            };
-            Err(ReadFault::of(alloc, fault))
-        }
+        Err(refused) => Err(TextFault::of_refused(refused)),
     }
 }
 

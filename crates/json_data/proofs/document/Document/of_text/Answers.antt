@@ -1,23 +1,26 @@
-use Rattle.std.proofs.Common.{◌≡◌, true, is_some, Some, Err, sym, ap, ◌∙◌, subst}
-use Rattle.serde_json.specs.Read.{max_depth}
-use Rattle.json_data.specs.Reading.{are_in_range, data_at, data_of}
-use Rattle.json_data.proofs.Documents.{accepted, accepted_read, not_read, refused}
+use Rattle.std.proofs.Common.{Err, ap, arith}
+use Rattle.json_data.proofs.Documents.{far_tape, no_room, no_tape, read_of_tape, tokens_of_tape}
 use Rattle.json_data.proofs.document.Document.of_text.Goals as goal
 
-pub returns-in-Err-Invalid-clause-refused : goal.returns-in-Err-Invalid-clause-refused
-returns-in-Err-Invalid-clause-refused c _ = not_read c.args.text.now (c.in-Err-Invalid.ensures.invalid (ap Err c.in-Err-Invalid.field-0-is))
+pub of_tape-requires : goal.of_tape-requires
+of_tape-requires c = (c.args.text.now, c.in_ok-tape.ensures.ok.0, c.in_ok-tape.ensures.ok.1)
 
-pub invariant_of-result : goal.invariant_of-result
-invariant_of-result c =
-    let range = ap (are_in_range max_depth) (sym (c.nodes.ensures.tokens ∙ c.in-Ok.ensures.ok.0)) ∙ sym c.if-are_in_range.ensures in
-    record { valid = subst (λ ts. is_some (data_at ts) ≡ true) (sym c.in-Ok.ensures.ok.0) (accepted c.args.text.now c.in-Ok.ensures.ok.1 range) }
+pub returns-clause-ok : goal.returns-clause-ok
+returns-clause-ok c =
+    read_of_tape c.args.text.now c.in_ok-tape.tape c.of_tape.result c.in_ok-tape.ensures.ok.0 c.in_ok-tape.ensures.ok.1 c.of_tape.ensures.ok
 
-pub returns-then-are_in_range-clause-ok : goal.returns-then-are_in_range-clause-ok
-returns-then-are_in_range-clause-ok c =
-    let range = ap (are_in_range max_depth) (sym (c.nodes.ensures.tokens ∙ c.in-Ok.ensures.ok.0)) ∙ sym c.if-are_in_range.ensures in
-    accepted_read c.args.text.now c.in-Ok.ensures.ok.1 range ∙ ap (λ ts. Some (data_of ts)) (sym c.in-Ok.ensures.ok.0)
+pub returns-clause-tokens : goal.returns-clause-tokens
+returns-clause-tokens c = tokens_of_tape c.args.text.now c.in_ok-tape.tape c.of_tape.result c.in_ok-tape.ensures.ok.0 c.of_tape.ensures.ok
 
-pub returns-in-Ok-clause-refused : goal.returns-in-Ok-clause-refused
-returns-in-Ok-clause-refused c _ =
-    let range = ap (are_in_range max_depth) (sym (c.nodes.ensures.tokens ∙ c.in-Ok.ensures.ok.0)) ∙ sym c.if-are_in_range.ensures in
-    refused c.args.text.now c.in-Ok.ensures.ok.1 range
+pub returns-clause-refused : goal.returns-clause-refused
+returns-clause-refused c said =
+    far_tape c.args.text.now c.in_ok-tape.tape c.in_ok-tape.ensures.ok.0 c.in_ok-tape.ensures.ok.1 (c.of_tape.ensures.refused said)
+
+pub returns-in_err-tape-clause-refused : goal.returns-in_err-tape-clause-refused
+returns-in_err-tape-clause-refused c said =
+    no_tape c.args.text.now _ (λ is. c.in_err-tape.ensures.invalid (ap Err is)) (grind (arith, said, c.from_residual.ensures))
+
+pub returns-in_err-tape-clause-memory : goal.returns-in_err-tape-clause-memory
+returns-in_err-tape-clause-memory c said =
+    no_room c.args.scratch.now c.args.text.now _ _ (λ is. c.in_err-tape.ensures.memory (ap Err is))
+    (λ is. c.in_err-tape.ensures.too_long (ap Err is)) (λ is. c.in_err-tape.ensures.never_duplicate (ap Err is)) (grind (arith, said, c.from_residual.ensures))

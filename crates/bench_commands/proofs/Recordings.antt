@@ -1,7 +1,7 @@
 -- What is written of a rig document.
-use Rattle.std.proofs.Common.{◌≡◌, ℕ, ◌≤◌, ◌⊎◌, List, [], ◌++◌, length, true, false, None, Result, Ok, Err, IfOk, nat_lt, codes, refl, sym, ap, subst, inl, inr}
+use Rattle.std.proofs.Common.{◌≡◌, ℕ, ◌≤◌, ◌⊎◌, List, [], ◌++◌, length, Bool, true, false, None, Result, Ok, Err, IfOk, nat_lt, codes, refl, sym, ap, subst, inl, inr}
 use Rattle.std.proofs.Common.{◌∙◌}
-use Rattle.std.specs.Prelude.{IsErr}
+use Rattle.std.specs.Prelude.{IsErr, if◌then◌else◌}
 use Rattle.bench_types.specs.declared.entry.Entry.{Entry}
 use Rattle.bench_types.specs.declared.header.Header.{Header}
 use Rattle.bench_types.specs.declared.step.Step.{Step}
@@ -16,10 +16,10 @@ use Rattle.session_text.specs.declared.fault.Why.TheVariants.{NoMemory}
 use Rattle.session_text.specs.Rig.{rig_text}
 use Rattle.bench_types.specs.Limits.{max_input}
 use Rattle.program_io.specs.Hint.{IsRigHintWhere, too_long_line}
-use Rattle.program_io.specs.Outputs.{Printed, fine, noted, refused_with}
+use Rattle.program_io.specs.Outputs.{Printed, fine, refused_with}
 use Rattle.program_io.specs.Refusal.{IsPrintedFault, refusal_line, why_text}
-use Rattle.program_io.specs.Twice.{twice_note}
-use Rattle.bench_commands.specs.Answer.{refused}
+use Rattle.program_io.specs.Twice.{twice_note, twice_note_as_read, warned}
+use Rattle.bench_commands.specs.Answer.{printed_with, refused}
 use Rattle.bench_commands.specs.Record.{IsAnswerWhere, IsRecorded, IsRecording, IsRecordingOf}
 
 pub is_recorded : (rig : RigScript) (header : Header) (entries : List Entry) (steps : List Step) (bytes text : List ℕ) → header ≡ rig.header → IsLegal header
@@ -55,16 +55,20 @@ refused_recording input fault (Ok printed) (inl read) line memory =
 refused_recording input fault (Ok printed) (inr none) line memory = absurd (cc (memory (ap (λ (f : TextFault). f.why) none)))
 
 -- what is told of a text that was read
-pub recording_printed : (input line text : List ℕ) (rig : RigScript) (printed : Printed) → rig_text input ≡ Ok rig → IsRecorded rig
-    (record { is_refused = false; text = text }) → line ≡ twice_note input → printed ≡ noted (fine text) line
-    → IsRecordingOf input (rig_text input) printed
-recording_printed input line text rig printed read recorded is_line is =
+pub recording_printed : {E : Type 0} (input line text : List ℕ) (rig : RigScript) (given : Printed) (result : Result Printed E) → rig_text input ≡ Ok rig →
+    IsRecorded rig (record { is_refused = false; text = text }) → line ≡ twice_note input → given ≡ fine text
+    → IfOk result (λ printed. printed ≡ warned line given) → IfOk result (λ printed. IsRecordingOf input (rig_text input) printed)
+recording_printed input line text rig given (Err e) read recorded is_line is_given is = tt
+recording_printed input line text rig given (Ok printed) read recorded is_line is_given is =
     subst (λ (r : Result RigScript TextFault). IsRecordingOf input r printed) (sym read)
     (record {
       output = record { is_refused = false; text = text };
       answer = recorded;
-      tells =
-          record { hint = []; is_hint = λ refused. absurd (cc refused); is_printed = is ∙ ap (noted (fine text)) is_line };
+      tells = record {
+        hint = [];
+        is_hint = λ refused. absurd (cc refused);
+        is_printed = is ∙ ap (warned line) is_given ∙ ap (λ (first : List ℕ). warned first (fine text)) is_line;
+      };
     })
 
 -- what is told of an input that is not too long
@@ -78,7 +82,9 @@ short_recording input (Ok given) short printed = record {
     hint = printed.tells.hint;
     is_hint = λ refused. subst (λ long. IsRigHintWhere long input printed.tells.hint) (sym short)
         (printed.tells.is_hint refused);
-    is_printed = printed.tells.is_printed;
+    is_printed = printed.tells.is_printed
+        ∙ ap (λ (long : Bool). warned (if long then [] else twice_note_as_read input (rig_text input)) (printed_with printed.output [] printed.tells.hint))
+        (sym short);
   };
 }
 
@@ -88,5 +94,11 @@ pub long_recording : (input hint : List ℕ) (printed : Printed) → nat_lt max_
 long_recording input hint printed long is_hint is = record {
   output = refused (codes "H3") [];
   answer = subst (λ long. IsAnswerWhere long input (refused (codes "H3") [])) (sym long) refl;
-  tells = record { hint = hint; is_hint = λ refused. subst (λ long. IsRigHintWhere long input hint) (sym long) is_hint; is_printed = is };
+  tells = record {
+    hint = hint;
+    is_hint = λ refused. subst (λ long. IsRigHintWhere long input hint) (sym long) is_hint;
+    is_printed = is
+        ∙ ap (λ (long : Bool). warned (if long then [] else twice_note_as_read input (rig_text input)) (refused_with (refusal_line (codes "H3") []) hint))
+        (sym long);
+  };
 }

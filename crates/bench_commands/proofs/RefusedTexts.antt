@@ -1,5 +1,5 @@
 -- What is told of a document, whether it was read and opened or not.
-use Rattle.std.proofs.Common.{◌≡◌, ◌⊎◌, ℕ, List, [], ◌++◌, length, flat_map, Bool, true, false, Result, Ok, Err, IfOk, nat_lt, nat_le, codes, refl, sym, ap}
+use Rattle.std.proofs.Common.{◌≡◌, ◌⊎◌, ℕ, List, [], length, flat_map, Bool, true, false, Result, Ok, Err, IfOk, nat_lt, nat_le, codes, refl, sym, ap}
 use Rattle.std.proofs.Common.{subst, ◌∙◌, arith, inl, inr}
 use Rattle.std.specs.Prelude.{All, IsErr, OnOk, if◌then◌else◌}
 use Rattle.std.proofs.lemmas.Bool.Decides.{nat_tests}
@@ -23,10 +23,9 @@ use Rattle.bench_model.specs.Meeting.{CheckpointedSession, first_kept}
 use Rattle.program_io.specs.Hint.{IsBenchTextHint, too_many_steps_line}
 use Rattle.program_io.specs.Outputs.{Printed, fine, noted, refused_with}
 use Rattle.program_io.specs.Refusal.{IsPrintedFault, refusal_line}
-use Rattle.program_io.specs.Twice.{twice_note, warned}
-use Rattle.program_io.specs.declared.output.OutputStatus.TheVariants.{Failed, Fine}
+use Rattle.program_io.specs.Twice.{twice_note, twice_note_as_read, warned}
 use Rattle.bench_commands.specs.declared.execution.Mode.{Mode}
-use Rattle.bench_commands.specs.Answer.{IsPrintedAnswer, Output, bench_notes, bench_output, notes_of, output_of, output_of_bench, refused, run_notes, span_of}
+use Rattle.bench_commands.specs.Answer.{IsPrintedAnswer, Output, bench_notes, bench_output, notes_of, output_of, output_of_bench, refused, span_of}
 use Rattle.bench_commands.specs.Answer.{store_text, printed_with}
 use Rattle.document_stores.proofs.Opened.{few_steps, opens}
 
@@ -34,37 +33,31 @@ use Rattle.document_stores.proofs.Opened.{few_steps, opens}
 pub refused_printed : {E : Type 0} (mode : Mode) (text : Bench → List ℕ) (input : List ℕ) (fault : TextFault) (result : Result Printed E) →
     (bench_text input ≡ Err fault) ⊎ (fault ≡ record { why = NoMemory; path = []; detail = None })
     → IfOk result (λ printed. IsPrintedFault refused_with input fault printed) → (fault.why ≡ NoMemory → IsErr result) → IfOk result
-    (λ printed. IsPrintedAnswer (output_of text (bench_text input)) (run_notes mode input) (IsBenchTextHint input (bench_text input)) printed)
+    (λ printed. IsPrintedAnswer (output_of text (bench_text input)) (twice_note_as_read input (bench_text input)) (notes_of mode (bench_text input))
+    (IsBenchTextHint input (bench_text input)) printed)
 refused_printed mode text input fault (Err e) reading printed memory = tt
 refused_printed mode text input fault (Ok printed) (inl read) line memory =
-    subst (λ (r : Result Bench TextFault). IsPrintedAnswer (output_of text r) (twice_note input ++ notes_of mode r) (IsBenchTextHint input r) printed)
+    subst (λ (r : Result Bench TextFault). IsPrintedAnswer (output_of text r) (twice_note_as_read input r) (notes_of mode r) (IsBenchTextHint input r) printed)
     (sym read)
     (record { hint = line.hint; is_hint = λ refused. line.is_hint; is_printed = line.is_printed })
 refused_printed mode text input fault (Ok printed) (inr none) line memory = absurd (cc (memory (ap (λ (f : TextFault). f.why) none)))
-
--- lines before the notes of an answer
-warned_answer : (answer : Output) (lines notes hint : List ℕ) → warned lines (printed_with answer notes hint) ≡ printed_with answer (lines ++ notes) hint
-warned_answer answer lines notes hint = by answer.is_refused
-  where
-    by : (refused : Bool) → warned lines (record { status = if refused then Failed else Fine; text = answer.text; note = if refused then hint else notes })
-        ≡ record { status = if refused then Failed else Fine; text = answer.text; note = if refused then hint else lines ++ notes }
-    by true = refl
-    by false = refl
 
 -- what is told of a text that was read
 pub read_printed : {E : Type 0} (mode : Mode) (text : Bench → List ℕ) (input line : List ℕ) (bench : Bench) (printed : Printed) (result : Result Printed E) →
     bench_text input ≡ Ok bench → line ≡ twice_note input
     → printed ≡ printed_with (output_of_bench text bench) (bench_notes mode bench) too_many_steps_line → IfOk result (λ output. output ≡ warned line printed)
-    → IfOk result (λ printed. IsPrintedAnswer (output_of text (bench_text input)) (run_notes mode input) (IsBenchTextHint input (bench_text input)) printed)
+    → IfOk result (λ printed. IsPrintedAnswer (output_of text (bench_text input)) (twice_note_as_read input (bench_text input)) (notes_of mode
+    (bench_text input)) (IsBenchTextHint input (bench_text input)) printed)
 read_printed mode text input line bench printed (Err e) read is_line is_printed given = tt
 read_printed mode text input line bench printed (Ok output) read is_line is_printed given =
-    subst (λ (r : Result Bench TextFault). IsPrintedAnswer (output_of text r) (twice_note input ++ notes_of mode r) (IsBenchTextHint input r) output) (sym read)
+    subst (λ (r : Result Bench TextFault). IsPrintedAnswer (output_of text r) (twice_note_as_read input r) (notes_of mode r) (IsBenchTextHint input r) output)
+    (sym read)
     (record {
       hint = too_many_steps_line;
       is_hint = λ refused. refl;
       is_printed =
-          given ∙ ap (warned line) is_printed ∙ warned_answer (output_of_bench text bench) line (bench_notes mode bench) too_many_steps_line
-          ∙ ap (λ (first : List ℕ). printed_with (output_of_bench text bench) (first ++ bench_notes mode bench) too_many_steps_line) is_line;
+          given ∙ ap (warned line) is_printed
+          ∙ ap (λ (first : List ℕ). warned first (printed_with (output_of_bench text bench) (bench_notes mode bench) too_many_steps_line)) is_line;
     })
 
 -- a session that was checked is not opened only where it has too many steps

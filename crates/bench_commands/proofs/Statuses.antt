@@ -7,12 +7,12 @@ use Rattle.program_io.specs.declared.ending.Ending.TheVariants.{BadCommandLine, 
 use Rattle.program_io.specs.declared.ending.RunFault.TheVariants.{Memory, Read, Write}
 use Rattle.program_io.specs.declared.output.OutputStatus.TheVariants as went
 use Rattle.program_io.specs.Device.{AppendsPrefix}
-use Rattle.program_io.specs.Endings.{all_reads_well, all_writes_well, Bytes, EndsTelling}
+use Rattle.program_io.specs.Endings.{all_reads_well, all_writes_well, Bytes, EndsTelling, fault_of_end}
 use Rattle.program_io.specs.Outputs.{Printed}
 use Rattle.bench_commands.specs.declared.execution.Mode.{Mode}
 use Rattle.bench_commands.specs.Answer.{IsRun}
 use Rattle.bench_commands.specs.Record.{EndsRecord, IsRecording}
-use Rattle.bench_commands.specs.Run.{is_of_run, Ran, reads_well, status_of, writes_well}
+use Rattle.bench_commands.specs.Run.{fault_of_status, is_of_run, Ran, reads_well, status_of, writes_well}
 
 -- how an answer went says whether it is a refusal
 fine_is : (refused : Bool) → (if refused then went.Failed else went.Fine) ≡ went.Fine → refused ≡ false
@@ -57,6 +57,17 @@ writes_by_status Gone is = refl
 writes_by_status (Failed Memory) is = refl
 writes_by_status (Failed Read) is = refl
 writes_by_status (Failed Write) is = refl
+
+pub fault_by_status : (ending : Ending) → is_of_run ending ≡ true → fault_of_status (status_of ending) ≡ fault_of_end ending
+fault_by_status (Written went.Fine note) is = refl
+fault_by_status (Written went.Failed note) is = refl
+fault_by_status (Written went.Unknown note) is = refl
+fault_by_status (BadCommandLine text) is = absurd (cc is)
+fault_by_status (NotOpened line) is = absurd (cc is)
+fault_by_status Gone is = refl
+fault_by_status (Failed Memory) is = refl
+fault_by_status (Failed Read) is = refl
+fault_by_status (Failed Write) is = refl
 
 module _ (read_old read_new write_old write_new : Bytes) where
   pub run_ended : (mode : Mode) (ending : Ending) → EndsTelling (IsRun mode) ending read_old read_new write_old write_new → Ran mode (status_of ending) read_old

@@ -24,7 +24,7 @@ use Rattle.program_io.specs.declared.output.OutputStatus.TheVariants.{Failed, Fi
 use Rattle.program_io.specs.Hint.{IsBenchHint}
 use Rattle.program_io.specs.Outputs.{Printed}
 use Rattle.program_io.specs.Refusal.{refusal_line, why_text}
-use Rattle.program_io.specs.Twice.{twice_note}
+use Rattle.program_io.specs.Twice.{twice_note_of_input, warned}
 use Rattle.bench_commands.specs.declared.execution.Mode.{Mode}
 use Rattle.bench_commands.specs.declared.execution.Mode.TheVariants.{Replay, WhatIf}
 use Rattle.bench_commands.specs.Lines.{edit_line, edit_lines, start_line, step_line}
@@ -132,19 +132,17 @@ printed_with answer notes hint = record {
   note = if answer.is_refused then hint else notes;
 }
 
--- an answer is told with these notes, or where it is a refusal with such a hint
-pub record IsPrintedAnswer (answer : Output) (notes : List ℕ) (IsHint : List ℕ → Type 0)
+-- an answer is told with these lines first, and then these notes, or where it is a refusal such a
+-- hint
+pub record IsPrintedAnswer (answer : Output) (lines notes : List ℕ) (IsHint : List ℕ → Type 0)
     (printed : Printed) : Type 0 where
   pub hint : List ℕ
   pub is_hint : answer.is_refused ≡ true → IsHint hint
-  pub is_printed : printed ≡ printed_with answer notes hint
+  pub is_printed : printed ≡ warned lines (printed_with answer notes hint)
 
--- that a member of the input stands twice, and then by the mode a line for each edit that is
--- refused
-abbrev pub run_notes : Mode → List ℕ → List ℕ
-run_notes mode input = twice_note input ++ notes_of mode (bench_text input)
-
--- by the mode, what a run tells of an input
+-- by the mode, what a run tells of an input: first where a member of it stands twice, and then a
+-- line for each edit that is refused, or why the input is
 abbrev pub IsRun : Mode → List ℕ → Printed → Type 0
 IsRun mode input printed =
-    IsPrintedAnswer (output mode input) (run_notes mode input) (IsBenchHint input) printed
+    IsPrintedAnswer (output mode input) (twice_note_of_input input (bench_text input))
+    (notes_of mode (bench_text input)) (IsBenchHint input) printed

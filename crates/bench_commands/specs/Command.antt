@@ -1,11 +1,14 @@
 -- What a command line asks for: what clap is told, and what each of its answers means.
-use Rattle.std.specs.Prelude.{◌≡◌, ℕ, List, [], ◌∷◌, Bool, true, codes, Option, Some, IfSome, if◌then◌else◌, pos}
+use Rattle.std.specs.Prelude.{◌≡◌, ⊤, string_bytes, ℕ, List, [], ◌∷◌, Bool, true, codes, Option, Some, IfSome, if◌then◌else◌, pos}
 use Rattle.std.specs.Str.{bytes_eq}
 use Rattle.clap.specs.ValueTests.{is_unsigned_in}
 use Rattle.clap.specs.Words.{App, Row, Rule, Text, one_of}
 use Rattle.clap.specs.declared.builder.value_parser.ValueParser.TheVariants.{Signed}
 use Rattle.command_words.specs.Answered.{Answered, answered, met, said}
 use Rattle.command_words.specs.Asking.{flag_in, helps, is_flag, number_in}
+use Rattle.command_words.specs.Said.{IsMistake}
+use Rattle.command_words.specs.declared.saying.Saying.{Saying}
+use Rattle.command_words.specs.declared.saying.Saying.TheVariants as saying
 use Rattle.command_words.specs.Printed.{command_app, flag_rule, option_rule, program_app, with_commands}
 use Rattle.bench_types.specs.Limits.{max_span}
 use Rattle.bench_commands.specs.declared.execution.Mode.{Mode}
@@ -28,6 +31,26 @@ asked_in (Run mode) = a_run mode
 asked_in Record = a_recording
 asked_in (Help text) = help
 asked_in (Bad text) = a_mistake
+
+-- the text of help or of a mistake that it tells
+abbrev pub text_told : Request → List ℕ
+text_told (Run mode) = []
+text_told Record = []
+text_told (Help text) = string_bytes text
+text_told (Bad text) = string_bytes text
+
+-- a mistake is told by a text that begins with `error: `
+abbrev pub TellsMistake : Request → Type 0
+TellsMistake (Run mode) = ⊤
+TellsMistake Record = ⊤
+TellsMistake (Help text) = ⊤
+TellsMistake (Bad text) = IsMistake (string_bytes text)
+
+-- what is told of what clap says: its own text; the program has no version
+abbrev pub text_of_saying : Saying → List ℕ
+text_of_saying (saying.Help text) = string_bytes text
+text_of_saying saying.Version = codes "error: smp_bench tells no version\n"
+text_of_saying (saying.Mistake text) = string_bytes text
 
 -- a session may be opened with the span of the run, if one is asked for
 abbrev pub can_run : Request → Bool

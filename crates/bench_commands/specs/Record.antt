@@ -12,14 +12,14 @@ use Rattle.session_text.specs.declared.rig.RigScript.{RigScript}
 use Rattle.session_text.specs.Rig.{rig_text}
 use Rattle.session_write.specs.Written.{written}
 use Rattle.bench_commands.specs.declared.execution.Status.{Status}
-use Rattle.bench_commands.specs.declared.execution.Status.TheVariants.{Fine, Refused, Fault}
+use Rattle.bench_commands.specs.declared.execution.Status.TheVariants.{Fine, Refused, Gone, Fault}
 use Rattle.program_io.specs.declared.ending.RunFault.TheVariants.{Memory, Read, Write}
 use Rattle.program_io.specs.Refusal.{why_text}
 use Rattle.program_io.specs.Device.{ReadsInput, AppendsPrefix}
 use Rattle.program_io.specs.Endings.{WroteNothing}
 use Rattle.program_io.specs.Hint.{IsRigHint, IsRigTextHint}
 use Rattle.program_io.specs.Outputs.{Printed}
-use Rattle.program_io.specs.Twice.{twice_note}
+use Rattle.program_io.specs.Twice.{twice_note_as_read, twice_note_of_input}
 use Rattle.bench_commands.specs.Answer.{IsPrintedAnswer, Output, refused}
 
 -- a session that was recorded, and a line feed
@@ -57,13 +57,16 @@ pub record IsRecordingOf (input : List ℕ) (rig : Result RigScript TextFault) (
     : Type 0 where
   pub output : Output
   pub answer : IsAnswerTo rig output
-  pub tells : IsPrintedAnswer output (twice_note input) (IsRigTextHint input rig) printed
+  pub tells :
+      IsPrintedAnswer output (twice_note_as_read input rig) [] (IsRigTextHint input rig) printed
 
 -- what a recording tells of an input
 pub record IsRecording (input : List ℕ) (printed : Printed) : Type 0 where
   pub output : Output
   pub answer : IsAnswer input output
-  pub tells : IsPrintedAnswer output (twice_note input) (IsRigHint input) printed
+  pub tells :
+      IsPrintedAnswer output (twice_note_of_input input (rig_text input)) [] (IsRigHint input)
+      printed
 
 -- the input was read, and its whole answer written
 pub record WroteAnswer (read_old read_new write_old write_new : Option (List ℕ))
@@ -91,6 +94,8 @@ EndsRecord Fine read_old read_new write_old write_new =
     WroteAnswer read_old read_new write_old write_new false
 EndsRecord Refused read_old read_new write_old write_new =
     WroteAnswer read_old read_new write_old write_new true
+EndsRecord Gone read_old read_new write_old write_new =
+    WrotePartOfAnswer read_old read_new write_old write_new
 EndsRecord (Fault Memory) read_old read_new write_old write_new =
     WroteNothing read_old read_new write_old write_new
 EndsRecord (Fault Read) read_old read_new write_old write_new =

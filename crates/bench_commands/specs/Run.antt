@@ -1,16 +1,19 @@
 -- What a run has read and written when it ends.
-use Rattle.std.specs.Prelude.{◌≡◌, ℕ, List, Option, Bool, true, false}
+use Rattle.std.specs.Prelude.{◌≡◌, ℕ, List, Option, Some, None, Bool, true, false}
 use Rattle.std.specs.Io.KnownBytes.{Appends}
 use Rattle.bench_types.specs.Name.{is_within}
 use Rattle.bench_types.specs.Limits.{max_span}
 use Rattle.bench_commands.specs.declared.execution.Mode.{Mode}
 use Rattle.bench_commands.specs.declared.execution.Status.{Status}
 use Rattle.bench_commands.specs.declared.execution.Status.TheVariants.{Fine, Refused, Fault}
+use Rattle.bench_commands.specs.declared.execution.Status.TheVariants as status
 use Rattle.program_io.specs.declared.ending.Ending.{Ending}
 use Rattle.program_io.specs.declared.ending.Ending.TheVariants.{BadCommandLine, Failed, Gone, NotOpened, Written}
 use Rattle.program_io.specs.declared.output.OutputStatus.{OutputStatus}
 use Rattle.program_io.specs.declared.output.OutputStatus.TheVariants as went
 use Rattle.program_io.specs.declared.ending.RunFault.TheVariants.{Memory, Read, Write}
+use Rattle.program_io.specs.declared.writing.WriteFault.{WriteFault}
+use Rattle.program_io.specs.declared.writing.WriteFault.TheVariants as write
 use Rattle.program_io.specs.Device.{AppendsPrefix, ReadsInput}
 use Rattle.program_io.specs.Endings.{WroteNothing}
 use Rattle.bench_commands.specs.Answer.{output, span_of}
@@ -41,6 +44,8 @@ Ran mode Fine read_old read_new write_old write_new =
     Wrote mode read_old read_new write_old write_new false
 Ran mode Refused read_old read_new write_old write_new =
     Wrote mode read_old read_new write_old write_new true
+Ran mode status.Gone read_old read_new write_old write_new =
+    WrotePart mode read_old read_new write_old write_new
 Ran mode (Fault Memory) read_old read_new write_old write_new =
     WroteNothing read_old read_new write_old write_new
 Ran mode (Fault Read) read_old read_new write_old write_new =
@@ -52,6 +57,7 @@ Ran mode (Fault Write) read_old read_new write_old write_new =
 abbrev pub reads_well : Status → Bool
 reads_well Fine = true
 reads_well Refused = true
+reads_well status.Gone = true
 reads_well (Fault Memory) = true
 reads_well (Fault Read) = false
 reads_well (Fault Write) = true
@@ -60,9 +66,19 @@ reads_well (Fault Write) = true
 abbrev pub writes_well : Status → Bool
 writes_well Fine = true
 writes_well Refused = true
+writes_well status.Gone = false
 writes_well (Fault Memory) = true
 writes_well (Fault Read) = true
 writes_well (Fault Write) = false
+
+-- why the output was not written, if that is how a run ended
+abbrev pub fault_of_status : Status → Option WriteFault
+fault_of_status Fine = None
+fault_of_status Refused = None
+fault_of_status status.Gone = Some write.Gone
+fault_of_status (Fault Memory) = None
+fault_of_status (Fault Read) = None
+fault_of_status (Fault Write) = Some write.Failed
 
 -- a run or a recording may end like this
 abbrev pub is_of_run : Ending → Bool
@@ -83,5 +99,5 @@ abbrev pub status_of : Ending → Status
 status_of (Written status note) = status_of_output status
 status_of (BadCommandLine text) = Refused
 status_of (NotOpened line) = Refused
-status_of Gone = Fault Write
+status_of Gone = status.Gone
 status_of (Failed fault) = Fault fault

@@ -8,7 +8,8 @@ ghost use Rattle.session_text.specs.Bench.{IsCheckedBench, bench_text};
 ghost use Rattle.program_io.specs.Hint.{IsBenchTextHint, too_many_steps_line};
 ghost use Rattle.program_io.specs.Outputs.{refused_with};
 ghost use Rattle.program_io.specs.Refusal.{IsPrintedFault, refusal_line};
-ghost use Rattle.bench_commands.specs.Answer.{IsRun, IsPrintedAnswer, bench_notes, bench_output, output_of, output_of_bench, run_notes, printed_with};
+ghost use Rattle.program_io.specs.Twice.{twice_note_as_read};
+ghost use Rattle.bench_commands.specs.Answer.{IsRun, IsPrintedAnswer, bench_notes, bench_output, notes_of, output_of, output_of_bench, printed_with};
 ghost use Rattle.bench_commands.specs.Run.{has_span};
 ghost use Rattle.bench_commands.specs.declared.execution.Mode.TheVariants.{Replay, WhatIf};
 
@@ -17,14 +18,15 @@ use crate::output::{edited_replay, unedited_replay};
 use crate::trials::trial_lines;
 use bench_types::MAX_INPUT;
 use edit_notes::{refused_edits, refused_trials};
-use program_io::{Output, explained, too_long, twice_note, warned};
+use program_io::{Output, explained, too_long, twice_note, twice_note_of_refused, warned};
 use session_store::{NoResults, OpenRefusal, Store};
 use session_text::{Bench, Noted, TextFault, read_bench_noted};
 use smp_kernel::Meter;
 use std::alloc::{AllocError, Global};
 use std::thread::Threads;
 
-/// What is told of a text that was not read. Want of memory is no refusal.
+/// What is told of a text that was not read, first where a member of it stands twice. Want of
+/// memory is no refusal.
 pub(crate) fn refused_text(
     alloc: Global,
     input: &[u8],
@@ -33,7 +35,8 @@ pub(crate) fn refused_text(
     ensures printed { IfOk result (λ printed. IsPrintedFault refused_with input.now fault printed) }
     ensures memory { fault.why ≡ NoMemory → IsErr result }
 {
-    Ok(explained(alloc, input, fault)?.on_output())
+    let line = twice_note_of_refused(alloc, input)?;
+    warned(explained(alloc, input, fault)?.on_output(), line)
 }
 
 // What is told where no store was opened, which is a refusal only for J2.
@@ -191,7 +194,7 @@ fn printed_of_text<T: Threads + Sync>(
     requires { has_span mode ≡ true }
     ensures { IfOk result
         (λ printed. IsPrintedAnswer (output_of (bench_output mode) (bench_text input.now))
-        (run_notes mode input.now)
+        (twice_note_as_read input.now (bench_text input.now)) (notes_of mode (bench_text input.now))
         (IsBenchTextHint input.now (bench_text input.now)) printed) }
 {
     match read_bench_noted(alloc, input) {

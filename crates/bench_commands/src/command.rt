@@ -3,9 +3,9 @@ ghost use Rattle.std.specs.Prelude.{◌≡◌, IfOk, IfSome, map, option_map, fa
 ghost use Rattle.std.specs.Option.{IsSomeAnd};
 ghost use Rattle.clap.specs.Words.{app_of, found_of, rows_of, rule_of, subcommand_rows_of};
 ghost use Rattle.command_words.specs.Answered.{said};
-ghost use Rattle.command_words.specs.Said.{class_in};
+ghost use Rattle.command_words.specs.Said.{SaysMistake, class_in};
 ghost use Rattle.command_words.specs.Printed.{IsPrinted};
-ghost use Rattle.bench_commands.specs.Command.{AreTaken, asked, asked_by, asked_in, asked_for, bench_app, can_run, record_app, replay_app, span_in, span_rule, tally_in, tally_rule, what_if_app};
+ghost use Rattle.bench_commands.specs.Command.{AreTaken, TellsMistake, asked, asked_by, asked_in, asked_for, bench_app, can_run, record_app, replay_app, span_in, span_rule, tally_in, tally_rule, text_of_saying, text_told, what_if_app};
 
 use crate::execution::Mode;
 use bench_types::MAX_SPAN;
@@ -17,6 +17,9 @@ use std::convert::AsStr;
 /// The span of checkpoints where the command line gives none.
 pub const DEFAULT_SPAN: u32 = 64;
 
+/// Why there is no version. No words ask for one.
+const NO_VERSION: &str = "error: smp_bench tells no version\n";
+
 /// What a command line asks for.
 #[derive(Debug, Drop)]
 pub enum Request {
@@ -26,7 +29,7 @@ pub enum Request {
     Record,
     /// This help.
     Help(String),
-    /// Nothing that the program does; the text says why.
+    /// Nothing that the program does; the text says why, and begins with `error: `.
     Bad(String),
 }
 
@@ -135,13 +138,18 @@ fn bench_program<'a>(alloc: Global) -> Result<Command<'a>, AllocError>
 }
 
 // What clap says asks for this; there is no version that the program tells.
-fn said(saying: Saying) -> Request
-    ensures span { can_run result ≡ true }
-    ensures asked { asked_in result ≡ asked_by (said (class_in saying)) }
+fn said(alloc: Global, saying: Saying) -> Result<Request, AllocError>
+    requires { SaysMistake saying }
+    ensures span { IfOk result (λ request. can_run request ≡ true) }
+    ensures asked { IfOk result
+        (λ request. asked_in request ≡ asked_by (said (class_in saying))) }
+    ensures text { IfOk result (λ request. text_told request ≡ text_of_saying saying) }
+    ensures mark { IfOk result TellsMistake }
 {
     match saying {
-        Saying::Help(text) => Request::Help(text),
-        Saying::Version(text) | Saying::Mistake(text) => Request::Bad(text),
+        Saying::Help(text) => Ok(Request::Help(text)),
+        Saying::Version => Ok(Request::Bad(String::from_str(alloc, NO_VERSION)?)),
+        Saying::Mistake(text) => Ok(Request::Bad(text)),
     }
 }
 
@@ -186,9 +194,10 @@ pub fn request_of<S: AsStr>(alloc: Global, words: Option<&[S]>) -> Result<Reques
     ensures span { IfOk result (λ request. can_run request ≡ true) }
     ensures asked { IfOk result
         (λ request. asked_in request ≡ asked (option_map (λ all. map S.text all.now) words.entry)) }
+    ensures mark { IfOk result TellsMistake }
 {
     match parse_line(alloc, bench_program(alloc)?, words)? {
         Parsed::Met(matches) => Ok(asked_for(&matches)),
-        Parsed::Said(saying) => Ok(said(saying)),
+        Parsed::Said(saying) => said(alloc, saying),
     }
 }

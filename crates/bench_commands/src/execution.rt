@@ -1,9 +1,9 @@
 //! A run over any reader and writer.
 ghost use Rattle.std.specs.Prelude.{◌≡◌, true};
-ghost use Rattle.program_io.specs.Device.{failures_after};
+ghost use Rattle.program_io.specs.Device.{failures_after, later_fault};
 ghost use Rattle.program_io.specs.Endings.{EndsOver, EndsTelling};
 ghost use Rattle.bench_commands.specs.Answer.{IsRun, span_of};
-ghost use Rattle.bench_commands.specs.Run.{Ran, has_span, is_of_run, reads_well, status_of, writes_well};
+ghost use Rattle.bench_commands.specs.Run.{Ran, fault_of_status, has_span, is_of_run, reads_well, status_of, writes_well};
 
 use crate::answer::printed_of;
 use program_io::{CountedRead, CountedWrite, Ending, OutputStatus, RunFault, tell_of_input};
@@ -41,6 +41,8 @@ pub enum Status {
     Fine,
     /// The input was refused, and its refusal line written.
     Refused,
+    /// The reader of the output has gone. Some first bytes of the output went out, or none.
+    Gone,
     Fault(RunFault),
 }
 
@@ -53,7 +55,7 @@ impl Status {
         match ending {
             Ending::Written(OutputStatus::Fine, _) => Status::Fine,
             Ending::Written(OutputStatus::Failed | OutputStatus::Unknown, _) => Status::Refused,
-            Ending::Gone => Status::Fault(RunFault::Write),
+            Ending::Gone => Status::Gone,
             Ending::Failed(fault) => Status::Fault(fault),
             Ending::BadCommandLine(_) | Ending::NotOpened(_) => unreachable!(),
         }
@@ -100,6 +102,8 @@ pub fn run<T: Threads + Sync, R: CountedRead, W: CountedWrite>(
         ≡ failures_after (reads_well result) (R.seen reader.old).failures }
     ensures writes { (W.seen writer.new).failures
         ≡ failures_after (writes_well result) (W.seen writer.old).failures }
+    ensures fault { (W.seen writer.new).fault
+        ≡ later_fault (fault_of_status result) (W.seen writer.old).fault }
 {
     Status::of(end_of_run(rt, host, alloc, reader, writer, mode))
 }

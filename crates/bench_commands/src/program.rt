@@ -1,9 +1,9 @@
 //! The program, from the words of its command line to its end.
-ghost use Rattle.std.specs.Prelude.{map, option_map};
+ghost use Rattle.std.specs.Prelude.{◌≡◌, map, option_map, true};
 ghost use Rattle.std.specs.Process.{exit_status};
 ghost use Rattle.program_io.specs.Endings.{EndsOver, EndsProcess, EndsWith};
-ghost use Rattle.bench_commands.specs.Command.{asked};
-ghost use Rattle.bench_commands.specs.Program.{Ends, EndsAsked};
+ghost use Rattle.bench_commands.specs.Command.{can_run};
+ghost use Rattle.bench_commands.specs.Program.{Ends, EndsRequest};
 
 use crate::command::{Request, request_of};
 use crate::execution::end_of_run;
@@ -20,24 +20,24 @@ use std::process::ExitCode;
 use std::sync::Wait;
 use std::thread::Threads;
 
-// The same, where a reader of the output that has gone is no fault.
-fn end_of_words<T: Threads + Wait + Sync, S: AsStr, R: CountedRead, W: CountedWrite>(
+// Does what is asked for. Only a run or a recording reads.
+fn end_of_request<T: Threads + Wait + Sync, R: CountedRead, W: CountedWrite>(
     rt: &T,
     host: &HostRuntime,
     alloc: Global,
-    words: Option<&[S]>,
+    request: Request,
     reader: &mut R,
     writer: &mut W,
 ) -> Ending
-    ensures { EndsOver (EndsAsked (asked (option_map (λ all. map S.text all.now) words.entry)))
-        result (R.seen reader.old) (R.seen reader.new) (W.seen writer.old) (W.seen writer.new) }
+    requires { can_run request ≡ true }
+    ensures { EndsOver (EndsRequest request) result (R.seen reader.old) (R.seen reader.new)
+        (W.seen writer.old) (W.seen writer.new) }
 {
-    match request_of(alloc, words) {
-        Ok(Request::Run(mode)) => end_of_run(rt, host, alloc, reader, writer, &mode),
-        Ok(Request::Record) => end_of_recording(rt, host, alloc, reader, writer, &OpenGate),
-        Ok(Request::Help(text)) => show_text(alloc, writer, text.as_str()),
-        Ok(Request::Bad(text)) => Ending::BadCommandLine(text),
-        Err(_) => Ending::Failed(RunFault::Memory),
+    match request {
+        Request::Run(mode) => end_of_run(rt, host, alloc, reader, writer, &mode),
+        Request::Record => end_of_recording(rt, host, alloc, reader, writer, &OpenGate),
+        Request::Help(text) => show_text(alloc, writer, text.as_str()),
+        Request::Bad(text) => Ending::BadCommandLine(text),
     }
 }
 
@@ -54,7 +54,10 @@ pub fn carry_out<T: Threads + Wait + Sync, S: AsStr, R: CountedRead, W: CountedW
     ensures { EndsOver (Ends (option_map (λ all. map S.text all.now) words.entry)) result
         (R.seen reader.old) (R.seen reader.new) (W.seen writer.old) (W.seen writer.new) }
 {
-    end_of_words(rt, host, alloc, words, reader, writer).gone_as_fault()
+    match request_of(alloc, words) {
+        Ok(request) => end_of_request(rt, host, alloc, request, reader, writer),
+        Err(_) => Ending::Failed(RunFault::Memory),
+    }
 }
 
 // How the program ends with the words that the system hands over.
@@ -77,7 +80,8 @@ fn ending_of<T: Threads + Wait + Sync, R: CountedRead, W: CountedWrite>(
 
 /// The whole program: it does what the words of the command line ask for, over standard input and
 /// output, and tells standard error why it didn't. The exit status is 0 where all went well, 1 for
-/// a refused input, 2 for a bad command line, and 3 where memory or a device failed.
+/// a refused input, 2 for a bad command line, 3 where memory or a device failed, and 141 where the
+/// reader of standard output has gone.
 ///
 /// The words are those of [`std::env::args`]. Where standard error takes nothing, the exit status
 /// still tells.

@@ -1,16 +1,18 @@
 //! Recordings of the scripts of a rig document.
 ghost use Rattle.std.specs.Prelude.{◌≡◌, IfOk, false};
 ghost use Rattle.session_text.specs.Rig.{IsCheckedRig, rig_text};
-ghost use Rattle.program_io.specs.Device.{failures_after};
+ghost use Rattle.program_io.specs.Device.{failures_after, later_fault};
 ghost use Rattle.program_io.specs.Endings.{EndsOver, EndsTelling};
 ghost use Rattle.bench_commands.specs.Record.{EndsRecord, IsRecorded, IsRecording, IsRecordingOf};
-ghost use Rattle.bench_commands.specs.Run.{reads_well, writes_well};
+ghost use Rattle.bench_commands.specs.Run.{fault_of_status, reads_well, writes_well};
 
 use crate::answer::refused_text;
 use crate::execution::Status;
 use bench_types::MAX_INPUT;
 use core_scripts::{Gate, play};
-use program_io::{CountedRead, CountedWrite, Ending, Output, tell_of_input, too_long, twice_note};
+use program_io::{
+    CountedRead, CountedWrite, Ending, Output, tell_of_input, too_long, twice_note, warned,
+};
 use session_text::{Noted, RigScript, read_rig_noted};
 use session_write::write_session;
 use std::alloc::{AllocError, Global};
@@ -52,7 +54,7 @@ fn printed_of_text<R: Threads + Wait + Sync, G: Gate>(
         Ok(Noted { document, doubled }) => {
             let line = twice_note(alloc, input, doubled)?;
             let text = recorded(rt, host, alloc, &document, gate)?;
-            Ok(Output::fine(alloc, text).noted(line.into_bytes()))
+            warned(Output::fine(alloc, text), line)
         }
     }
 }
@@ -112,6 +114,8 @@ pub fn record<R: Threads + Wait + Sync, I: CountedRead, O: CountedWrite, G: Gate
         ≡ failures_after (reads_well result) (I.seen reader.old).failures }
     ensures writes { (O.seen writer.new).failures
         ≡ failures_after (writes_well result) (O.seen writer.old).failures }
+    ensures fault { (O.seen writer.new).fault
+        ≡ later_fault (fault_of_status result) (O.seen writer.old).fault }
 {
     Status::of(end_of_recording(rt, host, alloc, reader, writer, gate))
 }

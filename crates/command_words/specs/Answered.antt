@@ -1,10 +1,10 @@
 -- What clap answers to the words of a command line.
-use Rattle.std.specs.Prelude.{List, [], ◌∷◌, Option, Some, None}
+use Rattle.std.specs.Prelude.{⊤, List, [], ◌∷◌, Option, Some, None}
 use Rattle.clap.specs.Words.{App, Kinds, Row, Text, fault_of, subcommand_of, subcommand_rows_of}
 use Rattle.command_words.specs.declared.parsed.Parsed.{Parsed}
 use Rattle.command_words.specs.declared.parsed.Parsed.TheVariants.{Met, Said}
 use Rattle.command_words.specs.Asking.{Class, class_of, mistakes}
-use Rattle.command_words.specs.Said.{class_in}
+use Rattle.command_words.specs.Said.{SaysMistake, class_in}
 
 -- it says something in place of a command, or meets the command of this name with these options
 pub data Answered : Type 0 where
@@ -31,3 +31,8 @@ answered program None = said mistakes
 abbrev pub answered_in : Parsed → Answered
 answered_in (Said saying) = said (class_in saying)
 answered_in (Met matches) = answered_by [] (subcommand_rows_of matches)
+
+-- a mistake is told by a text that begins with `error: `
+abbrev pub ParsesMistake : Parsed → Type 0
+ParsesMistake (Said saying) = SaysMistake saying
+ParsesMistake (Met matches) = ⊤

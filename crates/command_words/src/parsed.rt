@@ -1,7 +1,7 @@
 //! What clap answers to the words of a command line.
 ghost use Rattle.std.specs.Prelude.{◌≡◌, IfOk, map, option_map};
 ghost use Rattle.clap.specs.Words.{app_of};
-ghost use Rattle.command_words.specs.Answered.{answered, answered_in, answered_in_words};
+ghost use Rattle.command_words.specs.Answered.{ParsesMistake, answered, answered_in, answered_in_words};
 ghost use Rattle.command_words.specs.Taken.{HasTaken, IsProgram};
 
 use crate::saying::{Saying, not_text, said_by};
@@ -28,6 +28,7 @@ fn answer_to<'a, S: AsStr>(
         (λ parsed. answered_in parsed
         ≡ answered_in_words (app_of program.entry) (map S.text words.entry.now)) }
     ensures taken { IfOk result (HasTaken (app_of program.entry)) }
+    ensures mark { IfOk result ParsesMistake }
 {
     match program.try_get_matches_from(words) {
         Ok(matches) => Ok(Parsed::Met(matches)),
@@ -47,6 +48,7 @@ pub fn parse_line<'a, S: AsStr>(
         (λ parsed. answered_in parsed
         ≡ answered (app_of program.entry) (option_map (λ all. map S.text all.now) words.entry)) }
     ensures taken { IfOk result (HasTaken (app_of program.entry)) }
+    ensures mark { IfOk result ParsesMistake }
 {
     match words {
         Some(words) => answer_to(alloc, program, words),

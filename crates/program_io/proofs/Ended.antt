@@ -1,10 +1,8 @@
 -- What was read and written when a program ends.
-use Rattle.std.proofs.Common.{◌≡◌, ◌≢◌, ℕ, ◌+◌, List, [], Bool, true, Bor, Option, Some, None, Result, Ok, Err, IfOk, Vec, map, option_map, string_bytes, refl}
+use Rattle.std.proofs.Common.{◌≡◌, ℕ, ◌+◌, List, [], true, Bor, Option, Some, None, Result, Ok, Err, IfOk, Vec, map, option_map, string_bytes, refl}
 use Rattle.std.proofs.Common.{sym, ap, subst, ◌∙◌, arith}
 use Rattle.std.specs.Prelude.{String}
 use Rattle.std.specs.declared.alloc.Global.{Global}
-use Rattle.std.specs.IoError.{error_kind}
-use Rattle.std.specs.declared.io.ErrorKind.TheVariants.{InvalidData}
 use Rattle.bench_types.specs.Limits.{max_input}
 use Rattle.program_io.specs.declared.ending.Ending.{Ending}
 use Rattle.program_io.specs.declared.ending.Ending.TheVariants.{BadCommandLine, Failed, Gone, NotOpened, Written}
@@ -12,9 +10,9 @@ use Rattle.program_io.specs.declared.ending.RunFault.TheVariants.{Memory, Read, 
 use Rattle.program_io.specs.declared.input.InputFault.{InputFault}
 use Rattle.program_io.specs.declared.input.InputFault.TheVariants as input
 use Rattle.program_io.specs.declared.output.OutputStatus.TheVariants.{Fine, Failed as Refused, Unknown}
-use Rattle.program_io.specs.Device.{DeviceState, failures_after, ReadsInput, ReadsSome, reads_on}
+use Rattle.program_io.specs.Device.{DeviceState, failures_after, later_fault, ReadsInput, ReadsSome, reads_on}
 use Rattle.program_io.specs.Endings.{Account, all_reads_well, all_writes_well, AreGiven, Bytes, Ends, EndsBad, EndsHelp, EndsOver, EndsTelling, EndsWith}
-use Rattle.program_io.specs.Endings.{EndsWriting, Shows, gone_as_fault, unread, Words}
+use Rattle.program_io.specs.Endings.{EndsShowing, EndsWriting, Shows, fault_of_end, unread, Words}
 use Rattle.program_io.specs.Outputs.{Printed}
 
 -- ---- what a command tells
@@ -50,15 +48,6 @@ module _ (Promises : List ℕ → Printed → Type 0) (read_old read_new write_o
       read_new write_old write_new
   unread_ended input.Memory reads same = record { reads = reads; writes = same }
   unread_ended input.Read reads same = record { reads = reads; writes = same }
-
-  -- where the reader of the output has gone, some first bytes of it were written
-  pub gone_telling : (ending : Ending) → EndsTelling Promises ending read_old read_new write_old write_new → EndsTelling Promises (gone_as_fault ending)
-      read_old read_new write_old write_new
-  gone_telling (Written status note) ended = ended
-  gone_telling (BadCommandLine text) ended = ended
-  gone_telling (NotOpened line) ended = ended
-  gone_telling Gone ended = ended
-  gone_telling (Failed fault) ended = ended
 
 -- where it promises more, it promises this
 pub promises_less : (P Q : List ℕ → Printed → Type 0) (ending : Ending) (read_old read_new write_old write_new : Bytes) →
@@ -104,59 +93,19 @@ none_read (Some bytes) = record { bytes = []; consumes = refl; within = omega ar
 pub nothing_printed : (Promises : List ℕ → Printed → Type 0) (read write : Bytes) → EndsTelling Promises (Failed Memory) read read write write
 nothing_printed Promises read write = record { reads = none_read read; writes = refl }
 
--- ---- help
+-- ---- texts that are shown
 
-pub help_ended : (text : List ℕ) (ending : Ending) (read write_old write_new : Bytes) → Shows text ending write_old write_new → EndsHelp ending read read
-    write_old write_new
-help_ended text (Written Fine note) read write_old write_new shows = (refl, (text, shows))
-help_ended text (Written Refused note) read write_old write_new shows = absurd shows
-help_ended text (Written Unknown note) read write_old write_new shows = absurd shows
-help_ended text (BadCommandLine words) read write_old write_new shows = absurd shows
-help_ended text (NotOpened line) read write_old write_new shows = absurd shows
-help_ended text Gone read write_old write_new shows = (refl, (text, shows))
-help_ended text (Failed Memory) read write_old write_new shows = absurd shows
-help_ended text (Failed Read) read write_old write_new shows = absurd shows
-help_ended text (Failed Write) read write_old write_new shows = (refl, (text, shows))
-
--- ---- a write that failed, in place of a reader that has gone
-
-pub gone_help : (ending : Ending) (read_old read_new write_old write_new : Bytes) → EndsHelp ending read_old read_new write_old write_new → EndsHelp
-    (gone_as_fault ending) read_old read_new write_old write_new
-gone_help (Written status note) read_old read_new write_old write_new ended = ended
-gone_help (BadCommandLine text) read_old read_new write_old write_new ended = ended
-gone_help (NotOpened line) read_old read_new write_old write_new ended = ended
-gone_help Gone read_old read_new write_old write_new ended = ended
-gone_help (Failed fault) read_old read_new write_old write_new ended = ended
-
-pub gone_bad : (ending : Ending) (read_old read_new write_old write_new : Bytes) → EndsBad ending read_old read_new write_old write_new → EndsBad
-    (gone_as_fault ending) read_old read_new write_old write_new
-gone_bad (Written status note) read_old read_new write_old write_new ended = ended
-gone_bad (BadCommandLine text) read_old read_new write_old write_new ended = ended
-gone_bad (NotOpened line) read_old read_new write_old write_new ended = ended
-gone_bad Gone read_old read_new write_old write_new ended = absurd ended
-gone_bad (Failed fault) read_old read_new write_old write_new ended = ended
-
-pub gone_reads : (ending : Ending) → all_reads_well (gone_as_fault ending) ≡ all_reads_well ending
-gone_reads (Written status note) = refl
-gone_reads (BadCommandLine text) = refl
-gone_reads (NotOpened line) = refl
-gone_reads Gone = refl
-gone_reads (Failed fault) = refl
-
-pub gone_writes : (ending : Ending) → all_writes_well (gone_as_fault ending) ≡ all_writes_well ending
-gone_writes (Written status note) = refl
-gone_writes (BadCommandLine text) = refl
-gone_writes (NotOpened line) = refl
-gone_writes Gone = refl
-gone_writes (Failed fault) = refl
-
--- none is left
-pub never_gone : (ending : Ending) → gone_as_fault ending ≢ Gone
-never_gone (Written status note) is = cc is
-never_gone (BadCommandLine text) is = cc is
-never_gone (NotOpened line) is = cc is
-never_gone Gone is = cc is
-never_gone (Failed fault) is = cc is
+pub text_ended : (text : List ℕ) (ending : Ending) (read write_old write_new : Bytes) → Shows text ending write_old write_new → EndsShowing text ending read
+    read write_old write_new
+text_ended text (Written Fine note) read write_old write_new shows = (refl, shows)
+text_ended text (Written Refused note) read write_old write_new shows = absurd shows
+text_ended text (Written Unknown note) read write_old write_new shows = absurd shows
+text_ended text (BadCommandLine words) read write_old write_new shows = absurd shows
+text_ended text (NotOpened line) read write_old write_new shows = absurd shows
+text_ended text Gone read write_old write_new shows = (refl, shows)
+text_ended text (Failed Memory) read write_old write_new shows = absurd shows
+text_ended text (Failed Read) read write_old write_new shows = absurd shows
+text_ended text (Failed Write) read write_old write_new shows = (refl, shows)
 
 -- ---- reads that failed
 
@@ -214,17 +163,7 @@ module _ (read_old read_new write_old write_new : DeviceState) where
   pub over_also : (account also : Account) (ending : Ending) → (account ending read_old.bytes read_new.bytes write_old.bytes write_new.bytes → also ending
       read_old.bytes read_new.bytes write_old.bytes write_new.bytes)
       → EndsOver account ending read_old read_new write_old write_new → EndsOver also ending read_old read_new write_old write_new
-  over_also account also ending so over = record { bytes = so over.bytes; reads = over.reads; writes = over.writes }
-
-  -- where the reader of the output has gone, it is a write that failed
-  pub gone_over : (account also : Account) (ending : Ending) → (account ending read_old.bytes read_new.bytes write_old.bytes write_new.bytes → also
-      (gone_as_fault ending) read_old.bytes read_new.bytes write_old.bytes write_new.bytes)
-      → EndsOver account ending read_old read_new write_old write_new → EndsOver also (gone_as_fault ending) read_old read_new write_old write_new
-  gone_over account also ending so over = record {
-    bytes = so over.bytes;
-    reads = over.reads ∙ sym (ap (λ well. failures_after well read_old.failures) (gone_reads ending));
-    writes = over.writes ∙ sym (ap (λ well. failures_after well write_old.failures) (gone_writes ending));
-  }
+  over_also account also ending so over = record { bytes = so over.bytes; reads = over.reads; writes = over.writes; fault = over.fault }
 
   -- it is told by the words of the process, which are those that are lent of them
   pub words_over : (ends : Ends) (words : Words) (lent : Option (Bor (List (String Global)))) (given : Option (Vec (String Global) Global)) (ending : Ending) →
@@ -240,14 +179,43 @@ module _ (read_old read_new write_old write_new : DeviceState) where
 -- memory was refused before anything was read or written
 pub refused_over : (account : Account) (read write : DeviceState) → account (Failed Memory) read.bytes read.bytes write.bytes write.bytes → EndsOver account
     (Failed Memory) read read write write
-refused_over account read write so = record { bytes = so; reads = refl; writes = refl }
+refused_over account read write so = record { bytes = so; reads = refl; writes = refl; fault = refl }
 
 -- a text was shown
 pub shown_over : (text : List ℕ) (ending : Ending) (read write_old write_new : DeviceState) → Shows text ending write_old.bytes write_new.bytes → all_reads_well
     ending ≡ true → write_new.failures ≡ failures_after (all_writes_well ending) write_old.failures
-    → EndsOver EndsHelp ending read read write_old write_new
-shown_over text ending read write_old write_new shows reads writes = record {
-  bytes = help_ended text ending read.bytes write_old.bytes write_new.bytes shows;
+    → write_new.fault ≡ later_fault (fault_of_end ending) write_old.fault → EndsOver (EndsShowing text) ending read read write_old write_new
+shown_over text ending read write_old write_new shows reads writes fault = record {
+  bytes = text_ended text ending read.bytes write_old.bytes write_new.bytes shows;
   reads = sym (ap (λ well. failures_after well read.failures) reads);
   writes = writes;
+  fault = fault;
 }
+
+-- the same, where any text may be
+pub help_over : (text : List ℕ) (ending : Ending) (read_old read_new write_old write_new : DeviceState) → EndsOver (EndsShowing text) ending read_old read_new
+    write_old write_new → EndsOver EndsHelp ending read_old read_new write_old write_new
+help_over text ending read_old read_new write_old write_new over =
+    over_also read_old read_new write_old write_new (EndsShowing text) EndsHelp ending (λ shows. (text, shows)) over
+
+-- no write failed where the input was not read
+pub unread_fault : (fault : InputFault) → fault_of_end (unread fault) ≡ None
+unread_fault input.Memory = refl
+unread_fault input.Read = refl
+
+-- a bad command line of which such a text is told, where more may be
+bad_less : (P Q : List ℕ → Type 0) (ending : Ending) (read_old read_new write_old write_new : Bytes) → ((text : List ℕ) → P text → Q text) → EndsBad P ending
+    read_old read_new write_old write_new → EndsBad Q ending read_old read_new write_old write_new
+bad_less P Q (BadCommandLine text) read_old read_new write_old write_new less ended = (less (string_bytes text) ended.0, ended.1)
+bad_less P Q (Failed Memory) read_old read_new write_old write_new less ended = ended
+bad_less P Q (Failed Read) read_old read_new write_old write_new less ended = absurd ended
+bad_less P Q (Failed Write) read_old read_new write_old write_new less ended = absurd ended
+bad_less P Q (Written status note) read_old read_new write_old write_new less ended = absurd ended
+bad_less P Q (NotOpened line) read_old read_new write_old write_new less ended = absurd ended
+bad_less P Q Gone read_old read_new write_old write_new less ended = absurd ended
+
+pub bad_over : (P Q : List ℕ → Type 0) (ending : Ending) (read_old read_new write_old write_new : DeviceState) → ((text : List ℕ) → P text → Q text) →
+    EndsOver (EndsBad P) ending read_old read_new write_old write_new → EndsOver (EndsBad Q) ending read_old read_new write_old write_new
+bad_over P Q ending read_old read_new write_old write_new less over =
+    over_also read_old read_new write_old write_new (EndsBad P) (EndsBad Q) ending
+    (bad_less P Q ending read_old.bytes read_new.bytes write_old.bytes write_new.bytes less) over

@@ -4,7 +4,9 @@ use Rattle.std.proofs.Common.{append_assoc, subst, arith}
 use Rattle.std.proofs.Math.Seq.{take-add}
 use Rattle.std.proofs.lemmas.List.{take_all, length-drop}
 use Rattle.std.specs.Io.KnownBytes.{Appends}
-use Rattle.program_io.specs.Device.{failures_after, took_some}
+use Rattle.std.specs.declared.io.Error.{Error}
+use Rattle.program_io.specs.declared.writing.WriteFault.{WriteFault}
+use Rattle.program_io.specs.Device.{failures_after, later_fault, took_some, write_fault}
 
 -- two writes in a row
 pub appends_append : (a b c : Option (List ℕ)) (xs ys : List ℕ) → Appends a b xs → Appends b c ys → Appends a c (xs ++ ys)
@@ -35,6 +37,13 @@ pub none_counted : {E : Type 0} (result : Result ℕ E) (count failures : ℕ) �
 none_counted (Ok zero) count failures took some = absurd (some (ap (λ r. is_count 0 r) (sym took)))
 none_counted (Ok (suc n)) count failures took some = refl
 none_counted (Err fault) count failures took some = absurd (some (ap (λ r. is_count 0 r) (sym took)))
+
+-- nor is there another reason why the last one did
+pub none_later : (result : Result ℕ Error) (count : ℕ) (fault : Option WriteFault) → result ≡ Ok count → count ≢ 0 → later_fault (write_fault result) fault ≡
+    fault
+none_later (Ok zero) count fault took some = absurd (some (ap (λ r. is_count 0 r) (sym took)))
+none_later (Ok (suc n)) count fault took some = refl
+none_later (Err error) count fault took some = absurd (some (ap (λ r. is_count 0 r) (sym took)))
 
 -- the whole text was written
 pub appends_whole : (a b : Option (List ℕ)) (n : ℕ) (text : List ℕ) → length text ≤ n → Appends a b (take n text) → Appends a b text

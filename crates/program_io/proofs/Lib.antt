@@ -4,3 +4,4 @@ mod KnownOutput
 mod LocationsFound
 mod Prompted
 pub mod Printed
+mod RefusedNotes

@@ -1,7 +1,9 @@
 -- What is known of reads and writes that are counted.
-use Rattle.std.specs.Prelude.{◌≡◌, ◌⊎◌, ℕ, zero, suc, ◌+◌, ◌-◌, ◌≤◌, ◌^◌, min, List, ◌++◌, length, take, Option, Bool, true, false, Result, Ok, Err}
+use Rattle.std.specs.Prelude.{◌≡◌, ◌⊎◌, ℕ, zero, suc, ◌+◌, ◌-◌, ◌≤◌, ◌^◌, min, List, ◌++◌, length, take, Option, Some, None, Bool, true, false, Result, Ok, Err}
 use Rattle.std.specs.Prelude.{if◌then◌else◌}
 use Rattle.std.specs.Io.KnownBytes.{Appends, Consumes, IsAtEnd}
+use Rattle.std.specs.IoError.{error_kind}
+use Rattle.std.specs.declared.io.Error.{Error}
 use Rattle.std.specs.declared.io.ErrorKind.{ErrorKind}
 use Rattle.std.specs.declared.io.ErrorKind.TheVariants as kind
 use Rattle.bench_types.specs.Limits.{max_input}
@@ -56,18 +58,42 @@ reads_on (Err Read) = false
 abbrev pub AppendsPrefix : Option (List ℕ) → Option (List ℕ) → List ℕ → Type 0
 AppendsPrefix old new text = (count : ℕ) × Appends old new (take count text)
 
--- a device: its bytes, where they are known, and how many of its reads or writes failed
+-- a device: its bytes, where they are known, how many of its reads or writes failed, and why the
+-- last write that failed did
 pub record DeviceState : Type 0 where
   pub bytes : Option (List ℕ)
   pub failures : ℕ
+  pub fault : Option WriteFault
 
+abbrev pub written_device : Option (List ℕ) → ℕ → Option WriteFault → DeviceState
+written_device bytes failures fault =
+    record { bytes = bytes; failures = failures; fault = fault }
+
+-- one of which no write is told that failed
 abbrev pub device : Option (List ℕ) → ℕ → DeviceState
-device bytes failures = record { bytes = bytes; failures = failures }
+device bytes failures = written_device bytes failures None
 
--- by the kind of the error of a write, why not the whole text was written
+-- By the kind of the error of a write, why it failed: the reader has gone where the pipe to it is
+-- broken, and nowhere else.
 abbrev pub fault_of_kind : ErrorKind → WriteFault
 fault_of_kind kind.BrokenPipe = Gone
 fault_of_kind _ = Failed
+
+-- why a write failed, if it did; one that took no byte did
+abbrev pub write_fault : Result ℕ Error → Option WriteFault
+write_fault (Ok zero) = Some Failed
+write_fault (Ok (suc n)) = None
+write_fault (Err error) = Some (fault_of_kind (error_kind error))
+
+-- why the last write that failed did, after one more write
+abbrev pub later_fault : Option WriteFault → Option WriteFault → Option WriteFault
+later_fault None before = before
+later_fault (Some fault) before = Some fault
+
+-- the same after the writes of a text
+abbrev pub fault_left : {A : Type 0} → Result A WriteFault → Option WriteFault → Option WriteFault
+fault_left (Ok done) before = before
+fault_left (Err fault) before = Some fault
 
 -- the text was written, or some first bytes of it where a write failed
 abbrev pub Tells : Bool → Option (List ℕ) → Option (List ℕ) → List ℕ → Type 0

@@ -19,7 +19,7 @@ use Rattle.program_io.specs.declared.output.OutputStatus.{OutputStatus}
 use Rattle.program_io.specs.declared.output.OutputStatus.TheVariants.{Fine}
 use Rattle.program_io.specs.declared.writing.WriteFault.{WriteFault}
 use Rattle.program_io.specs.declared.writing.WriteFault.TheVariants as write
-use Rattle.program_io.specs.Device.{AppendsPrefix, DeviceState, ReadsInput, ReadsSome, WritesText, failures_after}
+use Rattle.program_io.specs.Device.{AppendsPrefix, DeviceState, ReadsInput, ReadsSome, WritesText, failures_after, later_fault}
 use Rattle.program_io.specs.Outputs.{Printed, status_code}
 
 -- ---- the end of a program
@@ -74,13 +74,15 @@ abbrev pub unwritten : WriteFault → Ending
 unwritten write.Gone = Gone
 unwritten write.Failed = Failed Write
 
--- where the reader of the output has gone, a write that failed
-abbrev pub gone_as_fault : Ending → Ending
-gone_as_fault (Written status note) = Written status note
-gone_as_fault (BadCommandLine text) = BadCommandLine text
-gone_as_fault (NotOpened line) = NotOpened line
-gone_as_fault Gone = Failed Write
-gone_as_fault (Failed fault) = Failed fault
+-- why the output was not written, if that is how the program ends
+abbrev pub fault_of_end : Ending → Option WriteFault
+fault_of_end (Written status note) = None
+fault_of_end (BadCommandLine text) = None
+fault_of_end (NotOpened line) = None
+fault_of_end Gone = Some write.Gone
+fault_of_end (Failed Memory) = None
+fault_of_end (Failed Read) = None
+fault_of_end (Failed Write) = Some write.Failed
 
 -- ---- what was read and written
 
@@ -92,12 +94,14 @@ Bytes = Option (List ℕ)
 abbrev pub Account : Type 1
 Account = Ending → Bytes → Bytes → Bytes → Bytes → Type 0
 
--- it is so over a reader and a writer, and the read or the write that failed is counted
+-- It is so over a reader and a writer, and the read or the write that failed is counted. Where a
+-- write failed the program ends by its error.
 pub record EndsOver (account : Account) (ending : Ending)
     (read_old read_new write_old write_new : DeviceState) : Type 0 where
   pub bytes : account ending read_old.bytes read_new.bytes write_old.bytes write_new.bytes
   pub reads : read_new.failures ≡ failures_after (all_reads_well ending) read_old.failures
   pub writes : write_new.failures ≡ failures_after (all_writes_well ending) write_old.failures
+  pub fault : write_new.fault ≡ later_fault (fault_of_end ending) write_old.fault
 
 -- neither read nor written
 abbrev pub Untouched : Bytes → Bytes → Bytes → Bytes → Type 0
@@ -160,20 +164,25 @@ Shows text Gone old new = AppendsPrefix old new text
 Shows text (Failed Write) old new = AppendsPrefix old new text
 Shows text _ old new = ⊥
 
--- some text was shown, and nothing read; or memory was refused before
-abbrev pub EndsHelp : Account
-EndsHelp (Failed Memory) read_old read_new write_old write_new =
+-- a text was shown, and nothing read; or memory was refused before
+abbrev pub EndsShowing : List ℕ → Account
+EndsShowing text (Failed Memory) read_old read_new write_old write_new =
     Untouched read_old read_new write_old write_new
-EndsHelp ending read_old read_new write_old write_new =
-    (read_new ≡ read_old) × ((text : List ℕ) × Shows text ending write_old write_new)
+EndsShowing text ending read_old read_new write_old write_new =
+    (read_new ≡ read_old) × Shows text ending write_old write_new
 
--- a bad command line, or memory was refused before that was known
-abbrev pub EndsBad : Account
-EndsBad (BadCommandLine text) read_old read_new write_old write_new =
+-- the same of some text
+abbrev pub EndsHelp : Account
+EndsHelp ending read_old read_new write_old write_new =
+    (text : List ℕ) × EndsShowing text ending read_old read_new write_old write_new
+
+-- a bad command line, of which such a text is told; or memory was refused before that was known
+abbrev pub EndsBad : (List ℕ → Type 0) → Account
+EndsBad IsTold (BadCommandLine text) read_old read_new write_old write_new =
+    IsTold (string_bytes text) × Untouched read_old read_new write_old write_new
+EndsBad IsTold (Failed Memory) read_old read_new write_old write_new =
     Untouched read_old read_new write_old write_new
-EndsBad (Failed Memory) read_old read_new write_old write_new =
-    Untouched read_old read_new write_old write_new
-EndsBad _ read_old read_new write_old write_new = ⊥
+EndsBad IsTold _ read_old read_new write_old write_new = ⊥
 
 -- ---- the process
 

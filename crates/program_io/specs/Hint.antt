@@ -8,7 +8,7 @@ use Rattle.bench_types.specs.declared.flaw.HeaderFlaw.{HeaderFlaw}
 use Rattle.bench_types.specs.declared.flaw.HeaderFlaw.TheVariants.{Cores, Priorities, Mutexes, Notes, TaskCount, NoName, Priority, Mask, SharedName}
 use Rattle.bench_types.specs.declared.step_flaw.StepFlaw.{StepFlaw}
 use Rattle.bench_types.specs.declared.step_flaw.StepFlaw.TheVariants as flaws
-use Rattle.bench_types.specs.Limits.{min_cores, max_cores, max_priorities, max_tasks, max_mutexes, max_notes, max_input, max_steps}
+use Rattle.bench_types.specs.Limits.{min_cores, max_cores, max_priorities, max_tasks, max_mutexes, max_notes, max_name, max_input, max_steps}
 use Rattle.session_text.specs.declared.bench.Bench.{Bench}
 use Rattle.session_text.specs.declared.detail.Detail.{Detail}
 use Rattle.session_text.specs.declared.detail.Detail.TheVariants as detail
@@ -87,15 +87,19 @@ task_text task text = codes "header: tasks[" ++ decimal task ++ codes "]" ++ tex
 abbrev pub task_limit_text : ℕ → List ℕ → ℕ → List ℕ
 task_limit_text task text n = codes "header: tasks[" ++ decimal task ++ codes "]" ++ text ++ decimal n
 
+-- a text that is no name of a user task, which has so many bytes at most
+abbrev pub bad_name_text : ℕ → ℕ → List ℕ
+bad_name_text task most =
+    task_limit_text task (codes ".name has to be 1 to ") most
+    ++ codes " characters from ! to ~, and not begin with IDLE"
+
 abbrev pub flaw_text : HeaderFlaw → List ℕ
 flaw_text (Cores n) = limits_text (codes "cores") n min_cores max_cores
 flaw_text (Priorities n) = limits_text (codes "priorities") n 1 max_priorities
 flaw_text (Mutexes n) = limits_text (codes "mutexes") n 0 max_mutexes
 flaw_text (Notes n) = limits_text (codes "notes") n 1 max_notes
 flaw_text (TaskCount n) = limits_text (codes "the number of tasks") n 1 max_tasks
-flaw_text (NoName task) =
-    task_text task
-    (codes ".name has to be 1 to 15 characters from ! to ~, and not begin with IDLE")
+flaw_text (NoName task) = bad_name_text task max_name
 flaw_text (Priority task priorities) =
     task_limit_text task (codes ".priority has to be below ") priorities
 flaw_text (Mask task cores) =

@@ -1,5 +1,5 @@
 -- What a program tells of an input.
-use Rattle.std.specs.Prelude.{ℕ, List, [], ◌++◌}
+use Rattle.std.specs.Prelude.{ℕ, List, []}
 use Rattle.program_io.specs.declared.output.OutputStatus.{OutputStatus}
 use Rattle.program_io.specs.declared.output.OutputStatus.TheVariants.{Fine, Failed, Unknown}
 

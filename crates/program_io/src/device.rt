@@ -1,9 +1,10 @@
-//! Readers and writers that count what failed.
-ghost use Rattle.std.specs.Prelude.{◌≡◌, ◌+◌, ◌-◌, ◌^◌, min, length, is_ok, refl};
+//! Readers and writers that count what failed, and keep why the last write did.
+ghost use Rattle.std.specs.Prelude.{◌≡◌, ◌+◌, ◌-◌, ◌^◌, min, length, is_ok, refl, Some, None};
 ghost use Rattle.std.specs.Io.{ReadsAtMost, WritesAtMost};
-ghost use Rattle.std.specs.Io.KnownBytes.{ReadConsumes, WriteAppends};
-ghost use Rattle.program_io.specs.Device.{DeviceState, device, failures_after, took_some};
+ghost use Rattle.std.specs.Io.KnownBytes.{Keeps, ReadConsumes, WriteAppends};
+ghost use Rattle.program_io.specs.Device.{DeviceState, device, failures_after, later_fault, one_more, took_some, write_fault, written_device};
 
+use crate::writing::{WriteFault, fault_of};
 use std::io;
 use std::io::{Read, Write};
 
@@ -29,7 +30,8 @@ pub trait CountedRead: Read {
 
 /// A writer that counts the writes that failed. A write that took no byte is one.
 pub trait CountedWrite: Write {
-    // What is seen of it: what it holds, where that is known, and how many writes failed.
+    // What is seen of it: what it holds, where that is known, how many writes failed, and why the
+    // last of them did.
     ghost seen: { Self → DeviceState };
 
     /// How many writes failed, at most `u64::MAX`.
@@ -41,17 +43,20 @@ pub trait CountedWrite: Write {
         ensures bound { WritesAtMost result buf.now }
         ensures bytes { WriteAppends (seen self.old).bytes (seen self.new).bytes result buf.now }
         ensures count { (seen self.new).failures
-            ≡ failures_after (took_some result) (seen self.old).failures };
+            ≡ failures_after (took_some result) (seen self.old).failures }
+        ensures fault { (seen self.new).fault
+            ≡ later_fault (write_fault result) (seen self.old).fault };
 
     // The bytes are those of any writer.
     ghost is_seen: { (it : Self) → (seen it).bytes ≡ Self.contents it };
 }
 
-/// A device with its count of failures, at first 0.
+/// A device with its count of failures, at first 0, and why the last write that failed did.
 #[derive(Drop)]
 pub struct Counted<D> {
     pub(crate) device: D,
     failures: u64,
+    fault: Option<WriteFault>,
 }
 
 impl<D> Counted<D> {
@@ -59,10 +64,12 @@ impl<D> Counted<D> {
     pub fn new(device: D) -> Self
         ensures device { result.device ≡ device }
         ensures failures { result.failures ≡ 0 }
+        ensures fault { result.fault ≡ None }
     {
         Counted {
             device,
             failures: 0,
+            fault: None,
         }
     }
 
@@ -71,6 +78,16 @@ impl<D> Counted<D> {
         ensures { result ≡ self.now.failures }
     {
         self.failures
+    }
+
+    // One more write failed, and why.
+    fn note(&mut self, fault: WriteFault)
+        ensures device { self.new.device ≡ self.old.device }
+        ensures count { self.new.failures ≡ one_more self.old.failures }
+        ensures fault { self.new.fault ≡ Some fault }
+    {
+        self.failures = self.failures.saturating_add(1);
+        self.fault = Some(fault);
     }
 }
 
@@ -113,17 +130,23 @@ impl<D: Write> Write for Counted<D> {
         ensures bytes { WriteAppends (D.contents self.old.device)
             (D.contents self.new.device) result buf.now }
         ensures count { self.new.failures ≡ failures_after (took_some result) self.old.failures }
+        ensures fault { self.new.fault ≡ later_fault (write_fault result) self.old.fault }
     {
         self.write_counted(buf)
     }
 
-    fn flush(&mut self) -> io::Result<()> {
+    // It is the device's own, and no write: what is counted stays.
+    fn flush(&mut self) -> io::Result<()>
+        ensures bytes { Keeps (D.contents self.old.device) (D.contents self.new.device) }
+        ensures count { self.new.failures ≡ self.old.failures }
+        ensures fault { self.new.fault ≡ self.old.fault }
+    {
         self.device.flush()
     }
 }
 
 impl<D: Write> CountedWrite for Counted<D> {
-    ghost seen = { λ it. device (D.contents it.device) it.failures };
+    ghost seen = { λ it. written_device (D.contents it.device) it.failures it.fault };
 
     ghost is_seen = { λ it. refl };
 
@@ -132,10 +155,18 @@ impl<D: Write> CountedWrite for Counted<D> {
     }
 
     fn write_counted(&mut self, buf: &[u8]) -> io::Result<usize> {
-        let result = self.device.write(buf);
-        if !matches!(result, Ok(1..)) {
-            self.failures = self.failures.saturating_add(1);
+        match self.device.write(buf) {
+            Ok(count) => {
+                if count == 0 {
+                    self.note(WriteFault::Failed);
+                    return Ok(0);
+                }
+                Ok(count)
+            }
+            Err(error) => {
+                self.note(fault_of(&error));
+                Err(error)
+            }
         }
-        result
     }
 }

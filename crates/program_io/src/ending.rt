@@ -1,8 +1,8 @@
 //! How a program ends.
 ghost use Rattle.std.specs.Prelude.{◌≡◌, IfOk, map, option_map, string_bytes, true};
 ghost use Rattle.std.specs.Process.{exit_status};
-ghost use Rattle.program_io.specs.Device.{WritesText, failures_after};
-ghost use Rattle.program_io.specs.Endings.{AreGiven, EndsWriting, Shows, all_reads_well, all_writes_well, exit_code, gone_as_fault, message, unread, unwritten};
+ghost use Rattle.program_io.specs.Device.{WritesText, failures_after, later_fault};
+ghost use Rattle.program_io.specs.Endings.{AreGiven, EndsWriting, Shows, all_reads_well, all_writes_well, exit_code, fault_of_end, message, unread, unwritten};
 
 use crate::device::CountedWrite;
 use crate::input::InputFault;
@@ -82,16 +82,6 @@ impl Ending {
             InputFault::Read => Ending::Failed(RunFault::Read),
         }
     }
-
-    /// The same, where it is a write that failed if the reader of the output has gone.
-    pub fn gone_as_fault(self) -> Ending
-        ensures { result ≡ gone_as_fault self }
-    {
-        match self {
-            Ending::Gone => Ending::Failed(RunFault::Write),
-            ending => ending,
-        }
-    }
 }
 
 fn unwritten(fault: WriteFault) -> Ending
@@ -110,6 +100,8 @@ pub fn write_output<W: CountedWrite>(writer: &mut W, output: Result<Output, Allo
     ensures reads { all_reads_well result ≡ true }
     ensures writes { (W.seen writer.new).failures
         ≡ failures_after (all_writes_well result) (W.seen writer.old).failures }
+    ensures fault { (W.seen writer.new).fault
+        ≡ later_fault (fault_of_end result) (W.seen writer.old).fault }
 {
     let Ok(output) = output else {
         return Ending::Failed(RunFault::Memory);
@@ -127,6 +119,8 @@ pub fn show_text<W: CountedWrite>(alloc: Global, writer: &mut W, text: &str) -> 
     ensures reads { all_reads_well result ≡ true }
     ensures writes { (W.seen writer.new).failures
         ≡ failures_after (all_writes_well result) (W.seen writer.old).failures }
+    ensures fault { (W.seen writer.new).fault
+        ≡ later_fault (fault_of_end result) (W.seen writer.old).fault }
 {
     match write_text(writer, text.as_bytes()) {
         Ok(()) => Ending::Written(OutputStatus::Fine, Vec::new(alloc)),

@@ -1,15 +1,16 @@
 //! What people are told of a refused input, beside its refusal line.
 ghost use Rattle.std.specs.Prelude.{◌≡◌, ◌++◌, None, IfOk, IsErr, OnOk, string_bytes, true};
+ghost use Rattle.serde_json.specs.Errors.{IsMemory};
 ghost use Rattle.serde_json.specs.Read.{read};
 ghost use Rattle.bench_types.specs.declared.step_flaw.StepFlaw.TheVariants.{NewPriority};
 ghost use Rattle.session_text.specs.declared.detail.Detail.TheVariants.{Limit, NoTask, OnePerCore};
 ghost use Rattle.session_text.specs.declared.fault.Why.TheVariants.{NoMemory};
-ghost use Rattle.program_io.specs.Hint.{header_line, IsFaultHint, IsNotJsonHint, IsShortTextHint, TellsLocation, expected_text, fault_line, flaw_text, found_text, limits_text, line_at, mask_text, member_text, mutex_text, nearest_name_text, nearest_text, no_name_text, no_word_text, none_of_text, number_text, quoted, shape_text, step_flaw_text, task_limit_text, task_text, too_long_line, too_many_steps_line, unknown_text, whole_text, word_text, words_text, wrong_text};
+ghost use Rattle.program_io.specs.Hint.{bad_name_text, header_line, IsFaultHint, IsNotJsonHint, IsShortTextHint, TellsLocation, expected_text, fault_line, flaw_text, found_text, limits_text, line_at, mask_text, member_text, mutex_text, nearest_name_text, nearest_text, no_name_text, no_word_text, none_of_text, number_text, quoted, shape_text, step_flaw_text, task_limit_text, task_text, too_long_line, too_many_steps_line, unknown_text, whole_text, word_text, words_text, wrong_text};
 
 use crate::placed::{fault_location, flaw_path, push_location};
 use bench_types::{
-    HeaderFlaw, MAX_CORES, MAX_INPUT, MAX_MUTEXES, MAX_NOTES, MAX_PRIORITIES, MAX_STEPS, MAX_TASKS,
-    MIN_CORES, StepFlaw,
+    HeaderFlaw, MAX_CORES, MAX_INPUT, MAX_MUTEXES, MAX_NAME, MAX_NOTES, MAX_PRIORITIES, MAX_STEPS,
+    MAX_TASKS, MIN_CORES, StepFlaw,
 };
 use serde_json::{Error, Value};
 use session_text::{Detail, Expected, Found, Shown, Stray, TextFault, Why, Words};
@@ -19,7 +20,9 @@ use std::alloc::{AllocError, Global};
 /// up to 130 times as many.
 const MAX_PLACED: usize = 8_388_608;
 
+// Want of memory has no location.
 fn location_hint(alloc: Global, error: &Error) -> Result<String, AllocError>
+    requires { ¬ IsMemory error.now }
     ensures { IfOk result (λ hint. TellsLocation (string_bytes hint)) }
 {
     let line = error.line();
@@ -106,6 +109,14 @@ fn push_task_limit(
     write!(text, "header: tasks[{task}]{wrong}{number}")
 }
 
+fn push_bad_name(text: &mut String, task: usize, most: u32) -> Result<(), AllocError>
+    ensures { OnOk result
+        (string_bytes text.new ≡ string_bytes text.old ++ bad_name_text task most) }
+{
+    push_task_limit(text, task, ".name has to be 1 to ", most)?;
+    text.push_str(" characters from ! to ~, and not begin with IDLE")
+}
+
 fn push_flaw(text: &mut String, flaw: HeaderFlaw) -> Result<(), AllocError>
     ensures { OnOk result (string_bytes text.new ≡ string_bytes text.old ++ flaw_text flaw) }
 {
@@ -115,11 +126,7 @@ fn push_flaw(text: &mut String, flaw: HeaderFlaw) -> Result<(), AllocError>
         HeaderFlaw::Mutexes(n) => push_limits(text, "mutexes", n as usize, 0, MAX_MUTEXES),
         HeaderFlaw::Notes(n) => push_limits(text, "notes", n as usize, 1, MAX_NOTES),
         HeaderFlaw::TaskCount(n) => push_limits(text, "the number of tasks", n, 1, MAX_TASKS),
-        HeaderFlaw::NoName(task) => push_task(
-            text,
-            task,
-            ".name has to be 1 to 15 characters from ! to ~, and not begin with IDLE",
-        ),
+        HeaderFlaw::NoName(task) => push_bad_name(text, task, MAX_NAME as u32),
         HeaderFlaw::Priority { task, priorities } => {
             push_task_limit(text, task, ".priority has to be below ", priorities)
         }

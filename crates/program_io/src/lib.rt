@@ -14,7 +14,7 @@ mod telling;
 mod writing;
 
 pub use device::{Counted, CountedRead, CountedWrite};
-pub use doubled::{twice_note, warned};
+pub use doubled::{twice_note, twice_note_of_refused, warned};
 pub use ending::{Ending, RunFault, end_process, given_words, show_text, write_output};
 pub use hint::{fault_hint, too_long_hint, too_many_steps_hint};
 pub use input::{InputFault, read_input};

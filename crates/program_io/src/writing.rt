@@ -1,8 +1,8 @@
-//! Writes of whole texts.
+//! Writes of whole texts, and why one was cut off.
 ghost use Rattle.std.specs.Prelude.{◌≡◌, ℕ, take, OnOk, OnErr, is_ok};
 ghost use Rattle.std.specs.Io.KnownBytes.{Appends};
 ghost use Rattle.std.specs.IoError.{error_kind};
-ghost use Rattle.program_io.specs.Device.{failures_after, fault_of_kind, AppendsPrefix};
+ghost use Rattle.program_io.specs.Device.{failures_after, fault_left, fault_of_kind, AppendsPrefix};
 
 use crate::device::CountedWrite;
 use std::io;
@@ -18,7 +18,7 @@ pub enum WriteFault {
 }
 
 // By the error of a write.
-fn fault_of(error: &io::Error) -> WriteFault
+pub(crate) fn fault_of(error: &io::Error) -> WriteFault
     ensures { result ≡ fault_of_kind (error_kind error.now) }
 {
     match error.kind() {
@@ -27,7 +27,8 @@ fn fault_of(error: &io::Error) -> WriteFault
     }
 }
 
-/// Writes the whole text, or a prefix of it where a write fails.
+/// Writes the whole text, or a prefix of it where a write fails. The fault is that of the write
+/// that failed: the reader has gone just where its error is a broken pipe.
 pub fn write_text<W: CountedWrite>(writer: &mut W, text: &[u8]) -> Result<(), WriteFault>
     ensures whole { OnOk result
         (Appends (W.seen writer.old).bytes (W.seen writer.new).bytes text.now) }
@@ -35,6 +36,7 @@ pub fn write_text<W: CountedWrite>(writer: &mut W, text: &[u8]) -> Result<(), Wr
         (AppendsPrefix (W.seen writer.old).bytes (W.seen writer.new).bytes text.now) }
     ensures failures { (W.seen writer.new).failures
         ≡ failures_after (is_ok result) (W.seen writer.old).failures }
+    ensures fault { (W.seen writer.new).fault ≡ fault_left result (W.seen writer.old).fault }
 {
     let mut written = 0;
     while written < text.len() {

@@ -17,5 +17,6 @@ mod PagesPrinted
 mod Pictures
 mod PicturesPrinted
 mod ReportsPrinted
+mod Requests
 mod SettledPrinted
 mod Texts

@@ -1,5 +1,5 @@
 -- One thing alone is told of each input.
-use Rattle.std.proofs.Common.{◌≡◌, ℕ, List, [], ◌∷◌, ◌++◌, length, Bool, true, false, Option, Some, Result, Ok, Err, nat_lt, inl, inr, refl, ap, ap₂, sym}
+use Rattle.std.proofs.Common.{◌≡◌, ℕ, List, [], ◌∷◌, length, Bool, true, false, Option, Some, Result, Ok, Err, nat_lt, inl, inr, refl, ap, ap₂, sym}
 use Rattle.std.proofs.Common.{subst, ◌∙◌}
 use Rattle.bench_types.specs.declared.edit.Edit.{Edit}
 use Rattle.bench_types.specs.declared.header.Header.{Header}
@@ -25,7 +25,7 @@ use Rattle.run_comparisons.proofs.Compared.{neither_too_long}
 use Rattle.run_comparisons.proofs.OneText.{one_list, one_text}
 use Rattle.program_io.specs.Refusal.{IsPrintedFault, refusal_line, why_text}
 use Rattle.program_io.specs.Hint.{IsFaultHint}
-use Rattle.program_io.specs.Twice.{twice_note}
+use Rattle.program_io.specs.Twice.{twice_note, twice_note_of_refused, warned}
 use Rattle.program_io.specs.declared.output.OutputStatus.{OutputStatus}
 use Rattle.program_io.specs.declared.output.OutputStatus.TheVariants.{Fine, Failed, Unknown}
 use Rattle.view_commands.specs.declared.request.Command.{Command}
@@ -41,7 +41,7 @@ use Rattle.view_commands.specs.SettledViews.{columns_after, columns_before, prin
 use Rattle.view_commands.specs.SettledViews.{IsPrintedOfPictures, IsPrintedOfSettled}
 use Rattle.program_io.specs.Outputs.{Printed, noted, fine}
 use Rattle.view_commands.specs.Refused.{refused_lines}
-use Rattle.view_commands.specs.Strict.{with_lines, IsJudged, IsRefusing, IsStrict}
+use Rattle.view_commands.specs.Strict.{IsJudged, IsRefusing, IsStrict}
 use Rattle.view_commands.proofs.OneAdvice.{one_advice}
 use Rattle.view_commands.proofs.OneCheck.{one_check}
 use Rattle.view_commands.proofs.OneReport.{one_report}
@@ -178,12 +178,12 @@ one_done job session edits printed other one two =
     let alone = one_printed job.command session edits one.alone two.alone one.is_printed two.is_printed in
     let judged = one_judged job.strict refusing two.alone one.judged two.judged
     (subst (λ (t : Printed). IsJudged job.strict refusing t one.judged) alone one.is_judged) two.is_judged in
-    one.is_noted ∙ ap (with_lines (edit_notes session edits)) judged ∙ sym two.is_noted
+    one.is_noted ∙ ap (warned (edit_notes session edits)) judged ∙ sym two.is_noted
 
 one_warned : (lines : List ℕ) (job : Job) (session : Session) (edits : List Edit) (printed other : Printed) → IsWarned lines job session edits printed →
     IsWarned lines job session edits other → printed ≡ other
 one_warned lines job session edits printed other one two =
-    one.is_warned ∙ ap (with_lines lines) (one_done job session edits one.done two.done one.is_done two.is_done) ∙ sym two.is_warned
+    one.is_warned ∙ ap (warned lines) (one_done job session edits one.done two.done one.is_done two.is_done) ∙ sym two.is_warned
 
 -- ---- by the input
 
@@ -207,7 +207,7 @@ one_of_bench : (lines : List ℕ) (job : Job) (input : List ℕ) (bench : Bench)
     IsPrintedOfBench lines job bench other → IsSame input printed other
 one_of_bench lines job input bench printed other one two =
     let session : Session = record { header = bench.header; steps = bench.steps } in
-    one_or_refused (nat_lt max_steps (length bench.steps)) too_many_steps (IsWarned lines job session bench.edits printed)
+    one_or_refused (nat_lt max_steps (length bench.steps)) (warned lines too_many_steps) (IsWarned lines job session bench.edits printed)
     (IsWarned lines job session bench.edits other) input printed other
     (λ first second. same_printed input printed other (one_warned lines job session bench.edits printed other first second)) one two
 
@@ -226,8 +226,9 @@ one_of_fault input fault printed other read one two = record {
   text = ap (λ (t : Printed). t.text) one.is_printed ∙ sym (ap (λ (t : Printed). t.text) two.is_printed);
   note = λ json.
       let hint = one_hint input fault.why fault.path fault.detail one.hint two.hint (sym (ap is_json read) ∙ json) one.is_hint two.is_hint in
-      ap (λ (t : Printed). t.note) one.is_printed ∙ ap (λ hint. refusal_line (why_text fault.why) fault.path ++ hint) hint ∙ sym
-      (ap (λ (t : Printed). t.note) two.is_printed);
+      ap (λ (t : Printed). t.note) (one.is_printed
+      ∙ ap (λ (h : List ℕ). warned (twice_note_of_refused input) (refused_lines (refusal_line (why_text fault.why) fault.path) h)) hint
+      ∙ sym two.is_printed);
 }
 
 one_of_text : (job : Job) (input : List ℕ) (text : Result Bench TextFault) (printed other : Printed) → bench_text input ≡ text → IsPrintedOfText job input text

@@ -21,7 +21,7 @@ use Rattle.view_commands.specs.Refused.{refused_lines}
 use Rattle.document_stores.proofs.Opened.{few_steps, opens}
 use Rattle.view_commands.specs.declared.request.Job.{Job}
 use Rattle.view_commands.specs.Commands.{IsDone, IsRefusedOr, IsPrintedOfBench, IsPrintedOfText, IsWarned, too_many_steps}
-use Rattle.view_commands.specs.Strict.{with_lines}
+use Rattle.program_io.specs.Twice.{warned}
 use Rattle.program_io.specs.Outputs.{Printed}
 
 -- what is told of a text that was not read
@@ -56,21 +56,21 @@ too_long_bench bench span why checked within memory long = go (nat_lt max_steps 
 
 -- what is told of a session that was not opened
 pub not_opened_printed : {E : Type 0} (lines : List ℕ) (job : Job) (bench : Bench) (why : OpenRefusal) (result : Result Printed E) → OnOk result (why ≡ TooLong)
-    → IfOk result (λ printed. printed ≡ too_many_steps)
+    → IfOk result (λ printed. printed ≡ warned lines too_many_steps)
     → (why ≡ TooLong → nat_lt max_steps (length bench.steps) ≡ true) → IfOk result (λ printed. IsPrintedOfBench lines job bench printed)
 not_opened_printed lines job bench why (Err e) long line many = tt
 not_opened_printed lines job bench why (Ok printed) long line many =
-    or_refused (nat_lt max_steps (length bench.steps)) too_many_steps (IsWarned lines job (record { header = bench.header; steps = bench.steps }) bench.edits
+    or_refused (nat_lt max_steps (length bench.steps)) (warned lines too_many_steps) (IsWarned lines job (record { header = bench.header; steps = bench.steps }) bench.edits
     printed) printed (many long) line
 
 -- what is told of a session that was opened
 pub opened_printed : {E : Type 0} (lines : List ℕ) (job : Job) (bench : Bench) (span : ℕ) (kept : CheckpointedSession) (done : Printed)
     (result : Result Printed E) → open_check bench.header bench.steps span ≡ Ok tt
     → kept ≡ first_kept span (record { header = bench.header; steps = bench.steps }) → IsDone job kept.session bench.edits done → IfOk result
-    (λ printed. printed ≡ with_lines lines done) → IfOk result (λ printed. IsPrintedOfBench lines job bench printed)
-opened_printed lines job bench span kept done (Err e) accepted same is warned = tt
-opened_printed lines job bench span kept done (Ok printed) accepted same is warned =
+    (λ printed. printed ≡ warned lines done) → IfOk result (λ printed. IsPrintedOfBench lines job bench printed)
+opened_printed lines job bench span kept done (Err e) accepted same is told = tt
+opened_printed lines job bench span kept done (Ok printed) accepted same is told =
     let session : Session = record { header = bench.header; steps = bench.steps } in
-    or_claim (nat_lt max_steps (length bench.steps)) too_many_steps (IsWarned lines job session bench.edits printed) printed
+    or_claim (nat_lt max_steps (length bench.steps)) (warned lines too_many_steps) (IsWarned lines job session bench.edits printed) printed
     (few_steps bench.header bench.steps span accepted)
-    (record { done = done; is_done = subst (λ (k : CheckpointedSession). IsDone job k.session bench.edits done) same is; is_warned = warned })
+    (record { done = done; is_done = subst (λ (k : CheckpointedSession). IsDone job k.session bench.edits done) same is; is_warned = told })

@@ -1,5 +1,5 @@
 -- What is written where a picture was asked for.
-use Rattle.std.proofs.Common.{◌≡◌, ℕ, List, [], Bool, true, false, Result, Ok, Err, IfOk, Global, length, nat_lt, arith, sym, ap, subst, ◌∙◌}
+use Rattle.std.proofs.Common.{◌≡◌, ℕ, List, Bool, true, false, Result, Ok, Err, IfOk, Global, length, nat_lt, arith, sym, ap, subst, ◌∙◌}
 use Rattle.std.specs.Prelude.{String, if◌then◌else◌}
 use Rattle.std.proofs.lemmas.Bool.Decides.{nat_tests}
 use Rattle.run_pictures.specs.declared.picture.TooLong.{TooLong}

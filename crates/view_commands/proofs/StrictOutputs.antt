@@ -1,5 +1,5 @@
 -- What a job tells, judged.
-use Rattle.std.proofs.Common.{◌≡◌, ℕ, List, length, Bool, true, false, Result, Ok, Err, IfOk, ap, refl, sym, subst, ◌∙◌, inl, inr}
+use Rattle.std.proofs.Common.{◌≡◌, ℕ, List, Bool, true, false, Result, Ok, Err, IfOk, ap, refl, sym, subst, ◌∙◌, inl, inr}
 use Rattle.std.specs.Prelude.{◌↔◌, All, IsTrue}
 use Rattle.bench_types.specs.declared.edit.Edit.{Edit}
 use Rattle.bench_types.specs.declared.header.Header.{Header}
@@ -8,13 +8,13 @@ use Rattle.bench_types.specs.Session.{Session}
 use Rattle.bench_model.specs.Meeting.{CheckpointedSession}
 use Rattle.edit_notes.specs.Notes.{edit_notes}
 use Rattle.run_comparisons.specs.Refusals.{HasRefusal}
-use Rattle.view_commands.specs.declared.request.Command.{Command}
 use Rattle.view_commands.specs.declared.request.Job.{Job}
 use Rattle.view_commands.specs.Commands.{IsDone, IsPrinted}
 use Rattle.program_io.specs.declared.output.OutputStatus.{OutputStatus}
 use Rattle.program_io.specs.declared.output.OutputStatus.TheVariants.{Fine, Failed}
 use Rattle.program_io.specs.Outputs.{Printed}
-use Rattle.view_commands.specs.Strict.{is_settled, with_lines, IsJudged, IsRefusing, IsStrict}
+use Rattle.program_io.specs.Twice.{warned}
+use Rattle.view_commands.specs.Strict.{is_settled, IsJudged, IsRefusing, IsStrict}
 
 -- the edits of a document were checked under the header of its store
 pub checked_kept : (header : Header) (kept : CheckpointedSession) (checked edits : List Edit) → kept.session.header ≡ header → edits ≡ checked → All
@@ -60,7 +60,7 @@ strict_kept Refused status found printed fine fails is = subst (λ (one : Output
 
 -- and the lines of refused edits before its note
 pub done_so : {E : Type 0} (job : Job) (session : Session) (edits : List Edit) (lines : List ℕ) (judged : Printed) (r : Result Printed E) → Judges job session
-    edits judged → lines ≡ edit_notes session edits → IfOk r (λ printed. printed ≡ with_lines lines judged)
+    edits judged → lines ≡ edit_notes session edits → IfOk r (λ printed. printed ≡ warned lines judged)
     → IfOk r (IsDone job session edits)
 done_so job session edits lines judged (Err why) is are printed = tt
 done_so job session edits lines judged (Ok noted) is are printed = record {
@@ -68,5 +68,5 @@ done_so job session edits lines judged (Ok noted) is are printed = record {
   is_printed = is.1;
   judged = judged;
   is_judged = is.2;
-  is_noted = printed ∙ ap (λ (some : List ℕ). with_lines some judged) are;
+  is_noted = printed ∙ ap (λ (some : List ℕ). warned some judged) are;
 }

@@ -1,5 +1,6 @@
 -- What a command line asks for: what clap is told, and what it answers.
-use Rattle.std.specs.Prelude.{List, [], ◌∷◌, Bool, true, codes, Option, Some, None, pos}
+use Rattle.std.specs.Prelude.{⊤, ℕ, List, [], ◌∷◌, ◌++◌, Bool, true, codes, string_bytes, Option, Some, None, pos, if◌then◌else◌}
+use Rattle.std.specs.Str.{bytes_eq}
 use Rattle.clap.specs.Simple.{on_top}
 use Rattle.clap.specs.Words.{App, Row, Rule, Text, new_rule}
 use Rattle.clap.specs.declared.builder.action.ArgAction.TheVariants.{Append}
@@ -7,19 +8,21 @@ use Rattle.clap.specs.declared.builder.value_parser.ValueParser.{ValueParser}
 use Rattle.clap.specs.declared.builder.value_parser.ValueParser.TheVariants.{Signed}
 use Rattle.command_words.specs.Answered.{Answered, answered, met, said}
 use Rattle.command_words.specs.Asking.{helps, mistakes, versions}
+use Rattle.command_words.specs.Said.{IsMistake}
 use Rattle.command_words.specs.Printed.{command_app, flag_rule, option_rule, program_app, with_commands}
 use Rattle.view_commands.specs.Options.{command_of, file_in, strict_in}
 use Rattle.view_commands.specs.declared.request.Command.{Command}
 use Rattle.view_commands.specs.declared.request.Job.{Job}
 use Rattle.view_commands.specs.declared.request.Request.{Request}
-use Rattle.view_commands.specs.declared.request.Request.TheVariants.{Show, Help, Version, Bad}
+use Rattle.view_commands.specs.declared.request.Request.TheVariants.{Show, Help, Version, Lacking, Bad}
 
--- a view of a file or of standard input, the text of help, the version, or nothing that the
--- program does
+-- a view of a file or of standard input, the text of help, the version, a command that lacks what
+-- this text says, or nothing that the program does
 pub data Asked : Type 0 where
   a_view : Job → Option Text → Asked
   help : Asked
   version : Asked
+  lacks : List ℕ → Asked
   a_mistake : Asked
 
 -- ---- what clap is told
@@ -137,16 +140,42 @@ view_app =
 
 -- ---- what it answers
 
--- a command with the flag `--strict` or without, and the name of a file; no command is a mistake
-abbrev asked_with : Option Command → Bool → Option Text → Asked
-asked_with (Some command) strict file =
+-- where to read on, at the end of what is told of a mistake
+abbrev pub try_help : List ℕ
+try_help = codes "\n\nFor more information, try '--help'.\n"
+
+-- that a check has no limits, or one that is not written as such
+abbrev pub no_limits : List ℕ
+no_limits =
+    codes "error: check takes limits, each a name and a whole number: "
+    ++ codes "--at-most control.blocked.mutex=3" ++ try_help
+
+-- that a word names no axis
+abbrev pub no_axis : List ℕ
+no_axis = codes "error: --axis takes place or tick" ++ try_help
+
+-- that a word names no changes
+abbrev pub no_families : List ℕ
+no_families =
+    codes "error: --over takes priority, mask and order, with commas between them" ++ try_help
+
+-- by the name of a command, what is told where it lacks what clap does not ask for
+abbrev pub lacking_text : Text → List ℕ
+lacking_text name =
+    if bytes_eq name (codes "check") then no_limits
+    else (if bytes_eq name (codes "timeline") then no_axis
+    else (if bytes_eq name (codes "page") then no_axis else no_families))
+
+-- a command with the flag `--strict` or without, and the name of a file; or this is told
+abbrev asked_with : List ℕ → Option Command → Bool → Option Text → Asked
+asked_with lack (Some command) strict file =
     a_view (record { command = command; strict = strict }) file
-asked_with None strict file = a_mistake
+asked_with lack None strict file = lacks lack
 
 -- what a command with this name and these options asks for
 abbrev pub asked_for : Text → List Row → Asked
 asked_for name options =
-    asked_with (command_of name options) (strict_in options) (file_in options)
+    asked_with (lacking_text name) (command_of name options) (strict_in options) (file_in options)
 
 -- by what clap answers
 abbrev pub asked_by : Answered → Asked
@@ -165,5 +194,31 @@ asked words = asked_by (answered view_app words)
 abbrev pub asked_in : Request → Asked
 asked_in (Show job file) = a_view job file
 asked_in (Help text) = help
-asked_in (Version text) = version
+asked_in Version = version
+asked_in (Lacking text) = lacks (string_bytes text)
 asked_in (Bad text) = a_mistake
+
+-- the text of help or of a mistake that it tells
+abbrev pub text_told : Request → List ℕ
+text_told (Show job file) = []
+text_told (Help text) = string_bytes text
+text_told Version = []
+text_told (Lacking text) = string_bytes text
+text_told (Bad text) = string_bytes text
+
+-- a mistake is told by a text that begins with `error: `
+abbrev pub TellsMistake : Request → Type 0
+TellsMistake (Show job file) = ⊤
+TellsMistake (Help text) = ⊤
+TellsMistake Version = ⊤
+TellsMistake (Lacking text) = ⊤
+TellsMistake (Bad text) = IsMistake (string_bytes text)
+
+-- ---- the version
+
+abbrev pub version_number : List ℕ
+version_number = codes "0.1.0"
+
+-- the program's name and its version
+abbrev pub version_line : List ℕ
+version_line = codes "smp_view " ++ version_number ++ codes "\n"

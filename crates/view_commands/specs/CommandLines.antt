@@ -11,7 +11,7 @@ use Rattle.view_commands.specs.declared.request.Command.{Command}
 use Rattle.view_commands.specs.declared.request.Command.TheVariants.{Plain, Settled, Check, Advise, Page}
 use Rattle.view_commands.specs.declared.request.SettledView.TheVariants as settled
 use Rattle.view_commands.specs.declared.request.View.TheVariants as view
-use Rattle.view_commands.specs.CommandLine.{Asked, a_view, help, version, a_mistake, asked}
+use Rattle.view_commands.specs.CommandLine.{Asked, a_view, help, version, lacks, a_mistake, asked, no_axis, no_families, no_limits}
 
 -- a command without the flag `--strict`, of a file or of standard input
 abbrev pub a_lenient : Command → Option Text → Asked
@@ -144,10 +144,11 @@ pub record WorkedChecks : Type 0 where
   pub last_sign :
       asked_after (codes "check" ∷ codes "--at-most" ∷ codes "a=b.run=3" ∷ [])
       ≡ a_check false (at_most (codes "a=b.run") 3 ∷ []) None
-  pub no_limit : asked_after (codes "check" ∷ codes "run.json" ∷ []) ≡ a_mistake
+  pub no_limit : asked_after (codes "check" ∷ codes "run.json" ∷ []) ≡ lacks no_limits
   pub no_number :
-      asked_after (codes "check" ∷ codes "--at-most" ∷ codes "A.run=x" ∷ []) ≡ a_mistake
-  pub no_sign : asked_after (codes "check" ∷ codes "--at-least" ∷ codes "A.run" ∷ []) ≡ a_mistake
+      asked_after (codes "check" ∷ codes "--at-most" ∷ codes "A.run=x" ∷ []) ≡ lacks no_limits
+  pub no_sign :
+      asked_after (codes "check" ∷ codes "--at-least" ∷ codes "A.run" ∷ []) ≡ lacks no_limits
 
 -- advice on the number of this name, over these families, and so many of the best, of a file or of
 -- standard input
@@ -171,7 +172,7 @@ pub record WorkedAdvice : Type 0 where
   pub no_family :
       asked_after (codes "advise" ∷ codes "--task=A" ∷ codes "--less=run" ∷ codes "--over=masks"
       ∷ [])
-      ≡ a_mistake
+      ≡ lacks no_families
 
 pub record WorkedHelp : Type 0 where
   pub of_program : asked_after (codes "--help" ∷ []) ≡ help
@@ -221,8 +222,8 @@ pub record WorkedMistakes : Type 0 where
   pub compared_task : asked_after (codes "compare" ∷ codes "--task" ∷ codes "A" ∷ []) ≡ a_mistake
   pub page_of_task : asked_after (codes "page" ∷ codes "--task" ∷ codes "A" ∷ []) ≡ a_mistake
   pub unknown_axis :
-      asked_after (codes "timeline" ∷ codes "--axis" ∷ codes "core" ∷ []) ≡ a_mistake
+      asked_after (codes "timeline" ∷ codes "--axis" ∷ codes "core" ∷ []) ≡ lacks no_axis
   pub unknown_axis_of_page :
-      asked_after (codes "page" ∷ codes "--axis" ∷ codes "core" ∷ []) ≡ a_mistake
+      asked_after (codes "page" ∷ codes "--axis" ∷ codes "core" ∷ []) ≡ lacks no_axis
   pub picture_of_core : asked_after (codes "timeline" ∷ codes "--core" ∷ codes "0" ∷ []) ≡ a_mistake
   pub no_text : asked None ≡ a_mistake

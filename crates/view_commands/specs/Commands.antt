@@ -11,7 +11,7 @@ use Rattle.session_text.specs.declared.fault.Why.TheVariants.{NotJson}
 use Rattle.session_text.specs.Bench.{bench_text}
 use Rattle.program_io.specs.Refusal.{IsPrintedFault}
 use Rattle.program_io.specs.Hint.{too_long_line, too_many_steps_line}
-use Rattle.program_io.specs.Twice.{twice_note}
+use Rattle.program_io.specs.Twice.{twice_note, warned}
 use Rattle.view_commands.specs.declared.request.Command.{Command}
 use Rattle.view_commands.specs.declared.request.Command.TheVariants.{Plain, Settled, Report, Check, Advise, Page}
 use Rattle.view_commands.specs.declared.request.Job.{Job}
@@ -22,7 +22,7 @@ use Rattle.view_commands.specs.ReportViews.{IsReported}
 use Rattle.view_commands.specs.SettledViews.{IsSettledView}
 use Rattle.program_io.specs.Outputs.{Printed}
 use Rattle.view_commands.specs.Refused.{refused_for, refused_lines}
-use Rattle.view_commands.specs.Strict.{IsJudged, IsRefusing, with_lines}
+use Rattle.view_commands.specs.Strict.{IsJudged, IsRefusing}
 use Rattle.view_commands.specs.Views.{shown}
 
 -- by the command, what is told of a session and of edits of it
@@ -42,14 +42,14 @@ pub record IsDone (job : Job) (session : Session) (edits : List Edit) (printed :
   pub is_printed : IsPrinted job.command session edits alone
   pub judged : Printed
   pub is_judged : IsJudged job.strict (IsRefusing job.command session edits) alone judged
-  pub is_noted : printed ≡ with_lines (edit_notes session edits) judged
+  pub is_noted : printed ≡ warned (edit_notes session edits) judged
 
 -- the same, with these lines before its note
 pub record IsWarned (lines : List ℕ) (job : Job) (session : Session) (edits : List Edit)
     (printed : Printed) : Type 0 where
   pub done : Printed
   pub is_done : IsDone job session edits done
-  pub is_warned : printed ≡ with_lines lines done
+  pub is_warned : printed ≡ warned lines done
 
 -- a refusal where the test says so, and else what the claim says
 abbrev pub IsRefusedOr : Bool → Printed → Type 0 → Printed → Type 0
@@ -64,10 +64,10 @@ too_many_steps = refused_for (codes "J2") too_many_steps_line
 abbrev pub too_long_input : Printed
 too_long_input = refused_for (codes "H3") too_long_line
 
--- J2 comes after all other refusals of the document; what is done begins with lines
+-- J2 comes after all other refusals of the document; what is told begins with lines
 abbrev pub IsPrintedOfBench : List ℕ → Job → Bench → Printed → Type 0
 IsPrintedOfBench lines job bench printed =
-    IsRefusedOr (nat_lt max_steps (length bench.steps)) too_many_steps
+    IsRefusedOr (nat_lt max_steps (length bench.steps)) (warned lines too_many_steps)
     (IsWarned lines job (record { header = bench.header; steps = bench.steps }) bench.edits printed)
     printed
 

@@ -1,7 +1,6 @@
 -- The page of a run, made of what other commands tell.
 use Rattle.std.specs.Prelude.{◌≡◌, ℕ, List, [], ◌∷◌, ◌++◌, length, codes, decimal, Bool, true, false, nat_lt, Option, Some, None, if◌then◌else◌}
 use Rattle.bench_types.specs.declared.edit.Edit.{Edit}
-use Rattle.bench_types.specs.declared.header.Header.{Header}
 use Rattle.bench_types.specs.declared.step.Step.{Step}
 use Rattle.bench_types.specs.Limits.{max_steps}
 use Rattle.bench_types.specs.Session.{Session}

@@ -1,5 +1,5 @@
 -- What becomes of a status where refusals count.
-use Rattle.std.specs.Prelude.{◌≡◌, ◌⊎◌, ℕ, List, ◌++◌, Bool, true, false}
+use Rattle.std.specs.Prelude.{◌≡◌, ◌⊎◌, List, Bool, true, false}
 use Rattle.bench_types.specs.declared.edit.Edit.{Edit}
 use Rattle.bench_types.specs.Session.{Session}
 use Rattle.run_comparisons.specs.Refusals.{HasRefusal}
@@ -33,7 +33,3 @@ IsJudged true Refused printed judged = IsStrict Refused printed.status printed j
 -- by the command, whether something is refused in the run that it shows after the edits
 abbrev pub IsRefusing : Command → Session → List Edit → Type 0
 IsRefusing command session edits = HasRefusal (is_settled command) session edits
-
--- the same is told, with these lines before its note
-abbrev pub with_lines : List ℕ → Printed → Printed
-with_lines lines printed = record printed { note = lines ++ printed.note }

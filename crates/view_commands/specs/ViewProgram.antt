@@ -3,9 +3,12 @@ use Rattle.std.specs.Prelude.{◌≡◌, ◌⊎◌, ℕ, List, ◌++◌, Option,
 use Rattle.program_io.specs.declared.ending.Ending.{Ending}
 use Rattle.program_io.specs.declared.ending.Ending.TheVariants.{Failed, NotOpened}
 use Rattle.program_io.specs.declared.ending.RunFault.TheVariants.{Memory}
-use Rattle.program_io.specs.Endings.{Account, Bytes, EndsBad, EndsHelp, EndsTelling, Untouched}
+use Rattle.program_io.specs.Endings.{Account, Bytes, EndsBad, EndsHelp, EndsShowing, EndsTelling, Untouched}
 use Rattle.view_commands.specs.declared.request.Job.{Job}
-use Rattle.view_commands.specs.CommandLine.{Asked, a_view, help, version, a_mistake, asked}
+use Rattle.command_words.specs.Said.{IsMistake}
+use Rattle.view_commands.specs.declared.request.Request.{Request}
+use Rattle.view_commands.specs.declared.request.Request.TheVariants.{Show, Help, Version, Lacking, Bad}
+use Rattle.view_commands.specs.CommandLine.{Asked, a_view, help, version, lacks, a_mistake, asked, version_line}
 use Rattle.view_commands.specs.Commands.{IsView}
 
 -- that the file of this name can't be opened
@@ -29,13 +32,22 @@ EndsFile job name file ending read_old read_new write_old write_new =
     EndsTelling (IsView job) ending file read_new write_old write_new
     ⊎ (IsNotOpened name ending × Untouched read_old read_new write_old write_new)
 
--- by what was asked, what is told of the end
+-- by what was asked, what is told of the end; a mistake's text begins with `error: `
 abbrev pub EndsAsked : Asked → Files → Account
 EndsAsked (a_view job (Some name)) files = EndsFile job name (files name)
 EndsAsked (a_view job None) files = EndsTelling (IsView job)
 EndsAsked help files = EndsHelp
-EndsAsked version files = EndsHelp
-EndsAsked a_mistake files = EndsBad
+EndsAsked version files = EndsShowing version_line
+EndsAsked (lacks text) files = EndsBad (λ told. told ≡ text)
+EndsAsked a_mistake files = EndsBad IsMistake
+
+-- by a request, whose texts are told whole
+abbrev pub EndsRequest : Request → Files → Account
+EndsRequest (Show job file) files = EndsAsked (a_view job file) files
+EndsRequest (Help text) files = EndsShowing (string_bytes text)
+EndsRequest Version files = EndsShowing version_line
+EndsRequest (Lacking text) files = EndsBad (λ told. told ≡ string_bytes text)
+EndsRequest (Bad text) files = EndsBad (λ told. told ≡ string_bytes text)
 
 -- by the words of the command line; none where one of them is no text
 abbrev pub Ends : Files → Option (List (List ℕ)) → Account

@@ -6,6 +6,7 @@ ghost use Rattle.session_text.specs.Bench.{IsCheckedBench, bench_text};
 ghost use Rattle.program_io.specs.Refusal.{IsPrintedFault};
 ghost use Rattle.view_commands.specs.Commands.{IsDone, IsPrinted, IsPrintedOfBench, IsPrintedOfText, IsView, ViewIsOne, too_many_steps};
 ghost use Rattle.program_io.specs.Outputs.{Printed};
+ghost use Rattle.program_io.specs.Twice.{warned};
 ghost use Rattle.view_commands.specs.Refused.{refused_lines};
 ghost use Rattle.view_commands.specs.Strict.{IsJudged, IsRefusing};
 
@@ -16,10 +17,10 @@ use crate::pages::printed_page;
 use crate::reports::printed_report;
 use crate::request::{Command, Job};
 use crate::settled::printed_settled;
-use crate::strict::{judged_strictly, with_lines};
+use crate::strict::judged_strictly;
 use bench_types::{Edit, MAX_INPUT, MAX_SPAN};
 use edit_notes::refused_edits;
-use program_io::{Output, explained, too_long, twice_note};
+use program_io::{Output, explained, too_long, twice_note, twice_note_of_refused, warned};
 use run_advice::Progress;
 use session_store::{OpenRefusal, Store};
 use session_text::{Bench, Noted, TextFault, read_bench_noted};
@@ -27,19 +28,22 @@ use smp_kernel::Meter;
 use std::alloc::{AllocError, Global};
 use std::thread::Threads;
 
-// Of a text that was not read. Want of memory is no refusal.
+// Of a text that was not read, first where a member of it stands twice. Want of memory is no
+// refusal.
 fn refused_text(alloc: Global, input: &[u8], fault: TextFault) -> Result<Output, AllocError>
     ensures { IfOk result (λ printed. IsPrintedFault refused_lines input.now fault printed) }
 {
-    explained(alloc, input, fault)?.on_error(alloc)
+    let line = twice_note_of_refused(alloc, input)?;
+    warned(explained(alloc, input, fault)?.on_error(alloc)?, line)
 }
 
-// What is told where no store was opened, which is a refusal only for J2.
-fn not_opened(alloc: Global, why: OpenRefusal) -> Result<Output, AllocError>
+// What is told after these lines where no store was opened, which is a refusal only for J2.
+fn not_opened(alloc: Global, lines: String, why: OpenRefusal) -> Result<Output, AllocError>
     ensures why { OnOk result (why ≡ TooLong) }
-    ensures line { IfOk result (λ printed. printed ≡ too_many_steps) }
+    ensures line { IfOk result (λ printed. printed ≡ warned (string_bytes lines) too_many_steps) }
 {
-    document_stores::not_opened(alloc, why)?.on_error(alloc)
+    let refused = document_stores::not_opened(alloc, why)?.on_error(alloc)?;
+    warned(refused, lines)
 }
 
 // What the command tells of the session and its edits.
@@ -115,7 +119,7 @@ fn printed_of_job<T: Threads + Sync, P: Progress>(
 {
     let lines = refused_edits(alloc, store.len(), edits)?;
     let judged = judged_of_store(rt, host, progress, alloc, meter, store, edits, job)?;
-    with_lines(lines, judged)
+    warned(judged, lines)
 }
 
 // What is told of a document that was read, after these lines. Texts may have any number of steps,
@@ -150,9 +154,9 @@ fn printed_of_bench<T: Threads + Sync, P: Progress>(
                 edits.as_slice(),
                 job,
             )?;
-            with_lines(lines, printed)
+            warned(printed, lines)
         }
-        Err(fault) => not_opened(alloc, fault.why),
+        Err(fault) => not_opened(alloc, lines, fault.why),
     }
 }
 

@@ -2,9 +2,9 @@
 ghost use Rattle.std.specs.Prelude.{◌≡◌, IfOk, map, option_map};
 ghost use Rattle.clap.specs.Words.{app_of, rule_of};
 ghost use Rattle.command_words.specs.Answered.{said};
-ghost use Rattle.command_words.specs.Said.{class_in};
+ghost use Rattle.command_words.specs.Said.{SaysMistake, class_in, text_in};
 ghost use Rattle.command_words.specs.Printed.{IsPrinted};
-ghost use Rattle.view_commands.specs.CommandLine.{advise_app, asked, asked_by, asked_in, at_least_rule, at_most_rule, axis_rule, best_rule, check_app, compare_app, core_rule, file_rule, from_rule, json_rule, judged_rule, less_rule, over_rule, page_app, report_app, session_app, settle_app, settle_rule, strict_rule, task_rule, timeline_app, to_rule, trace_app, view_app};
+ghost use Rattle.view_commands.specs.CommandLine.{advise_app, asked, asked_by, asked_in, at_least_rule, at_most_rule, axis_rule, best_rule, check_app, compare_app, core_rule, file_rule, from_rule, json_rule, judged_rule, less_rule, over_rule, page_app, report_app, session_app, settle_app, settle_rule, strict_rule, task_rule, TellsMistake, text_told, timeline_app, to_rule, trace_app, view_app};
 
 use crate::options::asked_for;
 use crate::request::Request;
@@ -14,7 +14,7 @@ use std::alloc::{AllocError, Global};
 use std::convert::AsStr;
 
 /// What `--version` prints behind the program's name.
-const VERSION: &str = "0.1.0";
+pub(crate) const VERSION: &str = "0.1.0";
 
 // What stands below the commands in the program's help.
 const DOCUMENTS: &str = r#"Documents, each a JSON text, in FILE or on standard input:
@@ -359,20 +359,24 @@ fn program_command<'a>(alloc: Global) -> Result<Command<'a>, AllocError>
 
 // What clap says asks for this.
 fn said(saying: Saying) -> Request
-    ensures { asked_in result ≡ asked_by (said (class_in saying)) }
+    requires { SaysMistake saying }
+    ensures asked { asked_in result ≡ asked_by (said (class_in saying)) }
+    ensures text { text_told result ≡ text_in saying }
+    ensures mark { TellsMistake result }
 {
     match saying {
         Saying::Help(text) => Request::Help(text),
-        Saying::Version(text) => Request::Version(text),
+        Saying::Version => Request::Version,
         Saying::Mistake(text) => Request::Bad(text),
     }
 }
 
 /// Reads a command line: its words, the program's name first, or `None` where one of them is no
-/// text. The texts are clap's.
+/// text. The texts of help and of mistakes are clap's.
 pub fn request_of<S: AsStr>(alloc: Global, words: Option<&[S]>) -> Result<Request, AllocError>
-    ensures { IfOk result
+    ensures asked { IfOk result
         (λ request. asked_in request ≡ asked (option_map (λ all. map S.text all.now) words.entry)) }
+    ensures mark { IfOk result TellsMistake }
 {
     match parse_line(alloc, program_command(alloc)?, words)? {
         Parsed::Met(matches) => asked_for(alloc, &matches),

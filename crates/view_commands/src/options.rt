@@ -3,7 +3,7 @@ ghost use Rattle.std.specs.Prelude.{◌≡◌, codes, IfOk, IfSome, map, option_
 ghost use Rattle.std.specs.Option.{IsSomeAnd};
 ghost use Rattle.clap.specs.Words.{found_of, rows_of, subcommand_rows_of};
 ghost use Rattle.command_words.specs.Asking.{number_in};
-ghost use Rattle.view_commands.specs.CommandLine.{asked_for, asked_in};
+ghost use Rattle.view_commands.specs.CommandLine.{TellsMistake, asked_for, asked_in, lacking_text};
 ghost use Rattle.view_commands.specs.Options.{AreTaken, advice_of, advice_with, axis_in, axis_of, check_of, command_of, comparison_of, cores_in, extent_by, family_in, file_in, json_in, number_name, page_by, page_of, picture_by, picture_of, places_in, report_of, selection_in, settle_in, strict_in, tasks_in, texts_in, trace_of, usual_best, view_of};
 
 use crate::families::family_of;
@@ -389,7 +389,9 @@ fn view_of(alloc: Global, name: &str, options: &ArgMatches) -> Result<Command, A
 }
 
 // What is told of a command that lacks what clap does not ask for.
-fn lacking(name: &str) -> &'static str {
+fn lacking(name: &str) -> &'static str
+    ensures { result.now ≡ lacking_text name.now }
+{
     if name == "check" {
         NO_LIMITS
     } else if name == "timeline" || name == "page" {
@@ -402,13 +404,14 @@ fn lacking(name: &str) -> &'static str {
 /// What the command that was met asks for.
 pub(crate) fn asked_for(alloc: Global, matches: &ArgMatches) -> Result<Request, AllocError>
     requires { IsSomeAnd (subcommand_rows_of matches.now) (λ met. AreTaken met.1) }
-    ensures { IfOk result
+    ensures asked { IfOk result
         (λ request. IfSome (subcommand_rows_of matches.now)
         (λ met. asked_in request ≡ asked_for met.0 met.1)) }
+    ensures mark { IfOk result TellsMistake }
 {
     let (name, options) = matches.subcommand().unwrap();
     let Some(command) = command_of(alloc, name, options)? else {
-        return Ok(Request::Bad(String::from_str(alloc, lacking(name))?));
+        return Ok(Request::Lacking(String::from_str(alloc, lacking(name))?));
     };
     let file = file_in(alloc, options)?;
     let strict = strict_in(options);

@@ -1,11 +1,12 @@
 //! The program, from the words of its command line to its end.
 ghost use Rattle.std.specs.Prelude.{◌≡◌, IfOk, map, option_map, string_bytes};
 ghost use Rattle.std.specs.Process.{exit_status};
-ghost use Rattle.program_io.specs.Endings.{EndsOver, EndsProcess, EndsWith};
-ghost use Rattle.view_commands.specs.CommandLine.{a_view, asked_in};
-ghost use Rattle.view_commands.specs.ViewProgram.{Ends, EndsAsked, EndsFile, open_line};
+ghost use Rattle.program_io.specs.Endings.{EndsOver, EndsProcess, EndsShowing, EndsWith};
+ghost use Rattle.program_io.specs.Device.{DeviceState};
+ghost use Rattle.view_commands.specs.CommandLine.{a_view, version_line};
+ghost use Rattle.view_commands.specs.ViewProgram.{Ends, EndsAsked, EndsFile, EndsRequest, open_line};
 
-use crate::command_line::request_of;
+use crate::command_line::{VERSION, request_of};
 use crate::execution::run;
 use crate::request::{FileName, Job, Request};
 use crate::source::Source;
@@ -77,6 +78,26 @@ fn show_document<T: Threads + Sync, P: Progress, R: Source, W: CountedWrite>(
     }
 }
 
+// The program's name and its version.
+fn version_line(alloc: Global) -> Result<String, AllocError>
+    ensures { IfOk result (λ line. string_bytes line ≡ version_line) }
+{
+    let version = VERSION;
+    format!(in alloc; "smp_view {version}\n")
+}
+
+// Shows them. Nothing is read.
+fn show_version<W: CountedWrite>(alloc: Global, writer: &mut W) -> Ending
+    ensures { (read : DeviceState)
+        → EndsOver (EndsShowing version_line) result read read (W.seen writer.old)
+        (W.seen writer.new) }
+{
+    match version_line(alloc) {
+        Ok(line) => show_text(alloc, writer, line.as_str()),
+        Err(_) => Ending::Failed(RunFault::Memory),
+    }
+}
+
 /// Does what the command line asks for. Only a view reads, of standard input or of the file that
 /// is named.
 pub fn carry_out<T: Threads + Sync, P: Progress, R: Source, W: CountedWrite>(
@@ -88,7 +109,7 @@ pub fn carry_out<T: Threads + Sync, P: Progress, R: Source, W: CountedWrite>(
     reader: &mut R,
     writer: &mut W,
 ) -> Ending
-    ensures { EndsOver (EndsAsked (asked_in request) (R.Source.file reader.old)) result
+    ensures { EndsOver (EndsRequest request (R.Source.file reader.old)) result
         (R.seen reader.old) (R.seen reader.new) (W.seen writer.old) (W.seen writer.new) }
 {
     match request {
@@ -96,7 +117,8 @@ pub fn carry_out<T: Threads + Sync, P: Progress, R: Source, W: CountedWrite>(
             show_document(rt, host, progress, alloc, &job, file, reader, writer)
         }
         Request::Help(text) => show_text(alloc, writer, text.as_str()),
-        Request::Version(text) => show_text(alloc, writer, text.as_str()),
+        Request::Version => show_version(alloc, writer),
+        Request::Lacking(text) => Ending::BadCommandLine(text),
         Request::Bad(text) => Ending::BadCommandLine(text),
     }
 }
@@ -140,8 +162,9 @@ fn ending_of<T: Threads + Sync, P: Progress, R: Source, W: CountedWrite>(
 
 /// The whole program: it shows what the words of the command line ask for, over standard input or
 /// the file that they name, and standard output, and tells standard error why it didn't. The exit
-/// status is 0 where all went well, 1 for a refused input, 2 for a bad command line, and 3 where
-/// memory or a device failed or the file can't be opened.
+/// status is 0 where all went well, 1 for a refused input, 2 for a bad command line, 3 where
+/// memory or a device failed or the file can't be opened, and 141 where the reader of standard
+/// output has gone.
 ///
 /// The words are those of [`std::env::args`]. Where standard error takes nothing, the exit status
 /// still tells.

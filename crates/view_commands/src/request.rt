@@ -153,8 +153,10 @@ pub enum Request {
     Show(Job, Option<FileName>),
     /// This help.
     Help(String),
-    /// This version.
-    Version(String),
-    /// Nothing that the program does; the text says why.
+    /// The version.
+    Version,
+    /// A command without what it needs; the text says what.
+    Lacking(String),
+    /// Nothing that the program does; the text says why, and begins with `error: `.
     Bad(String),
 }

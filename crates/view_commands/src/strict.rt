@@ -1,7 +1,7 @@
 //! A status that tells of refusals.
-ghost use Rattle.std.specs.Prelude.{◌≡◌, IfOk, string_bytes};
+ghost use Rattle.std.specs.Prelude.{◌≡◌, IfOk};
 ghost use Rattle.run_comparisons.specs.Refusals.{HasRefusal};
-ghost use Rattle.view_commands.specs.Strict.{IsStrict, with_lines};
+ghost use Rattle.view_commands.specs.Strict.{IsStrict};
 
 use bench_types::Edit;
 use program_io::{Output, OutputStatus};
@@ -44,18 +44,4 @@ pub(crate) fn judged_strictly(
         }
         OutputStatus::Failed | OutputStatus::Unknown => Ok(output),
     }
-}
-
-/// The lines, and then what is told.
-pub(crate) fn with_lines(lines: String, printed: Output) -> Result<Output, AllocError>
-    ensures { IfOk result (λ noted. noted ≡ with_lines (string_bytes lines) printed) }
-{
-    let Output { status, text, note } = printed;
-    let mut lines = lines.into_bytes();
-    lines.extend_from_slice(note.as_slice())?;
-    Ok(Output {
-        status,
-        text,
-        note: lines,
-    })
 }

@@ -2,7 +2,7 @@ use Rattle.program_io.specs.Endings.{EndsWith}
 use Rattle.program_io.proofs.Ended.{refused_over, words_over, words_refused}
 use Rattle.bench_commands.specs.Command.{asked}
 use Rattle.bench_commands.specs.Program.{Ends}
-use Rattle.bench_commands.proofs.Requests.{refused_well}
+use Rattle.bench_commands.proofs.Requests.{memory_refused}
 use Rattle.bench_commands.proofs.program.ending_of.Goals as goal
 
 pub returns-in-Ok : goal.returns-in-Ok
@@ -16,4 +16,4 @@ returns-in-Err g c =
     let read = g.R.CountedRead.seen c.args.reader.now in
     let write = g.W.CountedWrite.seen c.args.writer.now in
     refused_over (EndsWith Ends c.args.words) read write (words_refused Ends c.args.words read.bytes write.bytes
-    (λ given. refused_well (asked given) read.bytes write.bytes))
+    (λ given. memory_refused (asked given) read.bytes write.bytes))

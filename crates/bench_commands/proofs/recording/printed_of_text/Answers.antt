@@ -1,5 +1,4 @@
-use Rattle.std.proofs.Common.{◌≡◌, ◌∙◌, ap, rules, string_bytes}
-use Rattle.program_io.specs.Outputs.{Printed, fine, noted}
+use Rattle.std.proofs.Common.{string_bytes}
 use Rattle.bench_commands.proofs.Recordings.{recording_printed, refused_recording}
 use Rattle.bench_commands.proofs.recording.printed_of_text.Goals as goal
 
@@ -9,8 +8,5 @@ returns-in-Err g c = refused_recording c.args.input.now c.in-Err.fault c.refused
 
 pub returns-in_ok-text-in-Ok : goal.returns-in_ok-text-in-Ok
 returns-in_ok-text-in-Ok g c =
-    let line = string_bytes c.in_ok-line-in-Ok.line in
-    let bytes : c.into_bytes.result.items ≡ line = search rules in
-    recording_printed c.args.input.now line c.in_ok-text-in-Ok.text.items c.in-Ok.field-0.document c.noted.result c.in-Ok.ensures.reading
-    c.in_ok-text-in-Ok.ensures c.in_ok-line-in-Ok.ensures
-    (c.noted.ensures ∙ ap (λ (one : Printed). noted one c.into_bytes.result.items) c.fine.ensures ∙ ap (noted (fine c.in_ok-text-in-Ok.text.items)) bytes)
+    recording_printed c.args.input.now (string_bytes c.in_ok-line-in-Ok.line) c.in_ok-text-in-Ok.text.items c.in-Ok.field-0.document c.fine.result
+    c.warned.result c.in-Ok.ensures.reading c.in_ok-text-in-Ok.ensures c.in_ok-line-in-Ok.ensures c.fine.ensures c.warned.ensures

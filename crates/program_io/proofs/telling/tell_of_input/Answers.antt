@@ -1,7 +1,6 @@
-use Rattle.std.proofs.Common.{List, ℕ, Ok, sym, ap, subst, ◌∙◌}
+use Rattle.std.proofs.Common.{Ok, sym, ap, subst, ◌∙◌}
 use Rattle.std.specs.Fn.{FnOnceReturns, FnOnceReturnsAt}
 use Rattle.program_io.specs.Device.{failures_after}
-use Rattle.program_io.specs.Outputs.{Printed}
 use Rattle.program_io.proofs.Ended.{printed_ended}
 use Rattle.program_io.proofs.Printed.{where_ok}
 use Rattle.program_io.proofs.telling.tell_of_input.Goals as goal
@@ -19,4 +18,5 @@ returns-in-Ok g c =
           write_new.bytes c.in-Ok.input.items c.tell.result c.write_output.result c.in-Ok.ensures.input printed c.write_output.ensures.bytes;
       reads = c.in-Ok.ensures.failures ∙ sym (ap (λ well. failures_after well read_old.failures) c.write_output.ensures.reads);
       writes = c.write_output.ensures.writes;
+      fault = c.write_output.ensures.fault;
     }

@@ -1,6 +1,6 @@
 use Rattle.std.proofs.Common.{length, arith, ◌∙◌, ap}
 use Rattle.std.proofs.lemmas.List.{length-drop}
-use Rattle.program_io.proofs.KnownOutput.{appends_piece, appends_whole, take_rest, none_counted}
+use Rattle.program_io.proofs.KnownOutput.{appends_piece, appends_whole, take_rest, none_counted, none_later}
 use Rattle.program_io.proofs.writing.write_text.Goals as goal
 
 -- src/writing.rt:18:5
@@ -19,6 +19,8 @@ loop-written-preserved g c = record {
   );
   none_failed = c.write_counted.ensures.count ∙ none_counted c.write_counted.result c.in-Ok.count (g.W.CountedWrite.seen c.loop-written.writer).failures
       c.in-Ok.is c.if-count-eq0.false ∙ c.loop-written.invariant.none_failed;
+  same_fault = c.write_counted.ensures.fault ∙ none_later c.write_counted.result c.in-Ok.count (g.W.CountedWrite.seen c.loop-written.writer).fault
+      c.in-Ok.is c.if-count-eq0.false ∙ c.loop-written.invariant.same_fault;
 }
 
 pub returns-clause-whole : goal.returns-clause-whole

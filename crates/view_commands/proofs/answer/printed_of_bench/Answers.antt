@@ -11,8 +11,8 @@ use Rattle.view_commands.proofs.StrictOutputs.{checked_kept}
 use Rattle.view_commands.proofs.Outputs.{not_opened_printed, opened_printed, too_long_bench}
 use Rattle.view_commands.proofs.answer.printed_of_bench.Goals as goal
 
-pub returns-in-Err : goal.returns-in-Err
-returns-in-Err g c =
+pub returns : goal.returns
+returns g c =
     not_opened_printed (string_bytes c.args.lines) c.args.job.now c.args.bench c.in-Err.fault.why c.not_opened.result c.not_opened.ensures.why
     c.not_opened.ensures.line
     (too_long_bench c.args.bench max_span c.in-Err.fault.why c.requires refl
@@ -29,12 +29,12 @@ printed_of_job-requires g c =
     c.requires.edits_checked in
     search rules
 
-pub returns-in_ok-printed-in-Ok : goal.returns-in_ok-printed-in-Ok
-returns-in_ok-printed-in-Ok g c =
+pub returns-in-Ok : goal.returns-in-Ok
+returns-in-Ok g c =
     let bench = c.args.bench in
     let accepted = subst (λ steps. open_check bench.header steps max_span ≡ Ok tt) c.into_vec.ensures c.in-Ok.ensures.accepted in
     let same = c.in-Ok.ensures.opened ∙ ap (λ (steps : List Step). first_kept max_span (record { header = bench.header; steps = steps })) c.into_vec.ensures in
     let edits : c.as_slice.result.now ≡ bench.edits = search rules in
-    opened_printed (string_bytes c.args.lines) c.args.job.now bench max_span c.in-Ok.store c.in_ok-printed-in-Ok.printed c.with_lines.result accepted same
+    opened_printed (string_bytes c.args.lines) c.args.job.now bench max_span c.in-Ok.store c.in_ok-printed-in-Ok.printed c.warned.result accepted same
     (subst (λ (edits : List Edit). IsDone c.args.job.now c.in-Ok.store.session edits c.in_ok-printed-in-Ok.printed) edits c.in_ok-printed-in-Ok.ensures)
-    c.with_lines.ensures
+    c.warned.ensures

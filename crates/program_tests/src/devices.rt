@@ -54,31 +54,35 @@ impl Read for Source {
     }
 }
 
-/// Takes so many bytes at a write, and has room for so many. It asks for no memory.
+/// Takes so many bytes at a write, and has room for so many. It asks for no memory, and counts how
+/// often it is flushed.
 #[derive(Drop)]
 pub(crate) struct Sink {
     bytes: [u8; MAX_OUTPUT],
     count: usize,
     piece: usize,
     room: usize,
-    // Whether a write fails where there is no room, or takes no byte.
-    fails: bool,
+    // How a write fails where there is no room; or it takes no byte.
+    failure: Option<io::ErrorKind>,
+    pub(crate) flushes: usize,
 }
 
 impl Sink {
-    pub(crate) fn new(piece: usize, room: usize, fails: bool) -> Self {
+    /// Where there is no room a write fails like this, or it takes no byte.
+    pub(crate) fn new(piece: usize, room: usize, failure: Option<io::ErrorKind>) -> Self {
         Sink {
             bytes: [0; MAX_OUTPUT],
             count: 0,
             piece,
             room: room.min(MAX_OUTPUT),
-            fails,
+            failure,
+            flushes: 0,
         }
     }
 
     /// Takes as much as there is, at once.
     pub(crate) fn wide() -> Self {
-        Sink::new(MAX_OUTPUT, MAX_OUTPUT, false)
+        Sink::new(MAX_OUTPUT, MAX_OUTPUT, None)
     }
 
     pub(crate) fn taken(&self) -> &[u8] {
@@ -98,8 +102,10 @@ impl Write for Sink {
             .len()
             .min(self.piece)
             .min(self.room.min(MAX_OUTPUT) - start);
-        if count == 0 && self.fails {
-            return Err(io::Error::from(io::ErrorKind::BrokenPipe));
+        if count == 0 {
+            if let Some(kind) = self.failure {
+                return Err(io::Error::from(kind));
+            }
         }
         self.bytes[start..start + count].copy_from_slice(&buf[..count]);
         self.count = start + count;
@@ -107,6 +113,7 @@ impl Write for Sink {
     }
 
     fn flush(&mut self) -> io::Result<()> {
+        self.flushes = self.flushes.saturating_add(1);
         Ok(())
     }
 }

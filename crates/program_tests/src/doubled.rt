@@ -51,6 +51,14 @@ edit 0 refused J1: the session has 2 steps
 /// A member stands twice, and one is missing.
 const REFUSED: &str = "{\"format\": 1, \"format\": 1}";
 
+const REFUSED_TOLD: &str =
+    "the member \"format\" stands twice, and the last one counts: line 1, column 15
+cores: this member is missing (line 1, column 1)
+";
+
+/// The same, but it is no JSON.
+const NO_JSON: &str = "{\"format\": 1, \"format\": 1";
+
 #[test]
 fn sessions(rt: HostRuntime) {
     for (word, input, code, output, message) in [
@@ -63,12 +71,14 @@ fn sessions(rt: HostRuntime) {
             "edit 0 refused J1\nstart A IDLE0\n0 done A IDLE0\n1 done A IDLE0\n",
             AT_TWICE,
         ),
+        ("replay", REFUSED, 1, "refused H2 cores\n", REFUSED_TOLD),
+        ("whatif", REFUSED, 1, "refused H2 cores\n", REFUSED_TOLD),
         (
             "replay",
-            REFUSED,
+            NO_JSON,
             1,
-            "refused H2 cores\n",
-            "cores: this member is missing (line 1, column 1)\n",
+            "refused H1\n",
+            "not JSON: line 1, column 25\n",
         ),
     ] {
         check_ended(&rt, &rt, word, input, code, output, message);
@@ -89,4 +99,14 @@ const RECORDED: &str = "{\"cores\":2,\"format\":1,\"mutexes\":0,\"priorities\":5
 fn rigs(rt: HostRuntime) {
     let twice = "the member \"limit\" stands twice, and the last one counts: line 1, column 14\n";
     check_ended(&rt, &rt, "record", RIG, 0, RECORDED, twice);
+    check_ended(
+        &rt,
+        &rt,
+        "record",
+        "{\"limit\": 1, \"limit\": 2}",
+        1,
+        "refused H2 session\n",
+        "the member \"limit\" stands twice, and the last one counts: line 1, column 14\n\
+        session: this member is missing (line 1, column 1)\n",
+    );
 }

@@ -2,7 +2,7 @@
 use crate::devices::{Sink, Source, expect, expect_at, expect_same, ran};
 use bench_commands::Status;
 use program_io::{Counted, RunFault};
-use std::io::{Read, Write};
+use std::io::{ErrorKind, Read, Write};
 use std::test::Fail;
 
 const SESSION: &str =
@@ -31,7 +31,7 @@ fn little_reads_and_failed_ones(rt: HostRuntime) -> Result<(), Fail> {
         (100, 4, failed, ""),
     ];
     for (piece, reads, ended, output) in table {
-        let mut sink = Sink::new(1, LINES.len(), false);
+        let mut sink = Sink::new(1, LINES.len(), None);
         let mut source = source_of(piece, reads);
         let made = ran(&rt, &rt, &mut source, &mut sink);
         expect_at(&rt, "reads", reads, made, ended);
@@ -40,19 +40,25 @@ fn little_reads_and_failed_ones(rt: HostRuntime) -> Result<(), Fail> {
     Ok(())
 }
 
+/// The reader has gone where the pipe is broken, and else the device fails.
 #[test]
 fn a_write_that_fails(rt: HostRuntime) -> Result<(), Fail> {
-    let failed = (Status::Fault(RunFault::Write), 0, 1);
+    let failed = Status::Fault(RunFault::Write);
     for room in 0..LINES.len() {
-        for fails in [false, true] {
-            let mut sink = Sink::new(7, room, fails);
+        for (failure, status) in [
+            (None, failed),
+            (Some(ErrorKind::BrokenPipe), Status::Gone),
+            (Some(ErrorKind::Interrupted), failed),
+            (Some(ErrorKind::Other), failed),
+        ] {
+            let mut sink = Sink::new(7, room, failure);
             let mut source = source_of(1000, 1000);
             let made = ran(&rt, &rt, &mut source, &mut sink);
-            expect_at(&rt, "room for", room, made, failed);
+            expect_at(&rt, "room for", room, made, (status, 0, 1));
             expect_same(&rt, "written", sink.taken(), &LINES.as_bytes()[..room]);
         }
     }
-    let mut sink = Sink::new(7, LINES.len(), true);
+    let mut sink = Sink::new(7, LINES.len(), Some(ErrorKind::BrokenPipe));
     let mut source = source_of(1000, 1000);
     let made = ran(&rt, &rt, &mut source, &mut sink);
     expect_same(&rt, "room for all", made, (Status::Fine, 0, 0));
@@ -90,7 +96,7 @@ fn counted_devices_pass_on(rt: HostRuntime) -> Result<(), Fail> {
     expect(&rt, "a failed read", is_refused);
     expect_same(&rt, "failed reads", reader.count(), 1);
 
-    let mut sink = Sink::new(2, 2, false);
+    let mut sink = Sink::new(2, 2, None);
     let mut writer = Counted::new(&mut sink);
     let is_written = matches!(writer.write(b"abc"), Ok(2));
     expect(&rt, "a write", is_written);
@@ -100,6 +106,10 @@ fn counted_devices_pass_on(rt: HostRuntime) -> Result<(), Fail> {
     let is_refused = matches!(writer.write(b"c"), Ok(0));
     expect(&rt, "a failed write", is_refused);
     expect_same(&rt, "failed writes", writer.count(), 1);
+    let is_flushed = writer.flush().is_ok();
+    expect(&rt, "a flush after it", is_flushed);
+    expect_same(&rt, "failed writes", writer.count(), 1);
     sink.expect(&rt, "ab");
+    expect_same(&rt, "flushes", sink.flushes, 2);
     Ok(())
 }

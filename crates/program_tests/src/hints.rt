@@ -132,7 +132,8 @@ const MANY_LINES_OF_JSON: &[(&str, &str, &str)] = &[
     (
         "replay",
         "{\"edits\": [{\"}\": \"{\"}], \"session\":\n[],\n\"session\": {\"format\"\n:  3}}",
-        "session.format: expected 1 or 2 (line 4, column 4)\n",
+        "the member \"session\" stands twice, and the last one counts: line 3, column 1\n\
+        session.format: expected 1 or 2 (line 4, column 4)\n",
     ),
     (
         "record",

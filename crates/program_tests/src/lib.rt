@@ -15,6 +15,8 @@ mod examples;
 #[cfg(test)]
 mod faults;
 #[cfg(test)]
+mod help;
+#[cfg(test)]
 mod hints;
 #[cfg(test)]
 mod hostile;
@@ -30,3 +32,5 @@ mod sizes;
 mod trials;
 #[cfg(test)]
 mod view;
+#[cfg(test)]
+mod words;

@@ -104,10 +104,30 @@ fn words_that_are_not_handed_over(rt: HostRuntime) {
 #[test]
 fn standard_error_that_takes_nothing(rt: HostRuntime) -> Result<(), Fail> {
     let mut output = Sink::wide();
-    let mut errors = Sink::new(9, 0, true);
+    let mut errors = Sink::new(9, 0, Some(ErrorKind::BrokenPipe));
     let words = Ok(args_of(rt.alloc(), "smp_bench")?);
     let status = status_of(&rt, &rt, words, &mut output, &mut errors);
     expect_same(&rt, "status", status, ExitCode::from(2));
+    Ok(())
+}
+
+/// Where the reader of standard output has gone, nothing is told of it.
+#[test]
+fn standard_output_that_takes_nothing(rt: HostRuntime) -> Result<(), Fail> {
+    for (failure, code, message) in [
+        (Some(ErrorKind::BrokenPipe), 141, ""),
+        (Some(ErrorKind::Other), 3, "fault write\n"),
+        (None, 3, "fault write\n"),
+    ] {
+        for line in ["smp_bench --help", "smp_bench replay", "smp_bench record"] {
+            let mut output = Sink::new(9, 0, failure);
+            let mut errors = Sink::wide();
+            let words = Ok(args_of(rt.alloc(), line)?);
+            let status = status_of(&rt, &rt, words, &mut output, &mut errors);
+            expect_same(&rt, line, status, ExitCode::from(code));
+            errors.expect(&rt, message);
+        }
+    }
     Ok(())
 }
 
@@ -144,4 +164,33 @@ fn a_flush_reaches_the_device(rt: HostRuntime) {
     let is_refused = writer.flush().is_err();
     expect(&rt, "a failed flush", is_refused);
     expect_same(&rt, "failed writes", writer.count(), 0);
+}
+
+/// A device whose writes all fail, and whose flushes fail otherwise.
+#[derive(Drop)]
+struct Broken;
+
+impl Write for Broken {
+    fn write(&mut self, _buf: &[u8]) -> io::Result<usize> {
+        Err(io::Error::from(ErrorKind::Other))
+    }
+
+    fn flush(&mut self) -> io::Result<()> {
+        Err(io::Error::from(ErrorKind::BrokenPipe))
+    }
+}
+
+/// So does a flush after a write that failed, with the device's own error, and it is no write.
+#[test]
+fn a_flush_after_a_failed_write(rt: HostRuntime) {
+    let mut writer = Counted::new(Broken);
+    for _ in 0..2 {
+        let _ = writer.write(b"a");
+    }
+    let kind = match writer.flush() {
+        Ok(()) => None,
+        Err(error) => Some(error.kind()),
+    };
+    expect_same(&rt, "flushed", kind, Some(ErrorKind::BrokenPipe));
+    expect_same(&rt, "failed writes", writer.count(), 2);
 }

@@ -2,7 +2,7 @@
 use crate::devices::{Sink, Source, expect, expect_at, expect_same};
 use bench_commands::{Gate, Status, carry_out, record};
 use program_io::{Counted, Ending, OutputStatus, RunFault};
-use std::io::{Read, Write};
+use std::io::{ErrorKind, Read, Write};
 use std::sync::Wait;
 use std::sync::atomic::{AtomicU32, Ordering};
 use std::thread::Threads;
@@ -68,7 +68,7 @@ fn source_of(piece: usize, reads: usize) -> Source {
 /// The sink takes one byte at a time, and has just the room for them.
 #[test]
 fn a_rig_is_recorded(rt: HostRuntime) {
-    let mut sink = Sink::new(1, SESSION.len(), false);
+    let mut sink = Sink::new(1, SESSION.len(), None);
     let mut source = source_of(1, 1000);
     let ended = recorded(&rt, &rt, &mut source, &mut sink);
     expect_same(&rt, "ended", ended, (Status::Fine, 0, 0, 6));
@@ -106,12 +106,15 @@ fn reads_that_fail(rt: HostRuntime) {
 #[test]
 fn writes_that_fail(rt: HostRuntime) {
     for room in [0, 1, SESSION.len() - 1] {
-        for fails in [false, true] {
-            let mut sink = Sink::new(7, room, fails);
+        for (failure, status) in [
+            (None, Status::Fault(RunFault::Write)),
+            (Some(ErrorKind::BrokenPipe), Status::Gone),
+            (Some(ErrorKind::Other), Status::Fault(RunFault::Write)),
+        ] {
+            let mut sink = Sink::new(7, room, failure);
             let mut source = source_of(1000, 1000);
             let ended = recorded(&rt, &rt, &mut source, &mut sink);
-            let fault = (Status::Fault(RunFault::Write), 0, 1, 6);
-            expect_at(&rt, "room for", room, ended, fault);
+            expect_at(&rt, "room for", room, ended, (status, 0, 1, 6));
             expect_same(&rt, "written", sink.taken(), &SESSION.as_bytes()[..room]);
         }
     }

@@ -3,6 +3,7 @@ use crate::devices::{Sink, Source, expect_at, expect_same, ran_in};
 use bench_commands::{DEFAULT_SPAN, Mode, Status};
 use bench_types::MAX_STEPS;
 use program_io::RunFault;
+use std::io::ErrorKind;
 use std::process::Abort;
 use std::test::Fail;
 use std::thread::Threads;
@@ -55,12 +56,12 @@ fn check_devices<T: Threads + Abort + Sync>(rt: &T, host: &HostRuntime, reads: u
         piece: 100,
         reads,
     };
-    let mut sink = Sink::new(7, room, true);
+    let mut sink = Sink::new(7, room, Some(ErrorKind::BrokenPipe));
     let ended = ran_in(rt, host, &mut source, &mut sink, &mode);
     let (wanted, written) = if reads < 3 {
         ((Status::Fault(RunFault::Read), 1, 0), 0)
     } else if room < REMOVED_LINES.len() {
-        ((Status::Fault(RunFault::Write), 0, 1), room)
+        ((Status::Gone, 0, 1), room)
     } else {
         ((Status::Fine, 0, 0), REMOVED_LINES.len())
     };

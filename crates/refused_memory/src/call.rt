@@ -25,6 +25,7 @@ pub(crate) enum Call {
     ReadBench,
     ReadEdit,
     ReadRig,
+    ReadNoJson,
     WriteSession,
     Run,
     RunEdited,
@@ -32,7 +33,7 @@ pub(crate) enum Call {
 }
 
 /// All of them.
-pub(crate) const ALL: [Call; 21] = [
+pub(crate) const ALL: [Call; 22] = [
     Call::Start,
     Call::Copy,
     Call::Open,
@@ -50,6 +51,7 @@ pub(crate) const ALL: [Call; 21] = [
     Call::ReadBench,
     Call::ReadEdit,
     Call::ReadRig,
+    Call::ReadNoJson,
     Call::WriteSession,
     Call::Run,
     Call::RunEdited,
@@ -77,6 +79,7 @@ impl Call {
             Call::ReadBench => "read_bench",
             Call::ReadEdit => "read_edit",
             Call::ReadRig => "read_rig",
+            Call::ReadNoJson => "read-no-json",
             Call::WriteSession => "write_session",
             Call::Run => "run",
             Call::RunEdited => "run-edited",
@@ -125,6 +128,7 @@ impl Call {
             Call::ReadBench => Some(texts::bench(host.alloc())),
             Call::ReadEdit => texts::edit(host.alloc()),
             Call::ReadRig => Some(texts::rig(host.alloc())),
+            Call::ReadNoJson => Some(texts::no_json(host.alloc())),
             Call::WriteSession => texts::written(host.alloc()),
             Call::Run => Some(commands::plain(rt, host)),
             Call::RunEdited => Some(commands::edited(rt, host)),

@@ -106,6 +106,32 @@ pub(crate) fn rig(alloc: Global) -> CallResult {
     }
 }
 
+/// A text that breaks off.
+const NO_JSON: &str = r#"{"format":1,"tasks":[{"name":"A"#;
+
+/// Whether the text is no JSON, at no place of it.
+fn is_no_json(fault: &TextFault) -> bool {
+    fault.why == Why::NotJson && fault.path.as_str().is_empty()
+}
+
+pub(crate) fn no_json(alloc: Global) -> CallResult {
+    match read_session(alloc, NO_JSON.as_bytes()) {
+        Ok(_) => CallResult::answered(false),
+        Err(fault) => refusal_of(alloc, &fault),
+    }
+}
+
+/// What came of the reading that was refused with this fault.
+fn refusal_of(alloc: Global, fault: &TextFault) -> CallResult {
+    if !is_want(fault) {
+        return CallResult::answered(is_no_json(fault));
+    }
+    match read_session(alloc, NO_JSON.as_bytes()) {
+        Ok(_) => CallResult::refused(false),
+        Err(fault) => CallResult::refused(is_no_json(&fault)),
+    }
+}
+
 pub(crate) fn written(alloc: Global) -> Option<CallResult> {
     let (header, steps) = sessions(alloc)?;
     Some(match writes(alloc, &header, &steps) {

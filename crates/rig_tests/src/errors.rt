@@ -114,7 +114,7 @@ fn what_refused_recordings_say(rt: HostRuntime) -> Result<(), Fail> {
 
 const RIGS: [(RigFault, &str); 3] = [
     (RigFault::BadHeader, BAD_HEADER),
-    (RigFault::BadLimit, "the limit is over 1,000,000 entries"),
+    (RigFault::BadLimit, "the limit is over 1000000 entries"),
     (RigFault::NoMemory, NO_MEMORY),
 ];
 

@@ -49,7 +49,7 @@ const UNEDITED: &str = "  0 0 delay core 0 by A ticks 1: blocked; A B
   6 6 finish core 1 by A: done; C A
   7 7 yield core 1 by A: done; C A
   8 8 switch core 1: done; C A
-the runs do not differ
+no step differs
 not made before: B 1
 not made after: B 1
 ";
@@ -72,6 +72,12 @@ not made after: B 1
 /// The same of one tick, as it stands.
 const REFUSED_TICK: &str = "  0 0 tick: done; A B
 no step differs; refused and not made: edit 0, edit 2
+";
+
+/// A has a greater priority by the edit, and no step goes otherwise.
+const GAINED: &str = "  0 0 tick: done; A B
+no step differs
+task A top +1
 ";
 
 fn opened(rt: &HostRuntime, header: &Header, steps: &[Step]) -> Result<Store, Fail>
@@ -155,6 +161,22 @@ fn refused_edits_are_printed(rt: HostRuntime) -> Result<(), Fail> {
     let mut meter = Meter::new(&rt);
     let plain = compare(rt.alloc(), &mut meter, &before, &mut after, &edits_past(1))?;
     assert_text(&rt, plain.as_str(), REFUSED_TICK);
+    Ok(())
+}
+
+#[test]
+fn gains_are_printed_where_no_step_differs(rt: HostRuntime) -> Result<(), Fail> {
+    let header = three_tasks(rt.alloc(), false)?;
+    let before = opened(&rt, &header, &[TICK])?;
+    let mut after = opened(&rt, &header, &[TICK])?;
+    let edit = Edit::ChangeTask {
+        task: 2,
+        priority: 3,
+        mask: 3,
+    };
+    let mut meter = Meter::new(&rt);
+    let text = compare(rt.alloc(), &mut meter, &before, &mut after, &[edit])?;
+    assert_text(&rt, text.as_str(), GAINED);
     Ok(())
 }
 

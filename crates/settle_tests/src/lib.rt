@@ -12,4 +12,8 @@ mod compared;
 #[cfg(test)]
 mod numbers;
 #[cfg(test)]
+mod progress;
+#[cfg(test)]
 mod settled;
+#[cfg(test)]
+mod too_long;

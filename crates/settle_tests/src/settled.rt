@@ -5,7 +5,7 @@ ghost use Rattle.bench_types.specs.Step.{settings_of, step_check, IsCheckedStep}
 use bench_samples::three_tasks;
 use bench_types::{Call, Header, Refusal, Step};
 use settled_runs::WaitingCall;
-use settling::{SettleFault, Settled, settle};
+use settling::{SettleFault, Settled, push_left, settle};
 use smp_kernel::{Kernel, Meter};
 use std::alloc::Global;
 use std::process::Abort;
@@ -118,6 +118,29 @@ fn a_call_that_is_not_made(rt: HostRuntime) -> Result<(), Fail> {
         call: Call::Yield,
     }];
     check(&rt, &rt, &steps, &run, &left)
+}
+
+// What is told of a session of so many calls of C.
+fn told_of_calls(rt: &impl Abort, host: &HostRuntime, calls: usize) -> Result<String, Fail> {
+    let steps = vec![in host.alloc(); call(0, 4, Call::Yield); calls]?;
+    let settled = settled_of(rt, host, steps.as_slice())?;
+    let header = three_tasks(host.alloc(), false)?;
+    let mut text = String::new(host.alloc());
+    push_left(&mut text, &header, settled.left.as_slice())?;
+    Ok(text)
+}
+
+fn assert_told(rt: &impl Abort, told: &str, wanted: &str) {
+    assert_eq!(rt; told, wanted);
+}
+
+/// A and B keep both cores, so C never runs, and none of its calls is made.
+#[test]
+fn a_hundred_calls_that_are_not_made(rt: HostRuntime) -> Result<(), Fail> {
+    assert_told(&rt, told_of_calls(&rt, &rt, 99)?.as_str(), "C 99");
+    assert_told(&rt, told_of_calls(&rt, &rt, 100)?.as_str(), "C 100");
+    assert_told(&rt, told_of_calls(&rt, &rt, 101)?.as_str(), "C 101");
+    Ok(())
 }
 
 // Why a session of so many ticks under time slices is not settled.

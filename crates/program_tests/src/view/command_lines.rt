@@ -85,8 +85,8 @@ smp_view trace --help => help: Prints each place of a run, and each step with al
 smp_view trace -h --from => help: Prints each place of a run, and each step with all that it changed
 smp_view session run.json -h => help: Prints the session with its edits made, as a document
 smp_view timeline --from 3 -h => help: Draws the runs before and after the edits, as an SVG picture
-smp_view --version => version: smp_view 0.1.0
-smp_view -V trace => version: smp_view 0.1.0
+smp_view --version => version
+smp_view -V trace => version
 smp_view trace --version => bad
 smp_view => bad
 smp_view help => bad
@@ -196,8 +196,8 @@ fn expect_part(rt: &impl Abort, text: &str, part: &str) {
 
 fn text_of(request: &Request) -> &str {
     match request {
-        Request::Show(_, _) => "",
-        Request::Help(text) | Request::Version(text) | Request::Bad(text) => text.as_str(),
+        Request::Show(_, _) | Request::Version => "",
+        Request::Help(text) | Request::Lacking(text) | Request::Bad(text) => text.as_str(),
     }
 }
 
@@ -216,19 +216,16 @@ fn printed_of(alloc: Global, request: &Request) -> Result<String, AllocError> {
     match request {
         Request::Show(job, file) => view_printed(alloc, job, file.as_ref()),
         Request::Help(text) => help_printed(alloc, text.as_str()),
-        Request::Version(text) => version_printed(alloc, text.as_str()),
-        Request::Bad(text) => String::from_str(alloc, mistake_printed(text.as_str())),
+        Request::Version => String::from_str(alloc, "version"),
+        Request::Lacking(text) | Request::Bad(text) => {
+            String::from_str(alloc, mistake_printed(text.as_str()))
+        }
     }
 }
 
 fn help_printed(alloc: Global, text: &str) -> Result<String, AllocError> {
     let first = text.lines().next().unwrap_or("");
     format!(in alloc; "help: {first}")
-}
-
-fn version_printed(alloc: Global, text: &str) -> Result<String, AllocError> {
-    let line = text.strip_suffix("\n").unwrap_or("no line feed");
-    format!(in alloc; "version: {line}")
 }
 
 fn mistake_printed(text: &str) -> &str {

@@ -20,6 +20,15 @@ edit 0 refused J1: the session has 1 step
 /// A member stands twice, and one is missing.
 const REFUSED: &str = "{\"format\": 1, \"format\": 1}";
 
+const REFUSED_TOLD: &str =
+    "the member \"format\" stands twice, and the last one counts: line 1, column 15
+refused H2 cores
+cores: this member is missing (line 1, column 1)
+";
+
+/// The same, but it is no JSON.
+const NO_JSON: &str = "{\"format\": 1, \"format\": 1";
+
 /// Statuses and notes, where standard output is told what it is without.
 #[test]
 fn statuses(rt: HostRuntime) -> Result<(), Fail> {
@@ -39,12 +48,20 @@ fn statuses(rt: HostRuntime) -> Result<(), Fail> {
             "",
             PRINTED,
         ),
+        ("smp_view trace", REFUSED, 1, "", REFUSED_TOLD),
         (
-            "smp_view trace",
+            "smp_view check --strict --at-least A.run=0",
             REFUSED,
             1,
             "",
-            "refused H2 cores\ncores: this member is missing (line 1, column 1)\n",
+            REFUSED_TOLD,
+        ),
+        (
+            "smp_view trace",
+            NO_JSON,
+            1,
+            "",
+            "refused H1\nnot JSON: line 1, column 25\n",
         ),
     ] {
         check(&rt, &rt, line, document, code, output, errors)?;

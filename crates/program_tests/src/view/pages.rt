@@ -1,13 +1,16 @@
 //! Pages, and the traces that stand in them place by place.
 
 use crate::view::samples::{FIRST_RUN, NO_NINTH, SHARED_MUTEX};
+use base64::engine::general_purpose::STANDARD;
 use program_io::Counted;
 use run_advice::Silent;
 use run_pages::{Parts, page};
 use run_pictures::{Axis, Extent};
 use run_views::{Places, trace_by_places};
 use session_text::read_session;
+use sha2::{Digest, Sha256};
 use smp_kernel::Meter;
+use std::alloc::{AllocError, Global};
 use std::process::Abort;
 use std::test::Fail;
 use std::thread::Threads;
@@ -53,18 +56,7 @@ fn a_trace_by_places(rt: HostRuntime) -> Result<(), Fail> {
 
 #[test]
 fn a_page_of_parts(rt: HostRuntime) -> Result<(), Fail> {
-    let alloc = rt.alloc();
-    let mut places = Vec::new(alloc);
-    places.push(String::from_str(alloc, "place 7 & 'more'\n")?)?;
-    let parts = Parts {
-        title: String::from_str(alloc, "A <run>")?,
-        picture: String::from_str(alloc, "<svg></svg>\n")?.into_bytes(),
-        first: 7,
-        places,
-        comparison: None,
-        report: String::from_str(alloc, "a \"report\"\n")?.into_bytes(),
-    };
-    let page = page(alloc, &parts)?;
+    let page = sample(rt.alloc())?;
     for printed in [
         "<title>A &lt;run&gt;</title>",
         "<div id='sheet'>\n<svg></svg>\n</div>",
@@ -77,12 +69,47 @@ fn a_page_of_parts(rt: HostRuntime) -> Result<(), Fail> {
     Ok(())
 }
 
+// A browser runs the script of a page only where its first lines have the hash of the script.
+#[test]
+fn the_hash_of_the_script(rt: HostRuntime) -> Result<(), Fail> {
+    let alloc = rt.alloc();
+    let page = sample(alloc)?;
+    let text = std::str::from_utf8(page.as_slice()).unwrap_or("");
+    let script = between(text, "<script>", "</script>");
+    let hash = STANDARD.encode(alloc, &Sha256::digest(script.as_bytes()))?;
+    assert!(rt; script.contains("addEventListener('keydown'"));
+    assert_eq!(rt; between(text, "script-src 'sha256-", "'"), hash.as_str());
+    Ok(())
+}
+
 #[test]
 fn pages_of_documents(rt: HostRuntime) -> Result<(), Fail> {
     let all = from_on(0);
     expect(&rt, &rt, false, all, SHARED_MUTEX, SHARED, NO_NINTH);
     expect(&rt, &rt, true, from_on(2), FIRST_RUN, SETTLED, "");
     Ok(())
+}
+
+// A page of one place, with words that have marks of HTML.
+fn sample(alloc: Global) -> Result<Vec<u8>, AllocError> {
+    let mut places = Vec::new(alloc);
+    places.push(String::from_str(alloc, "place 7 & 'more'\n")?)?;
+    let parts = Parts {
+        title: String::from_str(alloc, "A <run>")?,
+        picture: String::from_str(alloc, "<svg></svg>\n")?.into_bytes(),
+        first: 7,
+        places,
+        comparison: None,
+        report: String::from_str(alloc, "a \"report\"\n")?.into_bytes(),
+    };
+    page(alloc, &parts)
+}
+
+// What stands in the text behind the one and before the next of the other.
+fn between<'a>(text: &'a str, one: &str, other: &str) -> &'a str {
+    let (_, behind) = text.split_once(one).unwrap_or(("", ""));
+    let (within, _) = behind.split_once(other).unwrap_or(("", ""));
+    within
 }
 
 // The places from this one on, by their numbers.
@@ -117,6 +144,25 @@ fn expect<R: Threads + Abort + Sync>(
     assert!(rt; ending.message() == note.as_bytes());
     for printed in wanted.lines() {
         expect_part(rt, shown.as_slice(), printed);
+    }
+    expect_here(rt, shown.as_slice());
+}
+
+// Nothing is loaded from elsewhere, and links lead to what is in the page.
+fn expect_here(rt: &impl Abort, page: &[u8]) {
+    let text = std::str::from_utf8(page).unwrap_or("");
+    expect_each(rt, text, "href=", "'#");
+    expect_each(rt, text, "url(", "#");
+    for loading in ["src=", "@import"] {
+        assert!(rt; !text.contains(loading), "{loading}");
+    }
+}
+
+// Behind each of these words the other one follows.
+fn expect_each(rt: &impl Abort, text: &str, word: &str, wanted: &str) {
+    let (_, behind) = text.split_once(word).unwrap_or(("", wanted));
+    for part in behind.split(word) {
+        assert!(rt; part.starts_with(wanted), "{part}");
     }
 }
 

@@ -1,8 +1,11 @@
 //! Pictures.
 
-use crate::view::samples::{FIRST_RUN, HINDERED};
+use crate::view::samples::{FIRST_RUN, HINDERED, WOKEN_AMONG_IDLE};
 use bench_types::Step;
-use run_pictures::{Axis, Extent, Run, law_of_hindrances, tick_columns, timeline, timelines};
+use run_pictures::{
+    Axis, Extent, Run, law_of_bars, law_of_first_columns, law_of_hindrances, law_of_legends,
+    law_of_waits, tick_columns, timeline, timelines,
+};
 use run_views::Places;
 use session_text::read_session;
 use smp_kernel::Meter;
@@ -58,6 +61,15 @@ core 0: not in its mask</title>",
     "<title>place 11: C ready
 core 0: B of priority 4 runs, which is lower; the core was not asked
 core 1: due, has not switched yet</title>",
+];
+
+/// What is in the way of Z. An idle task stands lower, though its priority is 0 too: core 1 was
+/// asked for Z, and core 0 for no task.
+const AMONG_IDLE: [&str; 2] = [
+    "<title>places 5 to 6: Z ready
+core 0: IDLE0 of priority 0 runs, which is lower; the core was not asked
+core 1: due, has not switched yet</title>",
+    "<title>place 7: Z runs on core 1</title>",
 ];
 
 /// What stands beside the bars of C, and above them.
@@ -142,6 +154,22 @@ fn a_picture_of_what_is_in_the_way(rt: HostRuntime) -> Result<(), Fail> {
         Err(_) => panic!(rt; "too long"),
     }
     law_of_hindrances();
+    law_of_legends();
+    law_of_bars();
+    law_of_waits();
+    Ok(())
+}
+
+#[test]
+fn an_idle_task_is_lower_than_priority_0(rt: HostRuntime) -> Result<(), Fail> {
+    let alloc = rt.alloc();
+    let (header, steps) = read_session(alloc, WOKEN_AMONG_IDLE.as_bytes())?;
+    assert!(rt; steps.len() < 100);
+    let mut meter = Meter::new(&rt);
+    match timeline(alloc, &mut meter, ALL, &header, steps.as_slice())? {
+        Ok(picture) => expect_each(&rt, picture.as_str(), &AMONG_IDLE),
+        Err(_) => panic!(rt; "too long"),
+    }
     Ok(())
 }
 
@@ -164,6 +192,7 @@ fn a_picture_of_two_runs_in_columns(rt: HostRuntime) -> Result<(), Fail> {
         Ok(picture) => expect_printed(&rt, picture.as_str(), IN_COLUMNS),
         Err(_) => panic!(rt; "too long"),
     }
+    law_of_first_columns();
     Ok(())
 }
 

@@ -8,7 +8,7 @@ use crate::view::traces::WHOLE;
 use program_io::Counted;
 use run_advice::Silent;
 use std::env::Args;
-use std::io;
+use std::io::{self, ErrorKind};
 use std::process::{Abort, ExitCode};
 use std::test::Fail;
 use std::thread::Threads;
@@ -29,6 +29,69 @@ fn a_trace_by_the_program(rt: HostRuntime) -> Result<(), Fail> {
             errors: "",
         };
         check_program(&rt, &rt, words, standard, file, wanted);
+    }
+    Ok(())
+}
+
+/// The version, and what a command lacks, are told in full; nothing is read.
+#[test]
+fn texts_that_are_told_in_full(rt: HostRuntime) -> Result<(), Fail> {
+    for (line, code, output, errors) in [
+        ("smp_view --version", 0, "smp_view 0.1.0\n", ""),
+        ("smp_view -V trace", 0, "smp_view 0.1.0\n", ""),
+        (
+            "smp_view timeline --axis core",
+            2,
+            "",
+            "error: --axis takes place or tick\n\nFor more information, try '--help'.\n",
+        ),
+        (
+            "smp_view advise --task A --less run --over masks",
+            2,
+            "",
+            "error: --over takes priority, mask and order, with commas between them\n\n\
+            For more information, try '--help'.\n",
+        ),
+        (
+            "smp_view check",
+            2,
+            "",
+            "error: check takes limits, each a name and a whole number: \
+            --at-most control.blocked.mutex=3\n\nFor more information, try '--help'.\n",
+        ),
+    ] {
+        let words = Ok(args_of(rt.alloc(), line)?);
+        let wanted = Wanted {
+            code,
+            output,
+            errors,
+        };
+        check_program(&rt, &rt, words, "", "", wanted);
+    }
+    Ok(())
+}
+
+/// Where the reader of standard output has gone, nothing is told of it.
+#[test]
+fn standard_output_that_takes_nothing(rt: HostRuntime) -> Result<(), Fail> {
+    for (failure, code, message) in [
+        (Some(ErrorKind::BrokenPipe), 141, ""),
+        (Some(ErrorKind::Other), 3, "fault write\n"),
+        (None, 3, "fault write\n"),
+    ] {
+        for line in ["smp_view --help", "smp_view --version", "smp_view trace"] {
+            let shelf = Shelf {
+                name: "run.json",
+                text: b"",
+            };
+            let mut reader = DocumentSource::new(FIRST_RUN.as_bytes(), &shelf);
+            let mut output = Sink::new(9, 0, failure);
+            let mut errors = Sink::wide();
+            let words = Ok(args_of(rt.alloc(), line)?);
+            let status = status_of(&rt, &rt, words, &mut reader, &mut output, &mut errors);
+            expect_same(&rt, line, status, ExitCode::from(code));
+            errors.expect(&rt, message);
+        }
     }
     Ok(())
 }

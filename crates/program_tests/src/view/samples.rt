@@ -25,6 +25,18 @@ pub const HINDERED: &str = "{\"format\": 1, \"cores\": 2, \"priorities\": 8, \"s
     {\"do\": \"affinity_set\", \"core\": 0, \"by\": \"B\", \"to\": \"C\", \"mask\": 3}, \
     {\"do\": \"priority_set\", \"core\": 0, \"by\": \"B\", \"to\": \"C\", \"priority\": 6}]}";
 
+/// A and Z, of priority 0, delay themselves, so that both cores run idle tasks; a tick wakes Z, for
+/// which core 1 alone is asked.
+pub const WOKEN_AMONG_IDLE: &str = "{\"format\": 1, \"cores\": 2, \"priorities\": 2, \
+    \"slicing\": false, \"tick\": 0, \"mutexes\": 0, \"tasks\": [\
+    {\"name\": \"A\", \"priority\": 1, \"mask\": 3}, \
+    {\"name\": \"Z\", \"priority\": 0, \"mask\": 3}], \"steps\": [\
+    {\"do\": \"delay\", \"core\": 0, \"by\": \"A\", \"ticks\": 9}, \
+    {\"do\": \"switch\", \"core\": 0}, \
+    {\"do\": \"delay\", \"core\": 1, \"by\": \"Z\", \"ticks\": 1}, \
+    {\"do\": \"switch\", \"core\": 1}, {\"do\": \"tick\"}, {\"do\": \"tick\"}, \
+    {\"do\": \"switch\", \"core\": 1}]}";
+
 /// A control loop waits for a mutex that a logger has; edits give the mutex first, leave out the
 /// switch, give the logger another step, and ask for a place that there is not.
 pub const SHARED_MUTEX: &str = "{\"session\": {\"format\": 1, \"cores\": 2, \"priorities\": 4, \

@@ -30,7 +30,7 @@ const UNEDITED: &str = "  0 0 delay core 0 by A ticks 2: blocked; A B
   2 2 tick: done; C B
   3 3 yield core 0 by C: done; C B
   4 4 switch core 0: done; C B
-the runs do not differ
+no step differs
 ";
 
 const INDEXED: &str = "  0 0 notify_wait core 0 by A entry 0 exit 0 ticks 10 index 1: blocked; A B
@@ -40,7 +40,7 @@ const INDEXED: &str = "  0 0 notify_wait core 0 by A entry 0 exit 0 ticks 10 ind
     isr true false: the notification passed; A B
   3 3 switch core 0: done; A B
   4 4 finish core 0 by A: waited true 9: a notification had come; A B
-the runs do not differ
+no step differs
 ";
 
 /// `TWO_NOTES`, written.

@@ -30,6 +30,12 @@ def told(text, words):
     return ran.returncode, ran.stdout, ran.stderr
 
 
+def behind_refused(document, wanted):
+    """What is wanted, where standard error first has a line for each edit that is refused."""
+    status, output, error = wanted
+    return status, output, settle.edited(copy.deepcopy(document))[1] + error
+
+
 def some_limits(rng, document, settled):
     """Limits of numbers of the run, near what they are; now and then of a name that is none."""
     session = settle.edited_session(copy.deepcopy(document))
@@ -49,7 +55,7 @@ def check_differs(rng, document, settled):
     words = ["check", *(["--settle"] if settled else [])]
     words += [f"--at-{kind}={name}={bound}" for kind, name, bound in limits]
     wanted = advice.check(copy.deepcopy(document), settled, limits)
-    return told(json.dumps(document), words) != wanted
+    return told(json.dumps(document), words) != behind_refused(document, wanted)
 
 
 def advice_differs(rng, document, settled):
@@ -61,7 +67,7 @@ def advice_differs(rng, document, settled):
     words = ["advise", "--task", task, "--less", number, "--over", ",".join(families)]
     words += ["--best", str(count), *(["--settle"] if settled else [])]
     wanted = advice.advise(copy.deepcopy(document), settled, task, number, families, count)
-    return told(json.dumps(document), words) != wanted
+    return told(json.dumps(document), words) != behind_refused(document, wanted)
 
 
 def main():

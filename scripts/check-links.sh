@@ -2,9 +2,9 @@
 # Looks whether what the documents name is there: README.md, CONTRIBUTING.md, CHANGELOG.md, docs/*.md, scripts/README.md and each
 # README.md below examples/. Of the repository each path has to exist that stands in a link, between backticks or in a block of code;
 # and each name of at least four letters that stands between backticks, as `Kernel::step` or `laws_of_steps`, has to be a word of
-# crates/, crates.txt, scripts/, examples/ or docs/schema/, documents apart, or the name of a file there. It is called without words, from any
-# folder. It prints each that is not there, with its document, and then `N names, M missing`. Status 1 where one is missing, 2 of a bad
-# call.
+# crates/, crates.txt, scripts/, examples/ or docs/schema/, documents apart, or the name of a file there. So has each clause that
+# docs/PROVED.md names beside a function, by check-clauses.sh. It is called without words, from any folder. It prints each that is not
+# there, with its document, and then `N names, M missing`. Status 1 where one is missing, 2 of a bad call.
 set -u
 export LC_ALL=C
 cd "$(dirname -- "${BASH_SOURCE[0]}")/.." || exit 2
@@ -128,4 +128,4 @@ while IFS=$'\t' read -r word document; do
 done < <(awk -F '\t' '$1 == "N" { print $3 "\t" $2 }' "$folder/named" | sort |
     join -t $'\t' -v 1 - "$folder/known")
 printf '%d names, %d missing\n' "$(wc -l <"$folder/named")" "$missing"
-[ -s "$folder/named" ] && [ "$missing" = 0 ]
+bash scripts/check-clauses.sh && [ -s "$folder/named" ] && [ "$missing" = 0 ]

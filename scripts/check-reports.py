@@ -14,6 +14,7 @@ import subprocess
 import sys
 
 import report
+import settle
 
 documents = importlib.import_module("check-settled")
 
@@ -37,7 +38,7 @@ def main():
         for words in ([], ["--settle"]):
             wanted = report.report(json.loads(text), bool(words))
             numbers += len((wanted if "values" in wanted else wanted["before"])["values"])
-            if told(text, words) != (0, wanted, ""):
+            if told(text, words) != (0, wanted, settle.edited(json.loads(text))[1]):
                 wrong += 1
                 print(f"WRONG document {number} {' '.join(words)}")
     print(f"{count} documents, {numbers} numbers of each run, {wrong} reports differ")

@@ -2,8 +2,8 @@
 """Hold what the built smp_view settles against scripts/settle.py, which shares no code with it.
 
 2,000 random documents, or as many as the first argument says, have steps of every kind, edits of
-every kind, and tick counts at both ends of 32 bits. Of each the steps of the settled session and
-the line about calls that were not made are compared. A line where one differs, then a total;
+every kind, and tick counts at both ends of 32 bits. Of each the steps of the settled session, the
+lines about refused edits and the one about calls that were not made are compared. A line where one differs, then a total;
 status 1 where one does. The second argument is the first number of the random documents.
 """
 
@@ -131,14 +131,14 @@ def document(rng):
 
 
 def wanted(text):
-    """What the second opinion makes of a document: the steps, and the line of calls not made."""
-    session = settle.edited_session(json.loads(text))
+    """What the second opinion makes of a document: the steps, and what standard error says."""
+    session, refused = settle.edited(json.loads(text))
     run, waiting = settle.settle(session)
     left = Counter(call["by"] for call in waiting)
     names = [task["name"] for task in session["tasks"]]
     told = [f"{task} {left[task]}" for task in names if left[task]]
     steps = [settle.written(made, session.get("notes", 1)) for made in run]
-    return steps, f"not made: {', '.join(told)}\n" if told else ""
+    return steps, refused + (f"not made: {', '.join(told)}\n" if told else "")
 
 
 def settled(text):

@@ -125,6 +125,8 @@ class Run:
         for core in range(len(self.cores[0])):
             rival = self.current(place, core)
             level = self.priorities[place].get(rival, (0, 0))[0]
+            # The kernel compares effective priorities: that of an idle task is below 0.
+            effective = level if rival in self.priorities[place] else -1
             if not mask >> core & 1:
                 outside.append(f"core {core}: not in its mask")
             elif hold:
@@ -132,8 +134,8 @@ class Run:
             elif self.due(place, core):
                 inside.append(f"core {core}: due, has not switched yet")
             else:
-                more = "" if own <= level else " with preemption off"
-                if own > level and rival not in self.unpreempted[place]:
+                more = "" if own <= effective else " with preemption off"
+                if own > effective and rival not in self.unpreempted[place]:
                     more = ", which is lower; the core was not asked"
                 inside.append(f"core {core}: {rival} of priority {level} runs{more}")
         if hold and inside:
@@ -424,6 +426,15 @@ def long_session(steps, seed):
             "tasks": tasks, "steps": made}
 
 
+def woken_among_idle():
+    """A session in which a ready task of priority 0 stands beside an idle task whose core was not asked for it."""
+    tasks = [{"name": "A", "priority": 1, "mask": 3}, {"name": "Z", "priority": 0, "mask": 3}]
+    made = [{"do": "delay", "core": 0, "by": "A", "ticks": 9}, {"do": "switch", "core": 0},
+            {"do": "delay", "core": 1, "by": "Z", "ticks": 1}, {"do": "switch", "core": 1},
+            {"do": "tick"}, {"do": "tick"}, {"do": "switch", "core": 1}]
+    return {"format": 1, "cores": 2, "priorities": 2, "slicing": False, "mutexes": 0, "tick": 0, "tasks": tasks, "steps": made}
+
+
 # ---- what a browser makes of it
 
 
@@ -475,6 +486,7 @@ def main():
     for path in documents:
         check_document(str(path), json.loads(path.read_text()), MODES)
     check_document("200 steps", long_session(200, 7), MODES)
+    check_document("woken among idle tasks", woken_among_idle(), MODES)
     begun = time.monotonic()
     status, svg, errors = view(["timeline"], json.dumps(long_session(3999, 11)))
     took = time.monotonic() - begun

@@ -91,6 +91,12 @@ session '"core": 0' '"core": 7, "core": 0'
 core_twice=$'the member "core" stands twice, and the last one counts: line 14, column 32\n'
 run 'replay of a session with a member twice' 0 "$lines" "$core_twice" replay
 run 'whatif of one' 0 '' "${core_twice}no edits: nothing was tried" whatif
+printf '{"format": 1, "format": 1}' >"$folder/in"
+format_twice=$'the member "format" stands twice, and the last one counts: line 1, column 15\n'
+no_cores=$'cores: this member is missing (line 1, column 1)\n'
+run 'a refused session with a member twice' 1 $'refused H2 cores\n' "$format_twice$no_cores" replay
+printf '{"format": 1, "format": 1' >"$folder/in"
+run 'the same, cut off' 1 $'refused H1\n' $'not JSON: line 1, column 25\n' replay
 
 cp examples/another-call.json "$folder/in"
 edited='edit 0 from 0 met 5 replayed 5
@@ -243,6 +249,8 @@ run 'an edit at no place' 1 $'refused H2 edits[1].at\n' 'edits[1].at: this membe
 ticks="$(printf '%01000001d' 0 | sed 's/0/{"do":"tick"},/g')"
 session '"steps": [' "\"steps\": [$ticks"
 run 'more steps than a session may have' 1 $'refused J2\n' 'the session has more than 1000000 steps' replay
+sed -i '14s/"core": 0/"core": 7, "core": 0/' "$folder/in"
+run 'the same, with a member twice' 1 $'refused J2\n' "${core_twice}the session has more than 1000000 steps" replay
 
 : >"$folder/in"
 run 'no document' 1 $'refused H1\n' 'not JSON: line 1, column 0' whatif
@@ -448,7 +456,22 @@ exec 3<>"$folder/pipe" 4>"$folder/pipe" 3<&-
 "$program" replay <"$folder/in" >&4 2>"$folder/err"
 status=$?
 exec 4>&-
-compare 'a closed pipe as output' 3 '' $'fault write\n'
+compare 'a closed pipe as output' 141 '' ''
+exec 3<>"$folder/pipe" 4>"$folder/pipe" 3<&-
+printf '%s' "$rig" | "$program" record >&4 2>"$folder/err"
+status=$?
+exec 4>&-
+compare 'record to a closed pipe' 141 '' ''
+exec 3<>"$folder/pipe" 4>"$folder/pipe" 3<&-
+"$program" whatif <examples/another-call.json >&4 2>"$folder/err"
+status=$?
+exec 4>&-
+compare 'whatif to a closed pipe' 141 '' ''
+exec 3<>"$folder/pipe" 4>"$folder/pipe" 3<&-
+"$program" --help >&4 2>"$folder/err"
+status=$?
+exec 4>&-
+compare '--help to a closed pipe' 141 '' ''
 
 "$program" replay again 2>/dev/full >"$folder/out"
 status=$?
@@ -479,7 +502,9 @@ cut_off() { # NAME STATUS
 for bytes in 0 1 4096 65536 100000 200000; do
     { "$program" replay <"$folder/in" 2>"$folder/err"; echo $? >"$folder/status"; } | head -c "$bytes" >"$folder/out"
     status="$(cat "$folder/status")"
-    cut_off "a pipe that is closed after $bytes bytes" 3
+    cut_off "a pipe that is closed after $bytes bytes" 141
+    : >"$folder/out"
+    compare 'and nothing is told of that' 141 '' ''
 done
 
 half() { # SECONDS: the beginning of the input, and after so long the rest
@@ -600,6 +625,11 @@ run_to() { # NAME WANTED WORD..
 
 session '"core": 0' '"core": 7, "core": 0'
 run 'a trace of a session with a member twice' 0 "$traced" "$core_twice" trace
+printf '{"format": 1, "format": 1}' >"$folder/in"
+run 'a trace of a refused session with a member twice' 1 '' "${format_twice}refused H2 cores
+$no_cores" trace
+printf '{"format": 1, "format": 1' >"$folder/in"
+run 'the same, cut off' 1 '' $'refused H1\nnot JSON: line 1, column 25\n' trace
 session '' ''
 run 'a trace' 0 "$traced" '' trace
 run 'a trace of two places' 0 'place 2, tick 0; core 0 C; core 1 B
@@ -645,7 +675,7 @@ run 'a comparison without edits' 0 '  0 0 delay core 0 by A ticks 2: blocked; A 
   2 2 tick: done; C B
   3 3 yield core 0 by C: done; C B
   4 4 switch core 0: done; C B
-the runs do not differ
+no step differs
 ' '' compare
 awk '/^```$/ { inside = !inside; next } inside' docs/VIEW.md >"$folder/compared"
 cp examples/compare/shared-mutex.json "$folder/in"
@@ -800,6 +830,36 @@ status=$?
 : >"$folder/err"
 compare 'a file that is not there, with a full device for standard error' 3 '' ''
 
+# ---- progress
+
+# A tick of so many tasks of one priority, of which T0 and T1 run.
+crowd() { # TASKS
+    local task tasks=''
+    for ((task = 0; task < $1; task++)); do
+        tasks+="${tasks:+,}{\"name\":\"T$task\",\"priority\":1,\"mask\":3}"
+    done
+    printf '{"format":1,"cores":2,"priorities":5,"slicing":false,"tick":0,"mutexes":0,"tasks":[%s],"steps":[{"do":"tick"}]}\n' \
+        "$tasks" >"$folder/in"
+}
+
+# Advice on the four other priorities of each task, with a terminal for standard error. It is told how much of all is done, each part
+# once, and then stands what is printed. A terminal ends a line by two characters.
+on_terminal() { # NAME TASKS TOLD OUT
+    crowd "$2"
+    script -qec "'$program' advise --task T0 --less run --over priority --best 0 <'$folder/in' >'$folder/printed'" /dev/null \
+        </dev/null >"$folder/out" 2>"$folder/err"
+    status=$?
+    cat "$folder/printed" >>"$folder/out"
+    compare "$1" 0 "$3$4" ''
+}
+on_terminal 'progress of 4 changes' 1 $'\r4 of 4 tried\r\n' $'T0.run is 1; 4 changes tried\n'
+on_terminal 'progress of 64 changes' 16 $'\r64 of 64 tried\r\n' $'T0.run is 1; 64 changes tried\n'
+on_terminal 'progress of 80 changes' 20 $'\r64 of 80 tried\r80 of 80 tried\r\n' $'T0.run is 1; 80 changes tried\n'
+told=''
+for done in 64 128 192 256 320 384 448 504; do told+=$'\r'"$done of 504 tried"; done
+on_terminal 'progress of 504 changes' 126 "$told"$'\r\n' $'T0.run is 1; 504 changes tried\n'
+run 'no progress in a file' 0 $'T0.run is 1; 504 changes tried\n' '' advise --task T0 --less run --over priority --best 0
+
 # ---- refused input
 
 : >"$folder/in"
@@ -819,6 +879,10 @@ run 'no such task in an edit' 1 '' $'refused F3 edits[0]\nedits[0]: ' compare
 ticks="$(printf '%01000001d' 0 | sed 's/0/{"do":"tick"},/g')"
 session '"steps": [' "\"steps\": [$ticks"
 run 'more steps than a session may have' 1 '' $'refused J2\nthe session has more than 1000000 steps\n' timeline
+sed -i '14s/"core": 0/"core": 7, "core": 0/' "$folder/in"
+run 'the same, with a member twice' 1 '' "${core_twice}refused J2
+the session has more than 1000000 steps
+" timeline
 session '' ''
 run 'a task that the session has not' 1 '' $'refused task D\n' trace --task A --task D --task E
 run 'an idle task' 1 '' $'refused task IDLE0\n' trace --task IDLE0

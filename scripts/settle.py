@@ -6,11 +6,11 @@ greater its stamp; so the end of a list is a new stamp, and the front of a list 
 A task that is blocked for some ticks has the tick of its wake. The tick grows without end here,
 and is cut to 32 bits only where a call reads it. Every choice is a search of all tasks or cores.
 
-The settled run of a session is what a target would make of its events, which are all of its steps
-but each `switch` and `finish`: those the port and the return from a call make by themselves. The
-run is the start, then quiet work, and then each event in order, with quiet work after each. A tick
-or an interrupt is made as it stands, and a call is put behind the calls that wait. Quiet work is,
-until there is none, the first of these:
+The settled run of a session is made of its events, which are all of its steps but each `switch`
+and `finish`: those the port and the return from a call make by themselves. The run is the start,
+then quiet work, and then each event in order, with quiet work after each. A tick or an interrupt
+is made as it stands, and a call is put behind the calls that wait. Quiet work is, until there is
+none, the first of these:
 
 1. the `switch` of the least core where it is not refused;
 2. the `finish` of the current user task of the least core where it is not refused;
@@ -629,25 +629,41 @@ def change(session, edit):
             task["priority"], task["mask"] = edit["priority"], edit["mask"]
 
 
+def refusal(session, edit):
+    """Why an edit is refused, as people are told; nothing where it may be made."""
+    kind, count = edit["edit"], len(session["steps"])
+    if kind != "change" and edit["at"] > (count if kind == "insert" else count - 1):
+        return f"J1: the session has {count} step{'' if count == 1 else 's'}"
+    if kind == "insert" and count == MOST_STEPS:
+        return f"J2: the session has {count} steps, the most that it may have"
+    return ""
+
+
 def apply(session, edit):
-    """Make an edit; one that is at no place leaves the session as it is."""
+    """Make an edit that may be made."""
     steps, at = session["steps"], edit.get("at")
     if edit["edit"] == "change":
         change(session, edit)
     elif edit["edit"] == "insert":
-        if at <= len(steps) < MOST_STEPS:
-            steps.insert(at, edit["step"])
-    elif at < len(steps):
+        steps.insert(at, edit["step"])
+    else:
         steps[at : at + 1] = [edit["step"]] if edit["edit"] == "replace" else []
+
+
+def edited(document):
+    """The session of a document, with its edits made, and a line for each edit that is refused."""
+    session, lines = document.get("session", document), []
+    for index, edit in enumerate(document["edits"] if "session" in document else ()):
+        if why := refusal(session, edit):
+            lines.append(f"edit {index} refused {why}\n")
+        else:
+            apply(session, edit)
+    return session, "".join(lines)
 
 
 def edited_session(document):
     """The session of a document, with its edits made."""
-    session = document.get("session", document)
-    if "session" in document:
-        for edit in document["edits"]:
-            apply(session, edit)
-    return session
+    return edited(document)[0]
 
 
 def written(step, notes):

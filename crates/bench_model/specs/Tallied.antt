@@ -8,7 +8,7 @@ use Rattle.bench_model.specs.Control.{Control, task_at}
 use Rattle.bench_model.specs.State.{QueueOps}
 use Rattle.bench_model.specs.Table.{Stamps, Table, stamp_queues}
 use Rattle.bench_model.specs.Session.{step_of}
-use Rattle.bench_model.specs.Tally.{TaskTally, Moment, is_found_on, is_found_waiting, is_inverted, is_switched_in, is_displaced, is_timeout}
+use Rattle.bench_model.specs.Tally.{TaskTally, Moment, is_found_on, is_found_wanting, is_inverted, is_switched_in, is_displaced, is_timeout}
 
 abbrev pub no_counts : ℕ → Tally
 no_counts top =
@@ -41,7 +41,7 @@ module _ {Orders : Type 0} (ops : QueueOps Orders) (moment : Moment Orders) wher
     run = map (λ core. run_at tally core + one_if (is_found_on core task moment))
         (numbers (length tally.run));
     counts = record {
-      wait = tally.counts.wait + one_if (is_found_waiting ops task moment);
+      wait = tally.counts.wait + one_if (is_found_wanting ops task moment);
       inverted = tally.counts.inverted + one_if (is_inverted ops task moment);
       switched = tally.counts.switched + one_if (is_switched_in task moment);
       displaced = tally.counts.displaced + one_if (is_displaced task moment);

@@ -103,15 +103,18 @@ module _ {Orders : Type 0} where
   is_timeout task moment = is_finish_of task moment.step && says_run_out moment.reply
 
 module _ {Orders : Type 0} (ops : QueueOps Orders) where
-  -- a tick finds the task ready and on no core
-  abbrev pub is_found_waiting : ℕ → Moment Orders → Bool
-  is_found_waiting task moment =
-      is_tick moment.step
-      && (ops.is_ready task moment.before.orders && not (is_current moment.before.control task))
+  -- the task is ready and on no core
+  abbrev pub wants_core : ℕ → State Orders → Bool
+  wants_core task state =
+      ops.is_ready task state.orders && not (is_current state.control task)
+
+  -- a tick finds that the task wants a core
+  abbrev pub is_found_wanting : ℕ → Moment Orders → Bool
+  is_found_wanting task moment = is_tick moment.step && wants_core task moment.before
 
   -- a tick finds it so while a core that it may run on has a task of lower effective priority
   abbrev pub is_inverted : ℕ → Moment Orders → Bool
-  is_inverted task moment = is_found_waiting task moment && outranks_some moment.before.control task
+  is_inverted task moment = is_found_wanting task moment && outranks_some moment.before.control task
 
 -- the step at a place of a session, none past the last
 unfoldable pub moment_at : Header → List Step → ℕ → Option (Moment Stamps)
@@ -134,7 +137,7 @@ module _ (header : Header) (steps : List Step) where
   run_ticks task core = steps_that (is_found_on core task)
 
   abbrev pub wait_ticks : ℕ → ℕ
-  wait_ticks task = steps_that (is_found_waiting stamp_queues task)
+  wait_ticks task = steps_that (is_found_wanting stamp_queues task)
 
   abbrev pub inverted_ticks : ℕ → ℕ
   inverted_ticks task = steps_that (is_inverted stamp_queues task)

@@ -6,7 +6,6 @@ ghost use Rattle.bench_model.specs.Tallied.{shape, shape_of, AllCountsBelow};
 
 use crate::replays::need_checked;
 use crate::samples::{A_DELAYS, Opened, SWITCH_0, SWITCH_1, assert_same, assert_text, three_tasks};
-use bench_reports::Tallies;
 use bench_samples::low_and_high;
 use bench_types::{Call, Header, Step, Tally};
 use session_store::Store;
@@ -14,6 +13,7 @@ use smp_kernel::{Kernel, Meter};
 use std::alloc::{AllocError, Global};
 use std::process::Abort;
 use std::test::Fail;
+use tallies::Tallies;
 
 const INITIAL: &str = "\
 task IDLE0 run 0 0 wait 0 inverted 0 in 0 displaced 0 timeouts 0 top 0

@@ -3,7 +3,6 @@
 use crate::reports::{SHARED, YIELDED_TALLIES};
 use crate::samples::{Opened, assert_at, assert_row, assert_same, assert_text, between, ticks};
 use crate::store_edits::{A_YIELDS, insert, replace};
-use bench_reports::Tallies;
 use bench_samples::{LARGEST, crowd};
 use bench_types::{Edit, EditFault, MAX_TASKS, Step};
 use session_store::{Outcome, Store, StoreFault};
@@ -11,6 +10,7 @@ use std::alloc::{AllocError, Global};
 use std::process::Abort;
 use std::test::Fail;
 use std::thread::Threads;
+use tallies::Tallies;
 use what_if::try_all;
 
 /// What the trial of the edit tells, with the tallies as text.

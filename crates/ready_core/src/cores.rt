@@ -18,7 +18,7 @@ ghost use Rattle.bench_model.specs.Cores.{cores_of, bare_view, cores_rule, has_c
 ghost use Rattle.list_orders.specs.Scans.{better_of};
 ghost use Rattle.ready_core.specs.Fields.{ready_list, is_set, wants_core, has_seat, unlisted, all_placed, may_be_asked, stays_asked};
 
-use crate::first::{first_controls, first_looks, first_seats, none_waiting};
+use crate::first::{first_controls, first_looks, first_seats, none_wanting};
 use bench_types::{CoreLook, Header, TaskControl, cores_of_mask};
 use index_lists::Lists;
 use std::alloc::{AllocError, Global};
@@ -40,7 +40,7 @@ pub struct Cores {
     /// Per task the bits of the cores that have it as current task (V11 tasks.c, `xTaskRunState`).
     seats: Vec<u32>,
     /// Per task whether it is ready and on no core.
-    waiting: Vec<bool>,
+    wanting: Vec<bool>,
     /// The bits of the cores that are not due.
     undue: u32,
 }
@@ -56,7 +56,7 @@ impl Drop for Cores {
             lists: _,
             listed: _,
             seats: _,
-            waiting: _,
+            wanting: _,
             undue: _,
         } = self;
     }
@@ -73,7 +73,7 @@ impl Model for Cores {
         (control_from of.cores.items of.tasks.items) of.lists };
 
     ghost invariant = { λ of. IsKept of.priorities of.cores.items of.tasks.items of.lists
-        of.listed of.seats.items of.waiting.items of.undue };
+        of.listed of.seats.items of.wanting.items of.undue };
 }
 
 impl Cores {
@@ -105,7 +105,7 @@ impl Cores {
             lists: self.lists.copy(alloc)?,
             listed: self.listed,
             seats: Vec::from_slice(alloc, &self.seats)?,
-            waiting: Vec::from_slice(alloc, &self.waiting)?,
+            wanting: Vec::from_slice(alloc, &self.wanting)?,
             undue: self.undue,
         })
     }
@@ -124,7 +124,7 @@ impl Cores {
         self.lists.copy_from(&other.lists);
         self.listed = other.listed;
         self.seats.copy_from_slice(&other.seats);
-        self.waiting.copy_from_slice(&other.waiting);
+        self.wanting.copy_from_slice(&other.wanting);
         self.undue = other.undue;
     }
 
@@ -260,11 +260,11 @@ impl Cores {
     }
 
     /// For each task whether it is ready and on no core.
-    pub fn waiting(&self) -> &[bool]
+    pub fn wants_core(&self) -> &[bool]
         ensures { result.now
             ≡ map (wants_core self.now) (numbers (length self.now.control.tasks)) }
     {
-        self.waiting.as_slice()
+        self.wanting.as_slice()
     }
 
     /// Whether the effective priority of one task is below that of the other: an idle task stands
@@ -362,7 +362,7 @@ impl Cores {
     {
         let priority = self.in_use(task);
         self.lists.remove(task);
-        self.waiting[task as usize] = false;
+        self.wanting[task as usize] = false;
         if self.lists.len(priority) == 0 {
             self.listed &= !(1 << priority);
         }
@@ -461,7 +461,7 @@ impl Cores {
             lists: Lists::new(alloc, cores + users, header.config.priorities)?,
             listed: 0,
             seats: first_seats(alloc, cores, cores + users)?,
-            waiting: none_waiting(alloc, cores + users)?,
+            wanting: none_wanting(alloc, cores + users)?,
             undue: cores_of_mask(cores, u32::MAX),
         })
     }
@@ -491,7 +491,7 @@ impl Cores {
         let priority = self.in_use(task);
         self.lists.push_last(priority, task);
         self.listed |= 1 << priority;
-        self.waiting[task as usize] = self.seats[task as usize] == 0;
+        self.wanting[task as usize] = self.seats[task as usize] == 0;
     }
 
     // The priority in use of a task that is not ready becomes this one.
@@ -758,9 +758,9 @@ impl Cores {
         let left = self.running(core);
         let is_ready = self.ready(left);
         self.seats[left as usize] &= !(1 << core);
-        self.waiting[left as usize] = is_ready & (self.seats[left as usize] == 0);
+        self.wanting[left as usize] = is_ready & (self.seats[left as usize] == 0);
         self.seats[task as usize] |= 1 << core;
-        self.waiting[task as usize] = false;
+        self.wanting[task as usize] = false;
         self.cores[core as usize] = CoreLook {
             current: task,
             pend: false,

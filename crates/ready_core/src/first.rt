@@ -83,8 +83,8 @@ fn first_seat(cores: u32, task: u32) -> u32
 }
 
 // No task is ready.
-pub(crate) fn none_waiting(alloc: Global, tasks: u32) -> Result<Vec<bool>, AllocError>
-    ensures { IfOk result (λ waiting. waiting.items ≡ replicate tasks false) }
+pub(crate) fn none_wanting(alloc: Global, tasks: u32) -> Result<Vec<bool>, AllocError>
+    ensures { IfOk result (λ wanting. wanting.items ≡ replicate tasks false) }
 {
     vec![in alloc; false; tasks as usize]
 }

@@ -1,11 +1,11 @@
 //! Trials of edits, which leave a store as it was.
 use crate::call_result::CallResult;
 use crate::stores::{Opened, edits, is_same, open_twins};
-use bench_reports::Tallies;
 use bench_types::Edit;
 use session_store::{Outcome as Replayed, Store, StoreFault};
 use std::alloc::{AllocError, Global};
 use std::thread::Threads;
+use tallies::Tallies;
 use what_if::try_all;
 
 /// How each task fared in the session where A finds nothing to clear in place of its yield.

@@ -16,7 +16,7 @@ use Rattle.bench_model.specs.Table.{Stamps, Table, stamp_queues}
 use Rattle.order_laws.proofs.SeenMoves.{is_ready_seen}
 use Rattle.smp_kernel.specs.Raised.{raised_by, KeepsOthers}
 use Rattle.run_numbers.specs.declared.subject.Condition.{Condition}
-use Rattle.run_numbers.specs.declared.subject.Condition.TheVariants.{Running, RunningOn, Waiting, Inverted, Blocked, HeldUp, Busy, Idle, Due, Held}
+use Rattle.run_numbers.specs.declared.subject.Condition.TheVariants.{Running, RunningOn, WantsCore, Inverted, Blocked, HeldUp, Busy, Idle, Due, Held}
 use Rattle.run_numbers.specs.declared.subject.Event.{Event}
 use Rattle.run_numbers.specs.declared.subject.Event.TheVariants.{SwitchedIn, Inherits, TimesOut, Refused, Awaited}
 use Rattle.run_numbers.specs.AfterStep.{happens_after, inherited, risen, known_before}
@@ -33,7 +33,7 @@ pub holds_seen : (table : Table) (condition : Condition) → IsConsistent table 
     (view_of table) ≡ holds stamp_queues condition table
 holds_seen table (Running task) sound low = refl
 holds_seen table (RunningOn task core) sound low = refl
-holds_seen table (Waiting task) sound low = rw (ready_seen table task sound low) refl
+holds_seen table (WantsCore task) sound low = rw (ready_seen table task sound low) refl
 holds_seen table (Inverted task) sound low = rw (ready_seen table task sound low) refl
 holds_seen table (Blocked task cause) sound low = rw (ready_seen table task sound low) refl
 holds_seen table (HeldUp task) sound low = rw (ready_seen table task sound low) refl

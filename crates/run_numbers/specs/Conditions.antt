@@ -6,11 +6,11 @@ use Rattle.bench_types.specs.declared.step.Unfinished.{Unfinished}
 use Rattle.bench_types.specs.declared.step.Unfinished.TheVariants.{Made, Take}
 use Rattle.bench_model.specs.Control.{Control, current, is_due, is_idle, task_at}
 use Rattle.bench_model.specs.State.{State, QueueOps, call_at, holder_at}
-use Rattle.bench_model.specs.Tally.{is_current, outranks_some}
+use Rattle.bench_model.specs.Tally.{is_current, outranks_some, wants_core}
 use Rattle.run_numbers.specs.declared.subject.Cause.{Cause}
 use Rattle.run_numbers.specs.declared.subject.Cause.TheVariants as cause
 use Rattle.run_numbers.specs.declared.subject.Condition.{Condition}
-use Rattle.run_numbers.specs.declared.subject.Condition.TheVariants.{Running, RunningOn, Waiting, Inverted, Blocked, HeldUp, Busy, Idle, Due, Held}
+use Rattle.run_numbers.specs.declared.subject.Condition.TheVariants.{Running, RunningOn, WantsCore, Inverted, Blocked, HeldUp, Busy, Idle, Due, Held}
 
 -- a task that is blocked in the unfinished call is blocked for the cause
 abbrev pub is_cause : Cause → Unfinished → Bool
@@ -34,11 +34,6 @@ holds_up control task holder =
     && not (is_current control holder)
 
 module _ {Orders : Type 0} (ops : QueueOps Orders) where
-  -- the task is ready and on no core
-  abbrev pub is_waiting : ℕ → State Orders → Bool
-  is_waiting task state =
-      ops.is_ready task state.orders && not (is_current state.control task)
-
   -- the task is blocked for the cause
   abbrev pub is_blocked : ℕ → Cause → State Orders → Bool
   is_blocked task cause state =
@@ -61,8 +56,8 @@ module _ {Orders : Type 0} (ops : QueueOps Orders) where
   abbrev pub holds : Condition → State Orders → Bool
   holds (Running task) state = is_current state.control task
   holds (RunningOn task core) state = current state.control core == task
-  holds (Waiting task) state = is_waiting task state
-  holds (Inverted task) state = is_waiting task state && outranks_some state.control task
+  holds (WantsCore task) state = wants_core ops task state
+  holds (Inverted task) state = wants_core ops task state && outranks_some state.control task
   holds (Blocked task cause) state = is_blocked task cause state
   holds (HeldUp task) state = is_held_up task state
   holds (Busy core) state = not (is_idle state.control (current state.control core))

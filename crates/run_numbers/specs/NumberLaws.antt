@@ -7,7 +7,7 @@ use Rattle.bench_types.specs.declared.step.Step.{Step}
 use Rattle.bench_model.specs.Tally.{displaced_calls, inverted_ticks, run_ticks, switches_in, timeouts, top_priority, wait_ticks}
 use Rattle.settled_runs.specs.declared.waiting_call.WaitingCall.{WaitingCall}
 use Rattle.run_numbers.specs.declared.subject.Condition.{Condition}
-use Rattle.run_numbers.specs.declared.subject.Condition.TheVariants.{RunningOn, Waiting, Inverted}
+use Rattle.run_numbers.specs.declared.subject.Condition.TheVariants.{RunningOn, WantsCore, Inverted}
 use Rattle.run_numbers.specs.declared.subject.Event.TheVariants.{SwitchedIn, TimesOut, Refused}
 use Rattle.run_numbers.specs.declared.subject.Subject.{Subject}
 use Rattle.run_numbers.specs.declared.subject.Subject.TheVariants.{Ticks, Steps, TopPriority}
@@ -23,7 +23,7 @@ pub record NumbersAreTallies : Type 0 where
   pub run : (header : Header) (steps : List Step) (left : List WaitingCall) (task core : ℕ)
       → total_of header steps left (Ticks (RunningOn task core)) ≡ run_ticks header steps task core
   pub wait : (header : Header) (steps : List Step) (left : List WaitingCall) (task : ℕ)
-      → total_of header steps left (Ticks (Waiting task)) ≡ wait_ticks header steps task
+      → total_of header steps left (Ticks (WantsCore task)) ≡ wait_ticks header steps task
   pub inverted : (header : Header) (steps : List Step) (left : List WaitingCall) (task : ℕ)
       → total_of header steps left (Ticks (Inverted task)) ≡ inverted_ticks header steps task
   pub switched : (header : Header) (steps : List Step) (left : List WaitingCall) (task : ℕ)

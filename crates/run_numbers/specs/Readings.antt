@@ -6,7 +6,7 @@ use Rattle.bench_types.specs.declared.step.Step.{Step}
 use Rattle.bench_model.specs.Tally.{steps_that, top_priority}
 use Rattle.settled_runs.specs.declared.waiting_call.WaitingCall.{WaitingCall}
 use Rattle.run_numbers.specs.declared.subject.Condition.{Condition}
-use Rattle.run_numbers.specs.declared.subject.Condition.TheVariants.{Running, RunningOn, Waiting, Inverted, Blocked, HeldUp, Busy, Idle, Due, Held}
+use Rattle.run_numbers.specs.declared.subject.Condition.TheVariants.{Running, RunningOn, WantsCore, Inverted, Blocked, HeldUp, Busy, Idle, Due, Held}
 use Rattle.run_numbers.specs.declared.subject.Event.{Event}
 use Rattle.run_numbers.specs.declared.subject.Event.TheVariants.{Inherits}
 use Rattle.run_numbers.specs.declared.subject.Measured.{Measured}
@@ -44,7 +44,7 @@ measured header steps left subject =
 abbrev pub IsConditionOf : Settings → Condition → Type 0
 IsConditionOf settings (Running task) = task < settings.tasks
 IsConditionOf settings (RunningOn task core) = core < settings.cores
-IsConditionOf settings (Waiting task) = task < settings.tasks
+IsConditionOf settings (WantsCore task) = task < settings.tasks
 IsConditionOf settings (Inverted task) = task < settings.tasks
 IsConditionOf settings (Blocked task cause) = task < settings.tasks
 IsConditionOf settings (HeldUp task) = task < settings.tasks

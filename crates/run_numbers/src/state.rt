@@ -4,18 +4,18 @@ ghost use Rattle.std.specs.Option.{ForSome};
 ghost use Rattle.bench_model.specs.Control.{current, is_due, is_idle, task_at};
 ghost use Rattle.bench_model.specs.Lists.{list_queues};
 ghost use Rattle.bench_model.specs.State.{holder_at};
-ghost use Rattle.bench_model.specs.Tally.{outranks_some};
+ghost use Rattle.bench_model.specs.Tally.{outranks_some, wants_core};
 ghost use Rattle.smp_kernel.specs.Kernel.{StandsForSome};
-ghost use Rattle.run_numbers.specs.Conditions.{holder_before, holds, holds_up, is_blocked, is_cause, is_held_up, is_waiting, mutex_of};
+ghost use Rattle.run_numbers.specs.Conditions.{holder_before, holds, holds_up, is_blocked, is_cause, is_held_up, mutex_of};
 ghost use Rattle.run_numbers.specs.Readings.{IsConditionOf};
 
 use crate::{Cause, Condition};
 use bench_types::{BlockingCall, Unfinished};
 use smp_kernel::Kernel;
 
-fn is_waiting(kernel: &Kernel, task: u32) -> bool
+fn wants_core(kernel: &Kernel, task: u32) -> bool
     requires { task < kernel.now.settings.tasks }
-    ensures { result ≡ is_waiting list_queues task kernel.now }
+    ensures { result ≡ wants_core list_queues task kernel.now }
 {
     kernel.ready(task) && !kernel.is_current(task)
 }
@@ -157,8 +157,8 @@ pub(crate) fn holds(kernel: &Kernel, condition: Condition) -> bool
     match condition {
         Condition::Running { task } => kernel.is_current(task),
         Condition::RunningOn { task, core } => kernel.running(core) == task,
-        Condition::Waiting { task } => is_waiting(kernel, task),
-        Condition::Inverted { task } => is_waiting(kernel, task) && outranks_some(kernel, task),
+        Condition::WantsCore { task } => wants_core(kernel, task),
+        Condition::Inverted { task } => wants_core(kernel, task) && outranks_some(kernel, task),
         Condition::Blocked { task, cause } => is_blocked(kernel, task, cause),
         Condition::HeldUp { task } => is_held_up(kernel, task),
         Condition::Busy { core } => !is_idle(kernel, core),

@@ -22,7 +22,7 @@ pub enum Condition {
     /// The task is the current one of this core.
     RunningOn { task: u32, core: u32 },
     /// The task is ready and on no core.
-    Waiting { task: u32 },
+    WantsCore { task: u32 },
     /// It waits so while a core that it may run on has a task of lower effective priority.
     Inverted { task: u32 },
     /// The task is blocked for this cause.

@@ -18,7 +18,7 @@ use Rattle.bench_model.specs.Sound.{IsConsistent}
 use Rattle.bench_model.specs.Start.{start}
 use Rattle.bench_model.specs.Session.{step_of, state_after, state_at}
 use Rattle.bench_model.specs.Table.{Stamps, Table, stamp_queues}
-use Rattle.bench_model.specs.Tally.{TaskTally, Moment, greatest, is_tick, is_current, outranks_some, is_found_on, is_found_waiting, is_inverted, is_switched_in}
+use Rattle.bench_model.specs.Tally.{TaskTally, Moment, greatest, is_tick, is_current, outranks_some, is_found_on, is_found_wanting, is_inverted, is_switched_in}
 use Rattle.bench_model.specs.Tally.{is_displaced, is_timeout, moment_at, tally_of, tallies}
 use Rattle.bench_model.specs.Tallied.{tally_at, run_at, first_tally, first_tallies, one_if, tally_after, tallied, moment_of, tallied_after, part_tallies}
 use Rattle.bench_model.specs.Tallied.{added_tally, added, CountsBelow, AllCountsBelow}
@@ -108,7 +108,7 @@ unfoldable pub counted_after : Table → List Step → ℕ → TaskTally → Tas
 counted_after table steps task tally = let count = λ (test : Moment Stamps → Bool). count_after test table steps in record {
   run = map (λ core. run_at tally core + count (is_found_on core task)) (numbers (length tally.run));
   counts = record {
-    wait = tally.counts.wait + count (is_found_waiting stamp_queues task);
+    wait = tally.counts.wait + count (is_found_wanting stamp_queues task);
     inverted = tally.counts.inverted + count (is_inverted stamp_queues task);
     switched = tally.counts.switched + count (is_switched_in task);
     displaced = tally.counts.displaced + count (is_displaced task);
@@ -186,7 +186,7 @@ session_tally header steps task =
     (λ core. count_by (passes_at (is_found_on core task) table steps) (numbers (length steps))) (length (replicate cores 0)) cores
     (length-replicate cores 0)
     (λ core below. run_from_zero cores core _ below ∙ sym (places_counted (is_found_on core task) table steps))))
-    (omega (arith, places_counted (is_found_waiting stamp_queues task) table steps))
+    (omega (arith, places_counted (is_found_wanting stamp_queues task) table steps))
     (omega (arith, places_counted (is_inverted stamp_queues task) table steps))
     (omega (arith, places_counted (is_switched_in task) table steps))
     (omega (arith, places_counted (is_displaced task) table steps))
@@ -240,7 +240,7 @@ added_parts settings table first second task =
       count_parts
           (is_found_on core task) table first second,
     ))))
-    (omega (arith, count_parts (is_found_waiting stamp_queues task) table first second))
+    (omega (arith, count_parts (is_found_wanting stamp_queues task) table first second))
     (omega (arith, count_parts (is_inverted stamp_queues task) table first second))
     (omega (arith, count_parts (is_switched_in task) table first second))
     (omega (arith, count_parts (is_displaced task) table first second))
@@ -292,7 +292,7 @@ few_after settings table steps task =
           let below : core < cores = omega (arith, low, length_each run cores) in
           let zero_so = run_from_zero settings.cores core 0 (omega (arith, below, length-replicate {A = ℕ} settings.cores 0)) in
           omega (arith, each_at run cores core d below, zero_so, count_few (is_found_on core task) table steps);
-      wait = omega (arith, count_few (is_found_waiting stamp_queues task) table steps);
+      wait = omega (arith, count_few (is_found_wanting stamp_queues task) table steps);
       inverted = omega (arith, count_few (is_inverted stamp_queues task) table steps);
       switched = omega (arith, count_few (is_switched_in task) table steps);
       displaced = omega (arith, count_few (is_displaced task) table steps);
@@ -308,8 +308,8 @@ part_few settings table steps task d low =
     (few_after settings table steps task)
 
 -- A step over lists.
-waiting_seen : (moment : Moment Stamps) (task : ℕ) → IsConsistent moment.before → task < moment.before.settings.tasks → is_found_waiting stamp_queues task
-    moment ≡ is_found_waiting list_queues task (seen_moment moment)
+waiting_seen : (moment : Moment Stamps) (task : ℕ) → IsConsistent moment.before → task < moment.before.settings.tasks → is_found_wanting stamp_queues task
+    moment ≡ is_found_wanting list_queues task (seen_moment moment)
 waiting_seen moment task sound below =
     let before = moment.before in
     let ready = is_ready_seen before.control before.orders task sound.stamped.given (omega (arith, sound.sized.rows, below)) in

@@ -15,8 +15,8 @@ use Rattle.bench_model.specs.Tallied.{first_tallies, tallied, moment_of, tallied
 use Rattle.session_laws.specs.TallyLaws.{seen_moment}
 use Rattle.session_laws.proofs.Shapes.{tallied_shape}
 use Rattle.session_laws.proofs.Tallies.{part_few, tallied_seen}
-use Rattle.bench_reports.proofs.Rooms.{wider_room}
-use Rattle.bench_reports.proofs.TickLoop.{shape_length}
+use Rattle.tallies.proofs.Rooms.{wider_room}
+use Rattle.tallies.proofs.TickLoop.{shape_length}
 
 -- one step more at the end is counted last
 tallied_push : (table : Table) (steps : List Step) (step : Step) (old : List TaskTally)

@@ -8,13 +8,13 @@ ghost use Rattle.bench_model.specs.Table.{Table};
 ghost use Rattle.bench_model.specs.Tallied.{first_tallies, shape, shape_of, AllCountsBelow};
 ghost use Rattle.shift_laws.specs.Shifts.{IsShifted};
 ghost use Rattle.smp_kernel.specs.Kernel.{StandsForSome};
-ghost use Rattle.bench_reports.specs.Tops.{HasTops};
+ghost use Rattle.tallies.specs.Tops.{HasTops};
 
-use bench_reports::Tallies;
 use bench_types::Settings;
 use smp_kernel::Kernel;
 use std::alloc::{AllocError, Global};
 use std::marker::Model;
+use tallies::Tallies;
 
 /// The kernel at a checkpoint. To move it in time costs no more than an addition, so the
 /// checkpoints after an edit are moved without a look at their kernels.

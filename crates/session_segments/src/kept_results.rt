@@ -16,11 +16,11 @@ ghost use Rattle.segment_laws.specs.Segments.{AreResults};
 ghost use Rattle.segment_laws.proofs.ResultsLater.{results_later};
 
 use crate::replay::{advance, push_outcomes};
-use bench_reports::Tallies;
 use bench_types::{Reply, Step};
 use smp_kernel::{Kernel, Meter};
 use std::alloc::{AllocError, Global};
 use std::fmt::Debug;
+use tallies::Tallies;
 
 /// What a segment keeps of what its steps led to: [`Results`], all, or [`NoResults`], nothing.
 pub trait KeptResults: Debug + Drop {

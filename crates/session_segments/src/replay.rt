@@ -10,14 +10,14 @@ ghost use Rattle.bench_model.specs.Table.{Table};
 ghost use Rattle.bench_model.specs.Tallied.{first_tallies, part_tallies, shape, shape_of, tallied_after, AllCountsBelow};
 ghost use Rattle.segment_laws.specs.Segments.{currents_after};
 ghost use Rattle.smp_kernel.specs.Kernel.{StandsForSome};
-ghost use Rattle.bench_reports.specs.Tops.{HasTops};
+ghost use Rattle.tallies.specs.Tops.{HasTops};
 ghost use Rattle.session_segments.specs.Counting.{meter_after};
 
 use crate::checkpoint::Checkpoint;
-use bench_reports::Tallies;
 use bench_types::{Reply, Step};
 use smp_kernel::{Kernel, Meter};
 use std::alloc::{AllocError, Global};
+use tallies::Tallies;
 
 /// Makes the steps on the kernel, and keeps no reply.
 pub fn advance(kernel: &mut Kernel, steps: &[Step], meter: &mut Meter)

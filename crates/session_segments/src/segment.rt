@@ -9,7 +9,7 @@ ghost use Rattle.bench_model.specs.Session.{state_after};
 ghost use Rattle.bench_model.specs.Shifted.{SameShifted, delays_until, shifted, some_delays_until};
 ghost use Rattle.bench_model.specs.Table.{Table};
 ghost use Rattle.bench_model.specs.Tallied.{first_tallies, part_tallies, shape, shape_of, AllCountsBelow};
-ghost use Rattle.bench_reports.specs.Tops.{HasTops};
+ghost use Rattle.tallies.specs.Tops.{HasTops};
 ghost use Rattle.shift_laws.specs.Shifts.{IsShifted};
 ghost use Rattle.segment_laws.specs.Segments.{later_segment, reply_after, running_after, AreResults};
 ghost use Rattle.smp_kernel.specs.Kernel.{StandsForSome};
@@ -19,11 +19,11 @@ ghost use Rattle.session_segments.specs.Kept.{HasRoom};
 use crate::checkpoint::Checkpoint;
 use crate::kept_results::{KeptResults, NoResults, Results};
 use crate::replay::{advance, first_row};
-use bench_reports::Tallies;
 use bench_types::{Call, Reply, Settings, Step};
 use smp_kernel::{Kernel, Meter};
 use std::alloc::{AllocError, Global};
 use std::marker::Model;
+use tallies::Tallies;
 
 /// The steps from one checkpoint to the next or to the end, with the kernel at the first and, if it
 /// is [`Results`], what the steps led to.

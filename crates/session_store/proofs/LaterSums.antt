@@ -23,8 +23,8 @@ use Rattle.session_laws.proofs.Shapes.{tallied_shape}
 use Rattle.session_laws.proofs.Tallies.{numbers_so, part_few, parts_added}
 use Rattle.meeting_laws.specs.RunLaws.{MeetBy}
 use Rattle.meeting_laws.proofs.Meets.{met_run_alike}
-use Rattle.bench_reports.proofs.Additions.{run_lengths, same_length}
-use Rattle.bench_reports.proofs.Rooms.{first_shape, wider_room}
+use Rattle.tallies.proofs.Additions.{run_lengths, same_length}
+use Rattle.tallies.proofs.Rooms.{first_shape, wider_room}
 use Rattle.segment_laws.specs.Segments.{SegmentView, all_steps, later_segments, AreSegments, Follow}
 use Rattle.segment_laws.proofs.Following.{All_front, all_more, segments_split, follow_back, kernel_at, segment_follows, state_append, take_with}
 use Rattle.segment_laws.proofs.LaterSegments.{later_steps}

@@ -18,7 +18,7 @@ use Rattle.bench_model.specs.Table.{Table}
 use Rattle.bench_model.specs.Tallied.{first_tallies, part_tallies, added, shape, shape_of, AllCountsBelow}
 use Rattle.bench_model.specs.Tally.{TaskTally, tallies}
 use Rattle.session_laws.proofs.Tallies.{part_few, parts_added, stepwise}
-use Rattle.bench_reports.proofs.Rooms.{wider_room}
+use Rattle.tallies.proofs.Rooms.{wider_room}
 use Rattle.segment_laws.specs.Segments.{SegmentView, all_steps, later_segments, AreSegments, Follow}
 use Rattle.segment_laws.proofs.Following.{all_more, follow_back, split_at, take_with}
 use Rattle.segment_laws.proofs.LaterSegments.{later_steps}

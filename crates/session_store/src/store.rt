@@ -30,12 +30,12 @@ use crate::sums::{Sums, sums_of};
 use crate::tallying::add_segments;
 use crate::trial::run_trial;
 use crate::{OpenFault, OpenRefusal, Outcome, StoreFault};
-use bench_reports::Tallies;
 use bench_types::{Edit, Header, Items, MAX_STEPS, Reply, Row, Step};
 use session_segments::{KeptResults, NoResults, Results, Segment, Segments};
 use smp_kernel::{Kernel, Meter};
 use std::alloc::{AllocError, Global};
 use std::marker::Model;
+use tallies::Tallies;
 
 /// A session that was replayed, in segments that begin at its checkpoints: with its replies, the
 /// tasks that run at each place, and how each task fared.

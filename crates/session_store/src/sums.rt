@@ -5,10 +5,10 @@ ghost use Rattle.segment_laws.specs.Segments.{SegmentView};
 ghost use Rattle.session_store.specs.Sums.{AreSums, AreSumsAfter, AreSumsBefore, HasSums, HasSumsInFront, IsSumFrom};
 ghost use Rattle.session_store.specs.Trials.{AreTallied, IsReplay};
 
-use bench_reports::Tallies;
 use session_segments::Segment;
 use std::alloc::{AllocError, Global};
 use std::marker::Model;
+use tallies::Tallies;
 
 /// From one segment where there are sums to the next there are so many.
 const BLOCK: usize = 16;

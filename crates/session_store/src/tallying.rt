@@ -6,9 +6,9 @@ ghost use Rattle.session_store.specs.Sums.{HasSums, HasSumsInFront};
 ghost use Rattle.session_store.specs.Trials.{AreTallied, AreTalliedAfter, AreTalliedLater, StayLater};
 
 use crate::sums::{Sums, sum_from, summed_front};
-use bench_reports::Tallies;
 use session_segments::{Segment, Segments};
 use std::alloc::{AllocError, Global};
+use tallies::Tallies;
 
 /// Adds how the tasks fared in segments, which come after those that are counted.
 pub(crate) fn add_segments(total: &mut Tallies, segments: &[Segment])

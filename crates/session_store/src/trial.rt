@@ -8,7 +8,7 @@ ghost use Rattle.bench_model.specs.Equal.{StandsFor};
 ghost use Rattle.bench_model.specs.Meeting.{replayed};
 ghost use Rattle.bench_model.specs.Table.{Table};
 ghost use Rattle.bench_model.specs.Tallied.{part_tallies, shape, shape_of, tallied_after, AllCountsBelow};
-ghost use Rattle.bench_reports.specs.Tops.{HasTops};
+ghost use Rattle.tallies.specs.Tops.{HasTops};
 ghost use Rattle.segment_laws.specs.Segments.{all_steps};
 ghost use Rattle.session_segments.specs.Replaying.{HasSettings};
 ghost use Rattle.session_segments.specs.Counting.{meter_after, CountsUpTo};
@@ -23,11 +23,11 @@ use crate::edit::{count_steps, later};
 use crate::edited_segment::EditedSegment;
 use crate::sums::Sums;
 use crate::tallying::tallies_after;
-use bench_reports::Tallies;
 use bench_types::{Edit, Header, Step};
 use session_segments::{Segment, Segments, met_by, tally_steps};
 use smp_kernel::{Kernel, Meter};
 use std::alloc::{AllocError, Global};
+use tallies::Tallies;
 
 // Replays and counts the steps of the segments, up to the first that the replay meets, and returns
 // how many it replayed.

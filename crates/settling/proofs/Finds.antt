@@ -26,7 +26,7 @@ use Rattle.settled_runs.specs.Settled.{is_early, is_finish, is_open, is_timely, 
 use Rattle.settled_runs.specs.Settled.{quiet_step}
 use Rattle.settled_runs.proofs.Rests.{running_below, runs_core}
 use Rattle.settled_runs.proofs.Timely.{timely_same, timely_runs}
-use Rattle.settling.specs.Places.{step_at, call_in, begins, is_call_of, is_waiting, on_core, waiting_at, made_from, can_come, AreLinked, AreQueues, HasCallers}
+use Rattle.settling.specs.Places.{step_at, call_in, begins, is_call_of, is_waiting_call, on_core, waiting_at, made_from, can_come, AreLinked, AreQueues, HasCallers}
 use Rattle.settling.specs.Places.{IsNext, IsSearched}
 use Rattle.settling.proofs.Places.{none_of_numbers, one_of_numbers, found_place, waiting_suc}
 
@@ -163,7 +163,7 @@ module _ (table : Table) (heads next : List ℕ) (session : List Step) (come : �
       at false none = refl
       at true can = absurd (let step = step_at session k in
           let task = (call_in step).task in
-          let both = and_parts (is_waiting heads session k) (is_timely table (made_from table session k)) can in
+          let both = and_parts (is_waiting_call heads session k) (is_timely table (made_from table session k)) can in
           let waits = and_parts (begins step) (leb (slice_index heads task) k) both.0 in
           let begin = begin_call step waits.0 in
           let core = core_running table task in
@@ -509,10 +509,10 @@ waits_low session place tasks waits callers low known = at (begins (step_at sess
 
 -- one more place
 pub left_more : (heads : List ℕ) (session : List Step) (place : ℕ) (before after : List WaitingCall) (found : Option WaitingCall)
-    → before ≡ waiting_at heads session place → found ≡ cond (is_waiting heads session place) (Some (call_in (step_at session place))) None
+    → before ≡ waiting_at heads session place → found ≡ cond (is_waiting_call heads session place) (Some (call_in (step_at session place))) None
     → after ≡ before ++ option_to_list found → after ≡ waiting_at heads session (place + 1)
 left_more heads session place before after found first known grows =
-    grows ∙ (λ i. first i ++ option_to_list (known i)) ∙ ap (λ rest. waiting_at heads session place ++ rest) (at (is_waiting heads session place))
+    grows ∙ (λ i. first i ++ option_to_list (known i)) ∙ ap (λ rest. waiting_at heads session place ++ rest) (at (is_waiting_call heads session place))
     ∙ sym (waiting_suc heads session place) ∙ ap (waiting_at heads session) (sym (add-one place))
   where
     at : (b : Bool) → option_to_list (cond b (Some (call_in (step_at session place))) None) ≡ cond b (call_in (step_at session place) ∷ []) []

@@ -23,7 +23,7 @@ use Rattle.settled_runs.specs.declared.waiting_call.WaitingCall.{WaitingCall}
 use Rattle.settled_runs.specs.Settled.{is_event, is_timely, on_its_core, waiting_with, without_first}
 use Rattle.settled_runs.specs.SettleLaws.{MayWait}
 use Rattle.settled_runs.proofs.Rests.{event_waits}
-use Rattle.settling.specs.Places.{step_at, call_in, begins, is_call_of, IsNext, is_waiting, waiting_at, made_from, can_come, AreQueues}
+use Rattle.settling.specs.Places.{step_at, call_in, begins, is_call_of, IsNext, is_waiting_call, waiting_at, made_from, can_come, AreQueues}
 
 -- ---- searches over numbers
 
@@ -48,7 +48,7 @@ one_of_numbers q c (suc n) below passes fails = find_suc q n ∙ elim (cases_eq 
 -- ---- what waits
 
 pub waiting_suc : (heads : List ℕ) (session : List Step) (place : ℕ)
-    → waiting_at heads session (suc place) ≡ waiting_at heads session place ++ cond (is_waiting heads session place) (call_in (step_at session place) ∷ []) []
+    → waiting_at heads session (suc place) ≡ waiting_at heads session place ++ cond (is_waiting_call heads session place) (call_in (step_at session place) ∷ []) []
 unfolding waiting_at
 waiting_suc heads session place = refl
 
@@ -113,12 +113,12 @@ module _ (session : List Step) (heads : List ℕ) (task : ℕ) where
   front_none zero low = refl
   front_none (suc j) low =
       list_any-append (λ (waits : WaitingCall). eqb waits.task task) (waiting_at heads session j) _
-      ∙ ap (λ b. b || list_any (λ (waits : WaitingCall). eqb waits.task task) (cond (is_waiting heads session j) (call_in (step_at session j) ∷ []) []))
+      ∙ ap (λ b. b || list_any (λ (waits : WaitingCall). eqb waits.task task) (cond (is_waiting_call heads session j) (call_in (step_at session j) ∷ []) []))
       (front_none j (omega (arith, low)))
-      ∙ at (is_waiting heads session j) refl (eqb (call_in (step_at session j)).task task) refl
+      ∙ at (is_waiting_call heads session j) refl (eqb (call_in (step_at session j)).task task) refl
     where
-      at : (b : Bool) → is_waiting heads session j ≡ b → (d : Bool) → eqb (call_in (step_at session j)).task task ≡ d
-          → list_any (λ (waits : WaitingCall). eqb waits.task task) (cond (is_waiting heads session j) (call_in (step_at session j) ∷ []) []) ≡ false
+      at : (b : Bool) → is_waiting_call heads session j ≡ b → (d : Bool) → eqb (call_in (step_at session j)).task task ≡ d
+          → list_any (λ (waits : WaitingCall). eqb waits.task task) (cond (is_waiting_call heads session j) (call_in (step_at session j) ∷ []) []) ≡ false
       at false none d same = ap (λ b. list_any (λ (waits : WaitingCall). eqb waits.task task) (cond b (call_in (step_at session j) ∷ []) [])) none
       at true is false other = ap (λ b. list_any (λ (waits : WaitingCall). eqb waits.task task) (cond b (call_in (step_at session j) ∷ []) [])) is
           ∙ ap (λ b. b || false) other
@@ -236,7 +236,7 @@ module _ (session : List Step) (come tasks : ℕ) (heads next : List ℕ) (queue
           first ∙ sym second
     ]
 
-    same_waiting : (other : ℕ) → other ≢ slice_index heads task → is_waiting later_heads session other ≡ is_waiting heads session other
+    same_waiting : (other : ℕ) → other ≢ slice_index heads task → is_waiting_call later_heads session other ≡ is_waiting_call heads session other
     same_waiting other away = at (begins (step_at session other)) refl
       where
         at : (b : Bool) → begins (step_at session other) ≡ b
@@ -253,7 +253,7 @@ module _ (session : List Step) (come tasks : ℕ) (heads next : List ℕ) (queue
           | inr apart ↦ ap (λ place. leb place other) (head_other _ apart)
         ])
 
-    here_before : is_waiting heads session (slice_index heads task) ≡ true
+    here_before : is_waiting_call heads session (slice_index heads task) ≡ true
     here_before =
         let both =
         and_parts (begins (step_at session (slice_index heads task))) (eqb (call_in (step_at session (slice_index heads task))).task task) its_call in
@@ -261,7 +261,7 @@ module _ (session : List Step) (come tasks : ℕ) (heads next : List ℕ) (queue
         let low : leb (slice_index heads task) (slice_index heads task) ≡ true = grind (arith, nat_tests) in
         (λ k. both.0 k && (ap (λ other. leb (slice_index heads other) (slice_index heads task)) same ∙ low) k)
 
-    here_after : is_waiting later_heads session (slice_index heads task) ≡ false
+    here_after : is_waiting_call later_heads session (slice_index heads task) ≡ false
     here_after =
         let step = step_at session (slice_index heads task) in
         let both = and_parts (begins step) (eqb (call_in step).task task) its_call in
@@ -321,7 +321,7 @@ module _ (session : List Step) (come tasks : ℕ) (heads next : List ℕ) (queue
             → (waiting_at later_heads session (suc j) ≡ without_first task (waiting_at heads session (suc j)))
             × (list_any own (waiting_at heads session (suc j)) ≡ true)
         at_more j away made =
-            let one = cond (is_waiting heads session j) (call_in (step_at session j) ∷ []) [] in
+            let one = cond (is_waiting_call heads session j) (call_in (step_at session j) ∷ []) [] in
             let all = waiting_at heads session j in
             let after : waiting_at later_heads session (suc j) ≡ without_first task all ++ one
             = waiting_suc later_heads session j ∙ (λ i. made.0 i ++ cond (same_waiting j away i) (call_in (step_at session j) ∷ []) []) in
@@ -359,10 +359,10 @@ module _ (table : Table) (heads : List ℕ) (session : List Step) where
   unfolding waiting_at
   found_place zero = refl
   found_place (suc place) =
-      let one = cond (is_waiting heads session place) (call_in (step_at session place) ∷ []) [] in
+      let one = cond (is_waiting_call heads session place) (call_in (step_at session place) ∷ []) [] in
       ap (find (is_timely table)) (map-append (on_its_core table) (waiting_at heads session place) one)
       ∙ find-append (is_timely table) (map (on_its_core table) (waiting_at heads session place)) (map (on_its_core table) one)
-      ∙ (λ i. option_or (found_place place i) (found_one (is_waiting heads session place) place i))
+      ∙ (λ i. option_or (found_place place i) (found_one (is_waiting_call heads session place) place i))
       ∙ sym (option_map_or_else (made_from table session) (find (can_come table heads session) (numbers place))
       (cond (can_come table heads session place) (Some place) None))
       ∙ ap (option_map (made_from table session)) (sym (find_suc (can_come table heads session) place))
@@ -385,9 +385,9 @@ unfolding waiting_at
 waiting_may settings heads session all zero low = tt
 waiting_may settings heads session all (suc place) low =
     append_each (MayWait settings) (waiting_at heads session place) _ (waiting_may settings heads session all place (omega (arith, low)))
-    (at (is_waiting heads session place) refl)
+    (at (is_waiting_call heads session place) refl)
   where
-    at : (b : Bool) → is_waiting heads session place ≡ b → AllByRecursion (MayWait settings) (cond b (call_in (step_at session place) ∷ []) [])
+    at : (b : Bool) → is_waiting_call heads session place ≡ b → AllByRecursion (MayWait settings) (cond b (call_in (step_at session place) ∷ []) [])
     at false none = tt
     at true is =
         let both = and_parts (begins (step_at session place)) (leb (slice_index heads (call_in (step_at session place)).task) place) is in

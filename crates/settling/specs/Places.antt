@@ -48,8 +48,8 @@ pub record IsNext (session : List Step) (task from place : ℕ) : Type 0 where
       → is_call_of task (step_at session other) ≡ false
 
 -- the call at the place waits, where these are the places of the tasks' next calls
-abbrev pub is_waiting : List ℕ → List Step → ℕ → Bool
-is_waiting heads session place =
+abbrev pub is_waiting_call : List ℕ → List Step → ℕ → Bool
+is_waiting_call heads session place =
     let step = step_at session place in
     begins step && nat_le (slice_index heads (call_in step).task) place
 
@@ -58,7 +58,7 @@ unfoldable pub waiting_at : List ℕ → List Step → ℕ → List WaitingCall
 waiting_at heads session zero = []
 waiting_at heads session (suc place) =
     waiting_at heads session place
-    ++ (if is_waiting heads session place then call_in (step_at session place) ∷ [] else [])
+    ++ (if is_waiting_call heads session place then call_in (step_at session place) ∷ [] else [])
 
 -- so many steps have come, each task has the place of its next call, and each call that of its
 -- task's next one
@@ -97,7 +97,7 @@ made_from table session place = on_its_core table (call_in (step_at session plac
 -- it waits, and its task has come to it
 abbrev pub can_come : Table → List ℕ → List Step → ℕ → Bool
 can_come table heads session place =
-    is_waiting heads session place && is_timely table (made_from table session place)
+    is_waiting_call heads session place && is_timely table (made_from table session place)
 
 -- the search for the first call that may be made went over so many cores: it found the call at
 -- this place, none where that is where the steps have come to

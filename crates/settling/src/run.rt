@@ -11,7 +11,7 @@ ghost use Rattle.bench_model.specs.Table.{Table};
 ghost use Rattle.settled_runs.specs.declared.waiting_call.WaitingCall.{WaitingCall};
 ghost use Rattle.settled_runs.specs.Settled.{quiet_step, IsSettled};
 ghost use Rattle.settled_runs.specs.SettleLaws.{comes_from_outside};
-ghost use Rattle.settling.specs.Places.{begins, call_in, is_waiting, step_at, HasCallers};
+ghost use Rattle.settling.specs.Places.{begins, call_in, is_waiting_call, step_at, HasCallers};
 ghost use Rattle.smp_kernel.specs.Counting.{meter_after, CountsUpTo};
 ghost use Rattle.settling.specs.Progress.{waiting_in, HasCounted, IsAt, IsResting, IsTooLong, IsUnderRest, IsUnderWay};
 
@@ -180,7 +180,7 @@ impl Settling {
         requires place { place < length steps.now }
         requires callers { HasCallers steps.now (length self.now.queues.heads.items) }
         ensures { result
-            ≡ (if is_waiting self.now.queues.heads.items steps.now place
+            ≡ (if is_waiting_call self.now.queues.heads.items steps.now place
             then Some (call_in (step_at steps.now place)) else None) }
     {
         let waits = waiting_call(&steps[place])?;

@@ -8,7 +8,7 @@ use Rattle.bench_model.specs.Control.{Control}
 use Rattle.bench_model.specs.Lists.{outranks, one_tick_less}
 use Rattle.list_orders.proofs.Filters.{has-filter}
 use Rattle.list_orders.proofs.Ranks.{list_any-placed}
-use Rattle.tick_delay.specs.Parts.{DelayView, is_waiting, advanced}
+use Rattle.tick_delay.specs.Parts.{DelayView, is_delayed, advanced}
 use Rattle.smp_kernel.specs.Kernel.{IsDisjoint, delayed_task}
 
 has-moved : (control : Control) (t task : ℕ) (ready : List ℕ) → has t (placed (outranks control) task (without task ready)) ≡
@@ -97,7 +97,7 @@ module _ {E : Type 0} (task_of : E → ℕ) where
           moved false gone = absurd (grind (arith, nat_tests, found, before, gone, has-moved control t task ready))
       at false before t found = apart t found
 
-waiting-aged : (t : ℕ) (delayed : List Delayed) → is_waiting t (map one_tick_less delayed) ≡ is_waiting t delayed
+waiting-aged : (t : ℕ) (delayed : List Delayed) → is_delayed t (map one_tick_less delayed) ≡ is_delayed t delayed
 waiting-aged t [] = refl
 waiting-aged t (entry ∷ delayed) = ap (λ b. eqb entry.task t || b) (waiting-aged t delayed)
 

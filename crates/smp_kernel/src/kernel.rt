@@ -255,10 +255,10 @@ impl Kernel {
     }
 
     /// For each task whether it is ready and on no core.
-    pub fn waiting(&self) -> &[bool]
+    pub fn wants_core(&self) -> &[bool]
         ensures { result.now ≡ map (wants_core self.now) (numbers self.now.settings.tasks) }
     {
-        self.scheduler.waiting()
+        self.scheduler.wants_core()
     }
 
     /// The first task of the ready list of the priority, if it has one. None is in it twice.

@@ -20,7 +20,7 @@ ghost use Rattle.bench_model.specs.Steps.{ticked, delayed_until, called, perform
 ghost use Rattle.bench_model.specs.Lists.{list_queues, is_ready, wakes_first, advance, due_tasks};
 ghost use Rattle.bench_model.specs.Looks.{look_in, note_look};
 ghost use Rattle.bench_model.specs.Tally.{is_current};
-ghost use Rattle.tick_delay.specs.Parts.{is_waiting};
+ghost use Rattle.tick_delay.specs.Parts.{is_delayed};
 ghost use Rattle.smp_kernel.specs.Kernel.{wants_core, ready_list, HasCheckedCalls, IsSettled};
 
 mod equal;
@@ -221,10 +221,10 @@ impl Scheduler {
     }
 
     /// For each task whether it is ready and on no core.
-    pub fn waiting(&self) -> &[bool]
+    pub fn wants_core(&self) -> &[bool]
         ensures { result.now ≡ map (wants_core self.now) (numbers self.now.settings.tasks) }
     {
-        self.cores.waiting()
+        self.cores.wants_core()
     }
 
     /// The first task of the ready list of the priority, if it has one. None is in it twice.
@@ -499,7 +499,7 @@ impl Scheduler {
 // The task waits for so many ticks; without end it has no place among the delays.
 fn delay_for(delays: &mut Delays, task: u32, ticks: Option<u32>)
     requires task { task < delays.old.tasks }
-    requires free { is_waiting task delays.old.delayed ≡ false }
+    requires free { is_delayed task delays.old.delayed ≡ false }
     requires some { IfSome ticks (λ ticks. 0 < ticks) }
     ensures { delays.new ≡ record delays.old {
       delayed = option_map_or

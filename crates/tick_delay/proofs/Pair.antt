@@ -13,7 +13,7 @@ use Rattle.index_lists.specs.Listed.{Listed, ListsView, empty_lists, list_at, wi
 use Rattle.bench_model.specs.Lists.{without_delay, one_tick_less, due_tasks}
 use Rattle.bench_model.specs.Looks.{left_in}
 use Rattle.bench_model.specs.Until.{ticks_to}
-use Rattle.tick_delay.specs.Parts.{DelayView, is_waiting, delayed_for, from_list, advanced}
+use Rattle.tick_delay.specs.Parts.{DelayView, is_delayed, delayed_for, from_list, advanced}
 use Rattle.tick_delay.specs.Shape.{delayed_at, seen_delays, IsTwoTurns, IsDelayShape}
 use Rattle.tick_delay.proofs.Turns.{came_this, came_next, seen_this, seen_next, turns_without, seen_without, turns_on, turns_wrap, seen_aged, seen_wrap}
 use Rattle.tick_delay.proofs.Turns.{same_turns}
@@ -199,7 +199,7 @@ none_place task (suc zero) (a ∷ b ∷ []) items both low away away2 = grind (a
 none_place task (suc (suc n)) (a ∷ b ∷ []) items both low away away2 = absurd (omega (arith, low))
 none_place task turn (a ∷ b ∷ c ∷ ls) items both low away away2 = absurd (omega (arith, both))
 
-has_seen : (tick task : ℕ) (xs : List Listed) → is_waiting task (map (delayed_at tick) xs) ≡ has_item task xs
+has_seen : (tick task : ℕ) (xs : List Listed) → is_delayed task (map (delayed_at tick) xs) ≡ has_item task xs
 has_seen tick task [] = refl
 has_seen tick task (x ∷ xs) = ap (λ b. eqb x.item task || b) (has_seen tick task xs)
 
@@ -210,7 +210,7 @@ module _ (tasks tick turn : ℕ) (lists : ListsView) (shape : IsDelayShape tasks
       (sym (key_found task turn lists.lists shape.both shape.turn_low shape.turns.waiting_tasks.once))
 
   -- a task that doesn't wait is in no list
-  pub in_no_list : (task : ℕ) → is_waiting task (map (delayed_at tick) (from_list turn lists)) ≡ false → list_of task lists ≡ None
+  pub in_no_list : (task : ℕ) → is_delayed task (map (delayed_at tick) (from_list turn lists)) ≡ false → list_of task lists ≡ None
   in_no_list task free =
       let away : (has_item task (list_at lists turn) || has_item task (list_at lists (1 - turn))) ≡ false = sym
       (list_any-append (passes task) (list_at lists turn) (list_at lists (1 - turn))) ∙ sym (has_seen tick task (from_list turn lists)) ∙ free in
@@ -315,7 +315,7 @@ same_pairs tasks tick turn others tick2 turn2 lists lists2 shape shape2 now = (
 )
 
 module _ (tasks tick turn : ℕ) (lists : ListsView) (shape : IsDelayShape tasks tick turn lists) (task ticks : ℕ) (low : task < tasks)
-    (free : is_waiting task (map (delayed_at tick) (from_list turn lists)) ≡ false) (few : ticks < 2 ^ 32) where
+    (free : is_delayed task (map (delayed_at tick) (from_list turn lists)) ≡ false) (few : ticks < 2 ^ 32) where
   abbrev wake : ℕ
   wake = (tick + ticks) % 2 ^ 32
 

@@ -19,7 +19,7 @@ use Rattle.index_lists.proofs.Places.{lowest_first-IsRank}
 use Rattle.bench_model.specs.Lists.{wakes_first, without_delay, one_tick_less, due_tasks}
 use Rattle.bench_model.specs.Looks.{left_in}
 use Rattle.bench_model.specs.Until.{ticks_to}
-use Rattle.tick_delay.specs.Parts.{is_waiting, listed_at, wakes_this_turn}
+use Rattle.tick_delay.specs.Parts.{is_delayed, listed_at, wakes_this_turn}
 use Rattle.tick_delay.specs.Shape.{delayed_at, IsTwoTurns}
 use Rattle.tick_delay.proofs.Waits.{none_elapsed, not_among, listing_more, listing_permuted, first_is_due}
 
@@ -144,10 +144,10 @@ module _ (tasks tick : ℕ) (this next : List Listed) (tick_low : tick < 2 ^ 32)
   seen_parts = map-append (delayed_at tick) this next
 
   -- ---- a task comes to wait
-  free_item : (task : ℕ) → is_waiting task seen ≡ false → has task (items_of (this ++ next)) ≡ false
+  free_item : (task : ℕ) → is_delayed task seen ≡ false → has task (items_of (this ++ next)) ≡ false
   free_item task free = ap (has task) (sym (tasks_seen tick (this ++ next))) ∙ not_among task seen free
 
-  pub came_this : (task ticks : ℕ) → task < tasks → is_waiting task seen ≡ false → tick + ticks < 2 ^ 32 → IsTwoTurns tasks tick
+  pub came_this : (task ticks : ℕ) → task < tasks → is_delayed task seen ≡ false → tick + ticks < 2 ^ 32 → IsTwoTurns tasks tick
       (placed lowest_first (record { item = task; key = tick + ticks }) this) next
   came_this task ticks low free soon =
       let entry : Listed = record { item = task; key = tick + ticks } in record {
@@ -174,7 +174,7 @@ module _ (tasks tick : ℕ) (this next : List Listed) (tick_low : tick < 2 ^ 32)
       ∙ sym (placed_left (record { task = task; left = ticks }) (map (delayed_at tick) this) (map (delayed_at tick) next) later)
       ∙ ap (placed wakes_first (record { task = task; left = ticks })) (sym seen_parts)
 
-  pub came_next : (task ticks : ℕ) → task < tasks → is_waiting task seen ≡ false → ticks < 2 ^ 32 → 2 ^ 32 ≤ tick + ticks → IsTwoTurns tasks tick this
+  pub came_next : (task ticks : ℕ) → task < tasks → is_delayed task seen ≡ false → ticks < 2 ^ 32 → 2 ^ 32 ≤ tick + ticks → IsTwoTurns tasks tick this
       (placed lowest_first (record { item = task; key = tick + ticks - 2 ^ 32 }) next)
   came_next task ticks low free few late =
       let entry : Listed = record { item = task; key = tick + ticks - 2 ^ 32 } in record {

@@ -10,7 +10,7 @@ use Rattle.bench_types.specs.declared.kernel_data.Delayed.{Delayed}
 use Rattle.list_orders.specs.Search.{without, has}
 use Rattle.bench_model.specs.Lists.{without_delay, due_tasks}
 use Rattle.list_orders.proofs.Filters.{filter-map}
-use Rattle.tick_delay.specs.Parts.{is_waiting}
+use Rattle.tick_delay.specs.Parts.{is_delayed}
 use Rattle.list_orders.specs.Listings.{IsListing}
 
 abbrev pub task_of : Delayed → ℕ
@@ -23,7 +23,7 @@ pub map-cancelled : (task : ℕ) (waiting : List Delayed) → map task_of (witho
 map-cancelled task waiting = sym (filter-map (λ m. not (eqb m task)) task_of waiting)
 
 -- a task that doesn't wait is not among those that wait
-pub not_among : (task : ℕ) (waiting : List Delayed) → is_waiting task waiting ≡ false → has task (map task_of waiting) ≡ false
+pub not_among : (task : ℕ) (waiting : List Delayed) → is_delayed task waiting ≡ false → has task (map task_of waiting) ≡ false
 not_among task [] free = refl
 not_among task (entry ∷ waiting) free = grind (arith, free, not_among task waiting)
 

@@ -37,8 +37,8 @@ first_task [] = None
 first_task (entry ∷ rest) = Some entry.task
 
 -- some entry is the task's
-abbrev pub is_waiting : ℕ → List Delayed → Bool
-is_waiting task delayed = list_any (λ entry. entry.task == task) delayed
+abbrev pub is_delayed : ℕ → List Delayed → Bool
+is_delayed task delayed = list_any (λ entry. entry.task == task) delayed
 
 -- the task waits for so many ticks (FreeRTOS Reference Manual, vTaskDelay)
 abbrev pub delayed_for : ℕ → ℕ → DelayView → DelayView

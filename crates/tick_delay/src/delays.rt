@@ -2,7 +2,7 @@
 ghost use Rattle.std.specs.Prelude.{◌≡◌, ◌↔◌, ◌+◌, ◌^◌, ◌<◌, [], ◌∷◌, false, MatchOption, IfSome, IfOk, IsTrue};
 ghost use Rattle.bench_model.specs.Lists.{without_delay, due_tasks};
 ghost use Rattle.bench_model.specs.Looks.{left_in};
-ghost use Rattle.tick_delay.specs.Parts.{no_delays, but_for_turn, is_waiting, delayed_for, until_delayed, advanced, AreInTurn};
+ghost use Rattle.tick_delay.specs.Parts.{no_delays, but_for_turn, is_delayed, delayed_for, until_delayed, advanced, AreInTurn};
 
 mod shift;
 
@@ -119,7 +119,7 @@ impl Delays {
     /// The task waits for so many ticks, after those that wait as long or shorter.
     pub fn delay(&mut self, task: u32, ticks: u32)
         requires task { task < self.old.tasks }
-        requires free { is_waiting task self.old.delayed ≡ false }
+        requires free { is_delayed task self.old.delayed ≡ false }
         requires some { 0 < ticks }
         ensures { self.new ≡ delayed_for task ticks self.old }
     {
@@ -137,7 +137,7 @@ impl Delays {
     #[tactic(auto, unfolding(crate::specs::Parts::until_delayed))]
     pub fn delay_until(&mut self, task: u32, prev: u32, inc: u32) -> (bool, u32)
         requires task { task < self.old.tasks }
-        requires free { is_waiting task self.old.delayed ≡ false }
+        requires free { is_delayed task self.old.delayed ≡ false }
         ensures { (result, self.new) ≡ until_delayed task prev inc self.old }
     {
         let wake = next_wake(prev, inc);

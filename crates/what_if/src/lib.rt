@@ -6,13 +6,13 @@ ghost use Rattle.std.specs.List.{AllZip};
 ghost use Rattle.session_store.specs.Sums.{AreSumsOf};
 ghost use Rattle.session_store.specs.Trials.{IsTried};
 
-use bench_reports::Tallies;
 use bench_types::Edit;
 use rayon::prelude::*;
 use session_store::{Outcome, Store, StoreFault};
 use smp_kernel::Meter;
 use std::alloc::{AllocError, Global};
 use std::thread::Threads;
+use tallies::Tallies;
 
 /// For each edit, in order, what [`Store::trial`] gives for it alone: none of them builds upon
 /// another, and the store stays as it is. The work is split among as many threads as there are

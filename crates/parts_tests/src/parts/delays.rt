@@ -1,7 +1,7 @@
 //! Delays of tasks, and the parts of the rule of a delay until a tick count.
 ghost use Rattle.std.specs.Prelude.{◌≡◌, ◌<◌, [], false, MatchOption, IfOk, ⊤};
 ghost use Rattle.bench_model.specs.Lists.{due_tasks};
-ghost use Rattle.tick_delay.specs.Parts.{is_waiting};
+ghost use Rattle.tick_delay.specs.Parts.{is_delayed};
 
 use crate::expected::{expect_is, expect_same};
 use bench_model::until::{is_ahead, next_wake};
@@ -33,7 +33,7 @@ fn advance(rt: &impl Abort, delays: &mut Delays)
 #[tactic(auto, unfolding(tick_delay::specs::Parts::until_delayed))]
 fn delay_until(delays: &mut Delays, task: u32, prev: u32, inc: u32) -> (bool, u32)
     requires task { task < delays.old.tasks }
-    requires free { is_waiting task delays.old.delayed ≡ false }
+    requires free { is_delayed task delays.old.delayed ≡ false }
     ensures { delays.new.tasks ≡ delays.old.tasks }
 {
     delays.delay_until(task, prev, inc)
@@ -159,7 +159,7 @@ fn delays_are_the_same_in_another_turn(rt: HostRuntime) -> Result<(), Fail> {
 
 fn check_until(rt: &impl Abort, delays: &mut Delays)
     requires tasks { delays.old.tasks ≡ 1 }
-    requires free { is_waiting 0 delays.old.delayed ≡ false }
+    requires free { is_delayed 0 delays.old.delayed ≡ false }
 {
     let (is_delayed, wake) = delay_until(delays, 0, 4_294_967_290, 10);
     expect_is(rt, is_delayed);

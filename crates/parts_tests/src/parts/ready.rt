@@ -479,7 +479,7 @@ fn check_walks(rt: &impl Abort, cores: &Cores) {
     expect_walk(rt, cores, 1, &[4]);
     expect_walk(rt, cores, 2, &[2]);
     let waiting = [true, true, false, false, true];
-    expect_is(rt, *cores.waiting() == *waiting.as_slice());
+    expect_is(rt, *cores.wants_core() == *waiting.as_slice());
 }
 
 #[test]

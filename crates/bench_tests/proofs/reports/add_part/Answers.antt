@@ -1,6 +1,6 @@
 use Rattle.std.proofs.Common.{arith}
 use Rattle.bench_model.specs.Tallied.{added}
-use Rattle.bench_reports.proofs.Rooms.{sum_room, wider_room}
+use Rattle.tallies.proofs.Rooms.{sum_room, wider_room}
 use Rattle.bench_tests.proofs.reports.add_part.Goals as goal
 
 pub add-requires-clause-sums : goal.add-requires-clause-sums

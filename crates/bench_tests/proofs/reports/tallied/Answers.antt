@@ -1,5 +1,5 @@
 use Rattle.std.proofs.Common.{suc, refl, ◌∙◌, arith}
-use Rattle.bench_reports.proofs.Rooms.{wider_room}
+use Rattle.tallies.proofs.Rooms.{wider_room}
 use Rattle.bench_tests.proofs.reports.tallied.Goals as goal
 
 pub loop-step-init : goal.loop-step-init

@@ -1,6 +1,6 @@
 use Rattle.std.proofs.Common.{◌≡◌, suc}
 use Rattle.bench_model.specs.Tallied.{shape, shape_of, AllCountsBelow}
-use Rattle.bench_reports.specs.Tops.{HasTops}
+use Rattle.tallies.specs.Tops.{HasTops}
 use Rattle.bench_tests.proofs.reports.tallied.Given as goal
 
 abbrev pub invariant-loop-step : goal.invariant-loop-step

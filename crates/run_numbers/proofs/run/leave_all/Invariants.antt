@@ -1,4 +1,4 @@
-use Rattle.bench_reports.proofs.InPlace.{IsSetTo}
+use Rattle.tallies.proofs.InPlace.{IsSetTo}
 use Rattle.run_numbers.specs.Gauges.{initial_gauge, left}
 use Rattle.run_numbers.specs.Progress.{gauge_in, subject_in}
 use Rattle.run_numbers.proofs.run.leave_all.Given as goal

@@ -2,7 +2,7 @@ use Rattle.std.proofs.Common.{◌≡◌}
 use Rattle.std.specs.Vec.{vec_capacity, vec_len}
 use Rattle.bench_model.specs.Table.{Table}
 use Rattle.bench_model.specs.Equal.{StandsFor}
-use Rattle.bench_reports.specs.Tops.{HasTops}
+use Rattle.tallies.specs.Tops.{HasTops}
 use Rattle.session_segments.specs.Counting.{meter_after}
 use Rattle.session_segments.proofs.Replays.{IsReplayed}
 use Rattle.session_segments.proofs.Tallied.{IsTallied}

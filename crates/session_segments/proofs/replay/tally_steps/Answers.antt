@@ -2,7 +2,7 @@ use Rattle.std.proofs.Common.{suc, ◌+◌, ◌-◌, ◌^◌, ◌≤◌, ◌≡�
 use Rattle.bench_model.specs.Equal.{StandsFor}
 use Rattle.bench_model.specs.Session.{state_after}
 use Rattle.bench_model.specs.Tallied.{AllCountsBelow}
-use Rattle.bench_reports.proofs.Rooms.{wider_room}
+use Rattle.tallies.proofs.Rooms.{wider_room}
 use Rattle.session_segments.proofs.Counts.{counted_more}
 use Rattle.session_segments.proofs.Replays.{state_after_more}
 use Rattle.session_segments.proofs.Tallied.{counted_goes}

@@ -1,6 +1,6 @@
 use Rattle.std.proofs.Common.{◌+◌, ◌-◌, ◌^◌, ◌≤◌, length, take, arith}
 use Rattle.bench_model.specs.Session.{state_after}
-use Rattle.bench_reports.proofs.Rooms.{wider_room}
+use Rattle.tallies.proofs.Rooms.{wider_room}
 use Rattle.segment_laws.specs.Segments.{all_steps}
 use Rattle.session_store.proofs.Retraces.{meeting_later, tallied_later}
 use Rattle.session_store.proofs.trial.retrace.Goals as goal

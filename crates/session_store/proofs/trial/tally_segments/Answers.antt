@@ -6,7 +6,7 @@ use Rattle.bench_model.specs.Equal.{StandsFor}
 use Rattle.bench_model.specs.Session.{state_after}
 use Rattle.bench_model.specs.Table.{Table}
 use Rattle.bench_model.specs.Tallied.{shape_of, tallied_after, AllCountsBelow}
-use Rattle.bench_reports.proofs.Rooms.{wider_room}
+use Rattle.tallies.proofs.Rooms.{wider_room}
 use Rattle.segment_laws.specs.Segments.{SegmentView, all_steps}
 use Rattle.session_segments.specs.Counting.{meter_after}
 use Rattle.session_store.specs.Trials.{IsMeeting}

@@ -3,7 +3,7 @@ use Rattle.std.specs.Prelude.{IfSome}
 use Rattle.bench_model.specs.Equal.{StandsFor}
 use Rattle.bench_model.specs.Table.{Table}
 use Rattle.bench_model.specs.Tallied.{shape, shape_of, tallied_after, AllCountsBelow}
-use Rattle.bench_reports.specs.Tops.{HasTops}
+use Rattle.tallies.specs.Tops.{HasTops}
 use Rattle.segment_laws.specs.Segments.{all_steps}
 use Rattle.session_segments.specs.Counting.{meter_after}
 use Rattle.session_segments.specs.Meetings.{IsUnreadFrom}

@@ -15,7 +15,7 @@ invariant_of-result c =
       c.in_ok-first_controls.ensures,
       c.in_ok-new.ensures,
       c.in_ok-first_seats.ensures,
-      c.in_ok-none_waiting.ensures,
+      c.in_ok-none_wanting.ensures,
       c.as_slice.ensures,
       c.cores_of_mask.ensures,
       all_bits c.args.header.now.config.cores (checked_header c.args.header.now c.requires).few_cores,

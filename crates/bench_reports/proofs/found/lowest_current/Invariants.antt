@@ -1,5 +1,0 @@
-use Rattle.bench_reports.specs.Counting.{IsLowest}
-use Rattle.bench_reports.proofs.found.lowest_current.Given as goal
-
-abbrev pub invariant-loop-core : goal.invariant-loop-core
-invariant-loop-core l = IsLowest l.fn.kernel.control l.core l.lowest

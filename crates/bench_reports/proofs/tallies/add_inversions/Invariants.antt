@@ -1,6 +1,0 @@
-use Rattle.std.proofs.Common.{◌≡◌}
-use Rattle.bench_reports.proofs.Inversions.{inverted_upto}
-use Rattle.bench_reports.proofs.tallies.add_inversions.Given as goal
-
-abbrev pub invariant-loop-priority : goal.invariant-loop-priority
-invariant-loop-priority l = l.tasks ≡ inverted_upto l.kernel l.lowest l.priority l.fn.tasks

@@ -1,0 +1,55 @@
+-- What a change makes of a session.
+use Rattle.std.specs.Prelude.{ℕ, ◌+◌, ◌<◌, ◌≤◌, ◌^◌, List, length, swap, ⊤}
+use Rattle.bench_types.specs.declared.header.Header.{Header}
+use Rattle.bench_types.specs.declared.step.Step.{Step}
+use Rattle.bench_types.specs.Header.{cores_of_mask}
+use Rattle.bench_types.specs.Session.{Session}
+use Rattle.bench_model.specs.Edits.{args_of, changed as with_numbers}
+use Rattle.ranked_changes.specs.declared.change.Change.{Change}
+use Rattle.ranked_changes.specs.declared.change.Change.TheVariants as change
+
+-- the header with the task's other priority or mask
+abbrev pub changed_header : Header → Change → Header
+changed_header header (change.Priority task priority) =
+    with_numbers task priority (args_of header task).mask header
+changed_header header (change.Mask task mask) =
+    with_numbers task (args_of header task).priority mask header
+changed_header header (change.Order first second) = header
+
+-- the steps with the two exchanged
+abbrev pub changed_steps : List Step → Change → List Step
+changed_steps steps (change.Priority task priority) = steps
+changed_steps steps (change.Mask task mask) = steps
+changed_steps steps (change.Order first second) = swap steps first second
+
+-- the session with the change made
+abbrev pub changed : Session → Change → Session
+changed session made = record {
+  header = changed_header session.header made;
+  steps = changed_steps session.steps made;
+}
+
+-- it is a user task of the header
+abbrev pub IsUserTask : Header → ℕ → Type 0
+IsUserTask header task =
+    (header.config.cores ≤ task) × (task < header.config.cores + length header.tasks)
+
+-- a change that the header allows: a priority below their number, a mask of some core
+abbrev pub IsHeaderChange : Header → Change → Type 0
+IsHeaderChange header (change.Priority task priority) =
+    IsUserTask header task × (priority < header.config.priorities)
+IsHeaderChange header (change.Mask task mask) =
+    IsUserTask header task × (0 < cores_of_mask header.config.cores mask) × (mask < 2 ^ 32)
+IsHeaderChange header (change.Order first second) = ⊤
+
+-- a change that the steps allow: there are both places
+abbrev pub IsStepChange : List Step → Change → Type 0
+IsStepChange steps (change.Priority task priority) = ⊤
+IsStepChange steps (change.Mask task mask) = ⊤
+IsStepChange steps (change.Order first second) =
+    (first < length steps) × (second < length steps)
+
+-- a change that the session allows
+abbrev pub IsChangeOf : Session → Change → Type 0
+IsChangeOf session made =
+    IsHeaderChange session.header made × IsStepChange session.steps made

@@ -1,0 +1,91 @@
+//! The session with a change made.
+ghost use Rattle.std.specs.Prelude.{◌≡◌, IfOk, length};
+ghost use Rattle.bench_types.specs.Session.{IsSession};
+ghost use Rattle.bench_types.specs.Step.{settings_of};
+ghost use Rattle.bench_model.specs.Edits.{args_of, changed as with_numbers};
+ghost use Rattle.ranked_changes.specs.Changed.{changed_header, changed_steps, IsChangeOf, IsHeaderChange, IsStepChange, IsUserTask};
+
+use crate::Change;
+use bench_types::{Header, Items, Step, TaskArgs};
+use std::alloc::{AllocError, Global};
+
+/// What the user task is created with.
+pub fn args_of(header: &Header, task: u32) -> &TaskArgs
+    requires { IsUserTask header.now task }
+    ensures { result.now ≡ args_of header.now task }
+{
+    &header.tasks.as_slice()[(task - header.config.cores) as usize]
+}
+
+// The header with these numbers of the user task.
+fn with_numbers(
+    alloc: Global,
+    header: &Header,
+    task: u32,
+    priority: u32,
+    mask: u32,
+) -> Result<Header, AllocError>
+    requires { IsUserTask header.now task }
+    ensures { IfOk result (λ made. made ≡ with_numbers task priority mask header.now) }
+{
+    let copy = header.copy(alloc)?;
+    let mut tasks = copy.tasks.into_vec();
+    tasks.as_mut_slice()[(task - header.config.cores) as usize] = TaskArgs {
+        name: args_of(header, task).name.copy(),
+        priority,
+        mask,
+    };
+    Ok(Header {
+        config: header.config,
+        tasks: Items::new(tasks),
+    })
+}
+
+/// A second header in which the change is made. An exchange of calls changes no header.
+pub fn header_with(alloc: Global, header: &Header, change: Change) -> Result<Header, AllocError>
+    requires { IsHeaderChange header.now change }
+    ensures { IfOk result (λ made. made ≡ changed_header header.now change) }
+{
+    match change {
+        Change::Priority { task, priority } => {
+            with_numbers(alloc, header, task, priority, args_of(header, task).mask)
+        }
+        Change::Mask { task, mask } => {
+            with_numbers(alloc, header, task, args_of(header, task).priority, mask)
+        }
+        Change::Order { .. } => header.copy(alloc),
+    }
+}
+
+/// A second list of the steps in which the change is made. A change of a task changes no step.
+pub fn steps_with(alloc: Global, steps: &[Step], change: Change) -> Result<Vec<Step>, AllocError>
+    requires { IsStepChange steps.now change }
+    ensures { IfOk result (λ made. made.items ≡ changed_steps steps.now change) }
+{
+    let mut made = Vec::from_slice(alloc, steps)?;
+    if let Change::Order { first, second } = change {
+        made.as_mut_slice().swap(first as usize, second as usize);
+    }
+    Ok(made)
+}
+
+/// A second session, its header and its steps, in which the change is made. It has as many steps,
+/// and the same cores, tasks and mutexes.
+pub fn changed_session(
+    alloc: Global,
+    header: &Header,
+    steps: &[Step],
+    change: Change,
+) -> Result<(Header, Vec<Step>), AllocError>
+    requires session { IsSession (record { header = header.now; steps = steps.now }) }
+    requires allowed { IsChangeOf (record { header = header.now; steps = steps.now }) change }
+    ensures header { IfOk result (λ made. made.0 ≡ changed_header header.now change) }
+    ensures steps { IfOk result (λ made. made.1.items ≡ changed_steps steps.now change) }
+    ensures session { IfOk result
+        (λ made. IsSession (record { header = made.0; steps = made.1.items })) }
+    ensures settings { IfOk result (λ made. settings_of made.0 ≡ settings_of header.now) }
+    ensures count { IfOk result (λ made. length made.1.items ≡ length steps.now) }
+{
+    let made = header_with(alloc, header, change)?;
+    Ok((made, steps_with(alloc, steps, change)?))
+}

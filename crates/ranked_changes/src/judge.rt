@@ -1,0 +1,146 @@
+//! By what a session is judged.
+ghost use Rattle.std.specs.Prelude.{◌≡◌, ◌<◌, ◌≤◌, ◌+◌, ◌^◌, [], IfOk, OnErr, OnOk, length};
+ghost use Rattle.bench_types.specs.Limits.{max_steps};
+ghost use Rattle.bench_types.specs.Session.{IsSession};
+ghost use Rattle.bench_types.specs.Step.{settings_of};
+ghost use Rattle.smp_kernel.specs.Counting.{meter_after, CountsUpTo};
+ghost use Rattle.run_numbers.specs.Readings.{IsSubjectOf};
+ghost use Rattle.ranked_changes.specs.Verdicts.{number_in, number_of, CountsSettled, CountsVerdict, IsPlainVerdict, IsSettledVerdict, IsVerdict};
+
+use bench_types::{Header, Step};
+use run_numbers::{Reading, Subject, measure};
+use settled_runs::WaitingCall;
+use settling::{SettleFault, settle};
+use smp_kernel::Meter;
+use std::alloc::{AllocError, Global};
+
+/// Which number of a subject is looked at.
+#[derive(Clone, Copy, Debug, PartialEq, Eq)]
+pub enum Measure {
+    /// How many ticks, steps or calls there are, or the greatest priority.
+    Total,
+    /// The most ticks in a row that find the condition; 0 of another subject.
+    Longest,
+}
+
+/// How a session is judged: by one number of its whole run.
+#[derive(Clone, Copy, Debug, PartialEq, Eq)]
+pub struct Judge {
+    /// Whether the session is settled first, or its steps are run as they stand.
+    pub settled: bool,
+    pub subject: Subject,
+    pub measure: Measure,
+}
+
+/// What a judge says of a session. The lower is the better one.
+#[derive(Clone, Copy, Debug, PartialEq, Eq, PartialOrd, Ord)]
+pub enum Verdict {
+    /// The number.
+    Number(u32),
+    /// The settled run has more steps than a session may have.
+    TooLong,
+}
+
+fn number_of(measure: Measure, reading: Reading) -> u32
+    ensures { result ≡ number_of measure reading }
+{
+    match measure {
+        Measure::Total => reading.total,
+        Measure::Longest => reading.longest,
+    }
+}
+
+// The number of a run, of which these calls were not made.
+fn number_in(
+    alloc: Global,
+    meter: &mut Meter,
+    header: &Header,
+    run: &[Step],
+    left: &[WaitingCall],
+    judge: Judge,
+) -> Result<u32, AllocError>
+    requires session { IsSession (record { header = header.now; steps = run.now }) }
+    requires few { length run.now ≤ max_steps }
+    requires left { length left.now < 2 ^ 32 }
+    requires known { IsSubjectOf (settings_of header.now) judge.subject }
+    ensures number { IfOk result (λ number. number ≡ number_in judge header.now run.now left.now) }
+    ensures meter { OnOk result (meter.new ≡ meter_after (length run.now) meter.old) }
+    ensures some { OnErr result (CountsUpTo (length run.now) meter.old meter.new) }
+{
+    let measured = measure(alloc, meter, header, run, left, &[judge.subject])?;
+    Ok(number_of(judge.measure, measured[0].reading))
+}
+
+// Of the session as it stands.
+fn plain_verdict(
+    alloc: Global,
+    meter: &mut Meter,
+    header: &Header,
+    steps: &[Step],
+    judge: Judge,
+) -> Result<Verdict, AllocError>
+    requires session { IsSession (record { header = header.now; steps = steps.now }) }
+    requires few { length steps.now ≤ max_steps }
+    requires known { IsSubjectOf (settings_of header.now) judge.subject }
+    ensures verdict { IfOk result
+        (IsPlainVerdict judge (record { header = header.now; steps = steps.now })) }
+    ensures meter { OnOk result (meter.new ≡ meter_after (length steps.now) meter.old) }
+    ensures some { OnErr result (CountsUpTo (length steps.now) meter.old meter.new) }
+{
+    let number = number_in(alloc, meter, header, steps, &[], judge)?;
+    Ok(Verdict::Number(number))
+}
+
+// Of its settled run.
+fn settled_verdict(
+    alloc: Global,
+    meter: &mut Meter,
+    header: &Header,
+    steps: &[Step],
+    judge: Judge,
+) -> Result<Verdict, AllocError>
+    requires session { IsSession (record { header = header.now; steps = steps.now }) }
+    requires few { length steps.now ≤ max_steps }
+    requires known { IsSubjectOf (settings_of header.now) judge.subject }
+    ensures verdict { IfOk result
+        (IsSettledVerdict judge (record { header = header.now; steps = steps.now })) }
+    ensures meter { IfOk result
+        (λ verdict. CountsSettled (record { header = header.now; steps = steps.now }) verdict
+        meter.old meter.new) }
+    ensures some { OnErr result (CountsUpTo (max_steps + max_steps) meter.old meter.new) }
+{
+    let settled = match settle(alloc, header, steps, meter) {
+        Ok(settled) => settled,
+        Err(SettleFault::TooManySteps) => return Ok(Verdict::TooLong),
+        Err(SettleFault::NoMemory) => return Err(AllocError),
+    };
+    let (run, left) = (settled.run.as_slice(), settled.left.as_slice());
+    let number = number_in(alloc, meter, header, run, left, judge)?;
+    Ok(Verdict::Number(number))
+}
+
+/// What the judge says of the session. It is an error only where memory is refused. The meter
+/// counts the steps of the run, those of a settled run twice: they are found and then measured.
+pub fn verdict_of(
+    alloc: Global,
+    meter: &mut Meter,
+    header: &Header,
+    steps: &[Step],
+    judge: Judge,
+) -> Result<Verdict, AllocError>
+    requires session { IsSession (record { header = header.now; steps = steps.now }) }
+    requires few { length steps.now ≤ max_steps }
+    requires known { IsSubjectOf (settings_of header.now) judge.subject }
+    ensures verdict { IfOk result
+        (IsVerdict judge (record { header = header.now; steps = steps.now })) }
+    ensures meter { IfOk result
+        (λ verdict. CountsVerdict judge (record { header = header.now; steps = steps.now }) verdict
+        meter.old meter.new) }
+    ensures some { OnErr result (CountsUpTo (max_steps + max_steps) meter.old meter.new) }
+{
+    if judge.settled {
+        settled_verdict(alloc, meter, header, steps, judge)
+    } else {
+        plain_verdict(alloc, meter, header, steps, judge)
+    }
+}

@@ -1,0 +1,119 @@
+//! The names of figures.
+ghost use Rattle.std.specs.Prelude.{◌≡◌, ◌++◌, OnOk, decimal, string_bytes};
+ghost use Rattle.bench_types.specs.Header.{name_of};
+ghost use Rattle.report_figures.specs.Names.{cause_name, condition_name, event_name, figure_name, part_name, subject_name};
+
+use crate::figures::Part;
+use bench_types::Header;
+use run_numbers::{Cause, Condition, Event, Subject};
+use std::alloc::AllocError;
+
+/// Writes the name of a figure after the text: the name of its subject, and of the longest stretch
+/// that it is.
+pub fn push_name(
+    text: &mut String,
+    header: &Header,
+    subject: Subject,
+    part: Part,
+) -> Result<(), AllocError>
+    ensures { OnOk result
+        (string_bytes text.new ≡ string_bytes text.old ++ figure_name header.now subject part) }
+{
+    push_subject(text, header, subject)?;
+    text.push_str(part_name(part))
+}
+
+fn part_name(part: Part) -> &'static str
+    ensures { result.now ≡ part_name part }
+{
+    match part {
+        Part::Total => "",
+        Part::Longest => ".longest",
+    }
+}
+
+#[tactic(auto, unfolding(crate::specs::Names::subject_name))]
+fn push_subject(text: &mut String, header: &Header, subject: Subject) -> Result<(), AllocError>
+    ensures { OnOk result
+        (string_bytes text.new ≡ string_bytes text.old ++ subject_name header.now subject) }
+{
+    match subject {
+        Subject::Ticks(condition) => push_condition(text, header, condition),
+        Subject::Steps(event) => push_event(text, header, event),
+        Subject::TopPriority { task } => push_of_task(text, header, task, ".top_priority"),
+        Subject::NotMade { task } => push_of_task(text, header, task, ".not_made"),
+    }
+}
+
+#[tactic(auto, unfolding(crate::specs::Names::condition_name))]
+fn push_condition(
+    text: &mut String,
+    header: &Header,
+    condition: Condition,
+) -> Result<(), AllocError>
+    ensures { OnOk result
+        (string_bytes text.new ≡ string_bytes text.old ++ condition_name header.now condition) }
+{
+    match condition {
+        Condition::Running { task } => push_of_task(text, header, task, ".run"),
+        Condition::RunningOn { task, core } => {
+            push_of_task(text, header, task, ".run.")?;
+            write!(text, "{core}")
+        }
+        Condition::WantsCore { task } => push_of_task(text, header, task, ".ready"),
+        Condition::Inverted { task } => push_of_task(text, header, task, ".ready.inverted"),
+        Condition::Blocked { task, cause } => {
+            push_of_task(text, header, task, ".blocked.")?;
+            push_cause(text, cause)
+        }
+        Condition::HeldUp { task } => push_of_task(text, header, task, ".blocked.mutex.held_up"),
+        Condition::Busy { core } => push_numbered(text, "core.", core, ".user"),
+        Condition::Idle { core } => push_numbered(text, "core.", core, ".idle"),
+        Condition::Due { core } => push_numbered(text, "core.", core, ".due"),
+        Condition::Held { mutex } => push_numbered(text, "mutex.", mutex, ".held"),
+    }
+}
+
+fn push_cause(text: &mut String, cause: Cause) -> Result<(), AllocError>
+    ensures { OnOk result (string_bytes text.new ≡ string_bytes text.old ++ cause_name cause) }
+{
+    match cause {
+        Cause::Delay => text.push_str("delay"),
+        Cause::Notification => text.push_str("notification"),
+        Cause::AnyMutex => text.push_str("mutex"),
+        Cause::Mutex(mutex) => push_numbered(text, "mutex.", mutex, ""),
+    }
+}
+
+#[tactic(auto, unfolding(crate::specs::Names::event_name))]
+fn push_event(text: &mut String, header: &Header, event: Event) -> Result<(), AllocError>
+    ensures { OnOk result
+        (string_bytes text.new ≡ string_bytes text.old ++ event_name header.now event) }
+{
+    match event {
+        Event::SwitchedIn { task } => push_of_task(text, header, task, ".switches"),
+        Event::Inherits { task } => push_of_task(text, header, task, ".inheritances"),
+        Event::TimesOut { task } => push_of_task(text, header, task, ".timeouts"),
+        Event::Refused { task, why } => {
+            push_of_task(text, header, task, ".refused.")?;
+            text.push_str(why.code())
+        }
+        Event::Awaited { mutex } => push_numbered(text, "mutex.", mutex, ".waits"),
+    }
+}
+
+fn push_of_task(text: &mut String, header: &Header, task: u32, what: &str) -> Result<(), AllocError>
+    ensures { OnOk result
+        (string_bytes text.new ≡ string_bytes text.old ++ name_of header.now task ++ what.now) }
+{
+    header.push_name(text, task)?;
+    text.push_str(what)
+}
+
+fn push_numbered(text: &mut String, kind: &str, number: u32, what: &str) -> Result<(), AllocError>
+    ensures { OnOk result
+        (string_bytes text.new
+        ≡ string_bytes text.old ++ kind.now ++ decimal number ++ what.now) }
+{
+    write!(text, "{kind}{number}{what}")
+}

@@ -1,6 +1,0 @@
-use Rattle.std.proofs.Common.{◌≡◌, ◌^◌, map}
-use Rattle.list_orders.specs.Search.{numbers}
-use Rattle.run_advice.proofs.masks.single_masks.Given as goal
-
-abbrev pub invariant-loop-core : goal.invariant-loop-core
-invariant-loop-core l = l.masks.items ≡ map (λ core. 2 ^ core) (numbers l.core)

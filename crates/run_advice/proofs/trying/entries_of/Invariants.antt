@@ -1,9 +1,0 @@
-use Rattle.std.proofs.Common.{◌≡◌, length}
-use Rattle.run_advice.specs.Ranking.{AreRead}
-use Rattle.run_advice.proofs.trying.entries_of.Given as goal
-
-abbrev pub invariant-loop-place : goal.invariant-loop-place
-invariant-loop-place l = record {
-  count : length l.entries.items ≡ l.place;
-  read : AreRead l.header l.changes l.verdicts l.entries.items;
-}

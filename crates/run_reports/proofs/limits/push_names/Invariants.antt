@@ -1,8 +1,0 @@
-use Rattle.std.proofs.Common.{◌≡◌, ◌++◌, take, flat_map, string_bytes}
-use Rattle.run_reports.specs.Limits.{name_line}
-use Rattle.run_reports.proofs.limits.push_names.Given as goal
-
-abbrev pub invariant-loop-figure : goal.invariant-loop-figure
-invariant-loop-figure l =
-    string_bytes l.text
-    ≡ string_bytes l.fn.text ++ flat_map (name_line l.header) (take l.figure-index l.figures)

@@ -1,3 +1,4 @@
+pub mod Cause
 pub mod CoreAction
 pub mod Codes
 pub mod Edit

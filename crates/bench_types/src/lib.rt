@@ -2,6 +2,7 @@
 //! the checks of their limits.
 #![tactic(auto)]
 
+mod cause;
 mod code;
 mod core_action;
 mod edit;
@@ -16,10 +17,12 @@ mod mask;
 mod name;
 mod note;
 mod reply;
+mod session;
 mod step;
 mod step_flaw;
 mod tally;
 
+pub use cause::Cause;
 pub use core_action::CoreAction;
 pub use edit::{Edit, EditFault};
 pub use entry::Entry;
@@ -38,6 +41,7 @@ pub use mask::cores_of_mask;
 pub use name::Name;
 pub use note::{Note, NoteState, Notification, NotifyAction};
 pub use reply::{Refusal, Reply, Row};
+pub use session::CheckedSession;
 pub use step::{BlockingCall, Call, Step, Unfinished};
 pub use step_flaw::StepFlaw;
 pub use tally::Tally;

@@ -13,10 +13,10 @@ use Rattle.settled_runs.proofs.Pieces.{find_among}
 use Rattle.run_numbers.specs.declared.subject.Subject.{Subject}
 use Rattle.run_numbers.specs.declared.subject.Subject.TheVariants.{Ticks, Steps, TopPriority, NotMade}
 use Rattle.run_numbers.specs.Readings.{measured, IsSubjectOf}
-use Rattle.run_reports.specs.declared.figures.Figure.{Figure}
-use Rattle.run_reports.specs.Figures.{figures_in}
-use Rattle.run_reports.specs.Subjects.{subjects_of}
-use Rattle.run_reports.proofs.Measurable.{subjects_fit}
+use Rattle.report_figures.specs.declared.figures.Figure.{Figure}
+use Rattle.report_figures.specs.Figures.{figures_in}
+use Rattle.report_figures.specs.Subjects.{subjects_of}
+use Rattle.report_figures.proofs.Measurable.{subjects_fit}
 use Rattle.session_reports.specs.Figures.{run_figures, AreFigures}
 
 module _ (header : Header) (run : List Step) (left : List WaitingCall) where

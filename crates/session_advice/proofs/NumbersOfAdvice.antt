@@ -6,15 +6,15 @@ use Rattle.std.proofs.lemmas.List.Elements.{All-take}
 use Rattle.std.proofs.lemmas.List.Sorted.{All-permutation}
 use Rattle.std.proofs.lemmas.Option.{get_or_from_slice_get}
 use Rattle.bench_types.specs.Session.{Session}
-use Rattle.run_advice.specs.declared.change.Change.{Change}
-use Rattle.run_advice.specs.declared.change.Change.TheVariants.{Order}
-use Rattle.run_advice.specs.declared.judge.Judge.{Judge}
-use Rattle.run_advice.specs.declared.judge.Verdict.TheVariants.{Number}
-use Rattle.run_advice.specs.declared.rank.Ranked.{Ranked}
-use Rattle.run_advice.specs.Changed.{changed}
-use Rattle.run_advice.specs.Ranking.{IsRanking}
-use Rattle.run_advice.specs.Verdicts.{IsPlainVerdict, IsSettledVerdict, IsVerdict}
-use Rattle.session_reports.specs.Figures.{IsTooLong}
+use Rattle.ranked_changes.specs.declared.change.Change.{Change}
+use Rattle.ranked_changes.specs.declared.change.Change.TheVariants.{Order}
+use Rattle.ranked_changes.specs.declared.judge.Judge.{Judge}
+use Rattle.ranked_changes.specs.declared.judge.Verdict.TheVariants.{Number}
+use Rattle.ranked_changes.specs.declared.rank.Ranked.{Ranked}
+use Rattle.ranked_changes.specs.Changed.{changed}
+use Rattle.ranked_changes.specs.Ranking.{IsRanking}
+use Rattle.ranked_changes.specs.Verdicts.{IsPlainVerdict, IsSettledVerdict, IsVerdict}
+use Rattle.settled_runs.specs.Runs.{IsTooLong}
 use Rattle.session_advice.specs.Advice.{IsJudged}
 use Rattle.session_advice.specs.Basis.{judge_of, Basis}
 

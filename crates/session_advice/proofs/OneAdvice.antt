@@ -4,16 +4,16 @@ use Rattle.std.specs.Prelude.{find, take}
 use Rattle.std.specs.List.{concat, enumerate_from, AllZip}
 use Rattle.std.proofs.lemmas.Option.{same_Some}
 use Rattle.bench_types.specs.Session.{Session}
-use Rattle.run_advice.specs.declared.change.Change.{Change}
-use Rattle.run_advice.specs.declared.change.Family.{Family}
-use Rattle.run_advice.specs.declared.judge.Verdict.{Verdict}
-use Rattle.run_advice.specs.declared.judge.Verdict.TheVariants.{Number, TooLong}
-use Rattle.run_advice.specs.declared.rank.Ranked.{Ranked}
-use Rattle.run_advice.specs.Changed.{changed}
-use Rattle.run_advice.specs.Changes.{changes_of}
-use Rattle.run_advice.proofs.OneRanking.{rankings_are_one}
-use Rattle.run_reports.specs.declared.figures.Figure.{Figure}
-use Rattle.run_reports.specs.Limits.{has_name}
+use Rattle.ranked_changes.specs.declared.change.Change.{Change}
+use Rattle.ranked_changes.specs.declared.change.Family.{Family}
+use Rattle.ranked_changes.specs.declared.judge.Verdict.{Verdict}
+use Rattle.ranked_changes.specs.declared.judge.Verdict.TheVariants.{Number, TooLong}
+use Rattle.ranked_changes.specs.declared.rank.Ranked.{Ranked}
+use Rattle.ranked_changes.specs.Changed.{changed}
+use Rattle.ranked_changes.specs.Changes.{changes_of}
+use Rattle.ranked_changes.proofs.OneRanking.{rankings_are_one}
+use Rattle.report_figures.specs.declared.figures.Figure.{Figure}
+use Rattle.report_figures.specs.Limits.{has_name}
 use Rattle.session_reports.proofs.OneList.{figures_are_one}
 use Rattle.session_advice.specs.Advice.{basis_at, entry_line, head_line, AreEntryTexts, IsAdviceText, IsEntryText, IsPrintedOf}
 use Rattle.session_advice.specs.AdviceLaws.{AdviceIsOne}

@@ -3,8 +3,8 @@ use Rattle.std.proofs.Common.{◌≡◌, ℕ, suc, ◌+◌, ◌<◌, List, [], �
 use Rattle.std.specs.List.{concat, enumerate_from, AllZip}
 use Rattle.std.proofs.lemmas.List.{append-nil, take_more, length-take}
 use Rattle.std.proofs.lemmas.List.Folds.{concat-append}
-use Rattle.run_advice.specs.declared.change.Change.{Change}
-use Rattle.run_advice.specs.declared.rank.Ranked.{Ranked}
+use Rattle.ranked_changes.specs.declared.change.Change.{Change}
+use Rattle.ranked_changes.specs.declared.rank.Ranked.{Ranked}
 use Rattle.session_advice.specs.Advice.{AddsEntries, AddsEntry, IsEntryText}
 use Rattle.session_advice.specs.Basis.{Basis}
 

@@ -2,16 +2,16 @@
 use Rattle.std.specs.Prelude.{◌≡◌, ◌<◌, ℕ, List, ◌++◌, length, take, find, codes, decimal, Option, Some, None, slice_get}
 use Rattle.std.specs.List.{AllZip, concat, enumerate_from}
 use Rattle.bench_types.specs.Session.{Session}
-use Rattle.run_advice.specs.declared.change.Change.{Change}
-use Rattle.run_advice.specs.declared.change.Family.{Family}
-use Rattle.run_advice.specs.declared.judge.Verdict.{Verdict}
-use Rattle.run_advice.specs.declared.rank.Ranked.{Ranked}
-use Rattle.run_advice.specs.Changed.{changed}
-use Rattle.run_advice.specs.Changes.{changes_of}
-use Rattle.run_advice.specs.Ranking.{IsRanking}
-use Rattle.run_advice.specs.Verdicts.{IsVerdict}
-use Rattle.run_reports.specs.declared.figures.Figure.{Figure}
-use Rattle.run_reports.specs.Limits.{has_name, value_text}
+use Rattle.ranked_changes.specs.declared.change.Change.{Change}
+use Rattle.ranked_changes.specs.declared.change.Family.{Family}
+use Rattle.ranked_changes.specs.declared.judge.Verdict.{Verdict}
+use Rattle.ranked_changes.specs.declared.rank.Ranked.{Ranked}
+use Rattle.ranked_changes.specs.Changed.{changed}
+use Rattle.ranked_changes.specs.Changes.{changes_of}
+use Rattle.ranked_changes.specs.Ranking.{IsRanking}
+use Rattle.ranked_changes.specs.Verdicts.{IsVerdict}
+use Rattle.report_figures.specs.declared.figures.Figure.{Figure}
+use Rattle.report_figures.specs.Limits.{has_name, value_text}
 use Rattle.session_reports.specs.Checks.{unknown_text}
 use Rattle.session_reports.specs.Figures.{AreFigures}
 use Rattle.session_advice.specs.declared.question.AdviceStatus.TheVariants.{Given, Unknown}

@@ -4,12 +4,12 @@ use Rattle.bench_types.specs.Limits.{max_steps}
 use Rattle.bench_types.specs.Session.{IsSession, Session}
 use Rattle.bench_types.specs.Step.{settings_of}
 use Rattle.run_numbers.specs.Readings.{IsSubjectOf}
-use Rattle.run_advice.specs.declared.judge.Judge.{Judge}
-use Rattle.run_advice.specs.declared.judge.Measure.{Measure}
-use Rattle.run_advice.specs.declared.judge.Measure.TheVariants as measure
-use Rattle.run_reports.specs.declared.figures.Figure.{Figure}
-use Rattle.run_reports.specs.declared.figures.Part.{Part}
-use Rattle.run_reports.specs.declared.figures.Part.TheVariants.{Total, Longest}
+use Rattle.ranked_changes.specs.declared.judge.Judge.{Judge}
+use Rattle.ranked_changes.specs.declared.judge.Measure.{Measure}
+use Rattle.ranked_changes.specs.declared.judge.Measure.TheVariants as measure
+use Rattle.report_figures.specs.declared.figures.Figure.{Figure}
+use Rattle.report_figures.specs.declared.figures.Part.{Part}
+use Rattle.report_figures.specs.declared.figures.Part.TheVariants.{Total, Longest}
 use Rattle.session_advice.specs.declared.basis.Base.{Base}
 
 -- a session, whether runs are settled, the figures of its run, and the one that is to be lower

@@ -4,19 +4,19 @@ use Rattle.std.specs.Option.{option_map_or}
 use Rattle.list_orders.specs.Search.{numbers}
 use Rattle.run_numbers.specs.declared.subject.Cause.TheVariants.{AnyMutex}
 use Rattle.run_numbers.specs.declared.subject.Condition.{Condition}
-use Rattle.run_numbers.specs.declared.subject.Condition.TheVariants.{Running, RunningOn, Waiting, Inverted, Blocked, HeldUp}
+use Rattle.run_numbers.specs.declared.subject.Condition.TheVariants.{Running, RunningOn, WantsCore, Inverted, Blocked, HeldUp}
 use Rattle.run_numbers.specs.declared.subject.Event.{Event}
 use Rattle.run_numbers.specs.declared.subject.Event.TheVariants.{SwitchedIn, Inherits, TimesOut, Refused}
 use Rattle.run_numbers.specs.declared.subject.Subject.{Subject}
 use Rattle.run_numbers.specs.declared.subject.Subject.TheVariants.{Ticks, Steps, TopPriority, NotMade}
-use Rattle.run_advice.specs.declared.change.Change.{Change}
-use Rattle.run_advice.specs.declared.judge.Verdict.{Verdict}
-use Rattle.run_advice.specs.declared.judge.Verdict.TheVariants.{Number, TooLong}
-use Rattle.run_advice.specs.Changed.{changed}
-use Rattle.run_reports.specs.declared.figures.Figure.{Figure}
-use Rattle.run_reports.specs.declared.figures.Part.{Part}
-use Rattle.run_reports.specs.declared.figures.Part.TheVariants.{Total, Longest}
-use Rattle.run_reports.specs.Table.{name_at, value_at}
+use Rattle.ranked_changes.specs.declared.change.Change.{Change}
+use Rattle.ranked_changes.specs.declared.judge.Verdict.{Verdict}
+use Rattle.ranked_changes.specs.declared.judge.Verdict.TheVariants.{Number, TooLong}
+use Rattle.ranked_changes.specs.Changed.{changed}
+use Rattle.report_figures.specs.declared.figures.Figure.{Figure}
+use Rattle.report_figures.specs.declared.figures.Part.{Part}
+use Rattle.report_figures.specs.declared.figures.Part.TheVariants.{Total, Longest}
+use Rattle.report_figures.specs.Table.{name_at, value_at}
 use Rattle.session_reports.specs.Figures.{AreFigures}
 use Rattle.session_advice.specs.Basis.{Basis}
 use Rattle.session_advice.specs.Words.{number_words}
@@ -25,7 +25,7 @@ use Rattle.session_advice.specs.Words.{number_words}
 abbrev pub task_in : Condition → Option ℕ
 task_in (Running task) = Some task
 task_in (RunningOn task core) = Some task
-task_in (Waiting task) = Some task
+task_in (WantsCore task) = Some task
 task_in (Inverted task) = Some task
 task_in (Blocked task cause) = Some task
 task_in (HeldUp task) = Some task
@@ -50,7 +50,7 @@ task_of (NotMade task) = Some task
 -- runs out, or its calls are not made
 abbrev pub bearer : Subject → Option ℕ
 bearer (Ticks (Running task)) = Some task
-bearer (Ticks (Waiting task)) = Some task
+bearer (Ticks (WantsCore task)) = Some task
 bearer (Ticks (Inverted task)) = Some task
 bearer (Ticks (Blocked task AnyMutex)) = Some task
 bearer (Steps (TimesOut task)) = Some task

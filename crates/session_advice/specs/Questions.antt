@@ -1,6 +1,6 @@
 -- What is asked of advice, and what it tells.
 use Rattle.std.specs.Prelude.{ℕ, List, Bool}
-use Rattle.run_advice.specs.declared.change.Family.{Family}
+use Rattle.ranked_changes.specs.declared.change.Family.{Family}
 use Rattle.session_advice.specs.declared.question.AdviceStatus.{AdviceStatus}
 
 -- the name of a figure, whether runs are settled, the changes that are tried, and how many of the

@@ -2,7 +2,7 @@
 use Rattle.std.specs.Prelude.{◌≡◌, ℕ}
 use Rattle.settling.specs.declared.run.SettleFault.{SettleFault}
 use Rattle.settling.specs.declared.run.SettleFault.TheVariants.{TooManySteps, NoMemory}
-use Rattle.run_advice.specs.Tellings.{TellsSome, TellsUpTo}
+use Rattle.ranked_changes.specs.Tellings.{TellsSome, TellsUpTo}
 use Rattle.session_advice.specs.declared.question.AdviceStatus.{AdviceStatus}
 use Rattle.session_advice.specs.declared.question.AdviceStatus.TheVariants.{Given, Unknown}
 

@@ -4,11 +4,11 @@ use Rattle.bench_types.specs.declared.header.Header.{Header}
 use Rattle.bench_types.specs.Header.{name_of}
 use Rattle.bench_types.specs.Limits.{max_steps}
 use Rattle.bench_model.specs.Edits.{args_of}
-use Rattle.run_advice.specs.declared.change.Change.{Change}
-use Rattle.run_advice.specs.declared.change.Change.TheVariants.{Priority, Mask, Order}
-use Rattle.run_advice.specs.declared.judge.Verdict.{Verdict}
-use Rattle.run_advice.specs.declared.judge.Verdict.TheVariants.{Number, TooLong}
-use Rattle.run_reports.specs.Table.{change_text}
+use Rattle.ranked_changes.specs.declared.change.Change.{Change}
+use Rattle.ranked_changes.specs.declared.change.Change.TheVariants.{Priority, Mask, Order}
+use Rattle.ranked_changes.specs.declared.judge.Verdict.{Verdict}
+use Rattle.ranked_changes.specs.declared.judge.Verdict.TheVariants.{Number, TooLong}
+use Rattle.report_figures.specs.Table.{change_text}
 
 -- what of a task is another number than its own
 abbrev pub task_words : Header → List ℕ → ℕ → ℕ → ℕ → List ℕ

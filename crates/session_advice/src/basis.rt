@@ -3,8 +3,8 @@ ghost use Rattle.std.specs.Prelude.{◌≡◌};
 ghost use Rattle.session_advice.specs.Basis.{basis_of, judge_of, measure_of};
 
 use bench_types::{Header, Step};
-use run_advice::{Judge, Measure};
-use run_reports::{Figure, Part};
+use ranked_changes::{Judge, Measure};
+use report_figures::{Figure, Part};
 
 // The session as it is, the figures of its run, and the one that is to be lower.
 #[derive(Clone, Copy)]

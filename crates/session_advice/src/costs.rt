@@ -2,9 +2,10 @@
 ghost use Rattle.std.specs.Prelude.{◌≡◌, ◌≤◌, ◌++◌, IfOk, OnOk, length, string_bytes};
 ghost use Rattle.bench_types.specs.Limits.{max_steps};
 ghost use Rattle.bench_types.specs.Session.{IsSession};
-ghost use Rattle.run_advice.specs.Changed.{changed, IsChangeOf};
-ghost use Rattle.run_advice.specs.Verdicts.{IsVerdict};
-ghost use Rattle.session_reports.specs.Figures.{AreFigures, IsTooLong};
+ghost use Rattle.ranked_changes.specs.Changed.{changed, IsChangeOf};
+ghost use Rattle.ranked_changes.specs.Verdicts.{IsVerdict};
+ghost use Rattle.session_reports.specs.Figures.{AreFigures};
+ghost use Rattle.settled_runs.specs.Runs.{IsTooLong};
 ghost use Rattle.session_advice.specs.Advice.{AddsCosts};
 ghost use Rattle.session_advice.specs.Basis.{basis_of, judge_of, IsBasis};
 ghost use Rattle.session_advice.specs.Costs.{bearer, cost_line, cost_lines, is_another, is_changed_at, is_cost, is_cost_at, task_at, task_in, task_of};
@@ -12,9 +13,9 @@ ghost use Rattle.session_advice.specs.Costs.{bearer, cost_line, cost_lines, is_a
 use crate::basis::Base;
 use crate::words::push_number;
 use bench_types::{Header, Step};
-use run_advice::{Change, Verdict, changed_session};
+use ranked_changes::{Change, Verdict, changed_session};
+use report_figures::{Figure, Part, push_name_at, value_at};
 use run_numbers::{Cause, Condition, Event, Subject};
-use run_reports::{Figure, Part, push_name_at, value_at};
 use session_reports::figures_of_session;
 use settling::SettleFault;
 use smp_kernel::Meter;
@@ -26,7 +27,7 @@ fn task_in(condition: Condition) -> Option<u32>
     match condition {
         Condition::Running { task }
         | Condition::RunningOn { task, .. }
-        | Condition::Waiting { task }
+        | Condition::WantsCore { task }
         | Condition::Inverted { task }
         | Condition::Blocked { task, .. }
         | Condition::HeldUp { task } => Some(task),
@@ -66,7 +67,7 @@ fn bearer(subject: Subject) -> Option<u32>
 {
     match subject {
         Subject::Ticks(Condition::Running { task })
-        | Subject::Ticks(Condition::Waiting { task })
+        | Subject::Ticks(Condition::WantsCore { task })
         | Subject::Ticks(Condition::Inverted { task })
         | Subject::Ticks(
             Condition::Blocked {

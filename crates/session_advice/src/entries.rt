@@ -1,14 +1,14 @@
 //! The lines of the best changes.
 ghost use Rattle.std.specs.Prelude.{◌≡◌, ◌<◌, ◌++◌, All, OnOk, Some, length, slice_get, string_bytes};
-ghost use Rattle.run_advice.specs.Changed.{IsChangeOf, IsHeaderChange};
+ghost use Rattle.ranked_changes.specs.Changed.{IsChangeOf, IsHeaderChange};
 ghost use Rattle.session_advice.specs.Advice.{entry_line, head_line, AddsEntries, AddsEntry, IsJudged};
 ghost use Rattle.session_advice.specs.Basis.{basis_of, IsBasis};
 
 use crate::basis::Base;
 use crate::costs::push_costs;
 use crate::words::{push_change, push_verdict};
-use run_advice::{Change, Ranked, Verdict};
-use run_reports::push_value;
+use ranked_changes::{Change, Ranked, Verdict};
+use report_figures::push_value;
 use smp_kernel::Meter;
 use std::alloc::{AllocError, Global};
 

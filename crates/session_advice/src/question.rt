@@ -1,5 +1,5 @@
 //! What is asked of advice, and what it tells.
-use run_advice::Family;
+use ranked_changes::Family;
 use std::marker::Model;
 
 /// What is asked of advice.

@@ -1,11 +1,11 @@
 //! Changes and numbers in words.
 ghost use Rattle.std.specs.Prelude.{◌≡◌, ◌++◌, OnOk, string_bytes};
-ghost use Rattle.run_advice.specs.Changed.{IsHeaderChange};
+ghost use Rattle.ranked_changes.specs.Changed.{IsHeaderChange};
 ghost use Rattle.session_advice.specs.Words.{change_words, number_words, task_words, verdict_words};
 
 use bench_types::{Header, MAX_STEPS};
-use run_advice::{Change, Verdict, args_of};
-use run_reports::change_of;
+use ranked_changes::{Change, Verdict, args_of};
+use report_figures::change_of;
 use std::alloc::{AllocError, Global};
 
 /// Writes after the text what the change is, and what the task had before it.

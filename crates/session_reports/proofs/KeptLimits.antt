@@ -7,11 +7,11 @@ use Rattle.std.proofs.lemmas.List.{length-append}
 use Rattle.std.proofs.lemmas.List.Elements.{All-cons, All-head, All-nil, All-tail}
 use Rattle.bench_types.specs.declared.header.Header.{Header}
 use Rattle.bench_types.specs.Session.{Session}
-use Rattle.run_reports.specs.declared.figures.Figure.{Figure}
-use Rattle.run_reports.specs.declared.limits.Bound.{Bound}
-use Rattle.run_reports.specs.declared.limits.Bound.TheVariants.{AtMost, AtLeast}
-use Rattle.run_reports.specs.declared.limits.Limit.{Limit}
-use Rattle.run_reports.specs.Limits.{bound_text, from_text, is_kept, limit_line, unkept_line, value_text, Keeps}
+use Rattle.report_figures.specs.declared.figures.Figure.{Figure}
+use Rattle.report_figures.specs.declared.limits.Bound.{Bound}
+use Rattle.report_figures.specs.declared.limits.Bound.TheVariants.{AtMost, AtLeast}
+use Rattle.report_figures.specs.declared.limits.Limit.{Limit}
+use Rattle.report_figures.specs.Limits.{bound_text, from_text, is_kept, limit_line, unkept_line, value_text, Keeps}
 use Rattle.session_reports.specs.declared.limits.CheckStatus.TheVariants.{Kept, Unknown}
 use Rattle.session_reports.specs.Asked.{Asked, Printed}
 use Rattle.session_reports.specs.Checks.{checked, figure_for, is_unknown, kept_or, limit_for, limits_in, printed_of, unkept_lines, IsCheck, KeepsAll, KeepsLimit, NamesUnknown}

@@ -1,6 +1,6 @@
 -- What is asked of a check, and what it tells.
 use Rattle.std.specs.Prelude.{ℕ, List}
-use Rattle.run_reports.specs.declared.limits.Bound.{Bound}
+use Rattle.report_figures.specs.declared.limits.Bound.{Bound}
 use Rattle.session_reports.specs.declared.limits.CheckStatus.{CheckStatus}
 
 -- the name of a figure, and what its value may be

@@ -2,9 +2,9 @@
 use Rattle.std.specs.Prelude.{◌≡◌, ℕ, List, [], ◌∷◌, ◌++◌, find, flat_map, All, Any, Bool, codes, Option, Some, None, is_none}
 use Rattle.bench_types.specs.declared.header.Header.{Header}
 use Rattle.bench_types.specs.Session.{Session}
-use Rattle.run_reports.specs.declared.figures.Figure.{Figure}
-use Rattle.run_reports.specs.declared.limits.Limit.{Limit}
-use Rattle.run_reports.specs.Limits.{has_name, limit_line, name_line, Keeps}
+use Rattle.report_figures.specs.declared.figures.Figure.{Figure}
+use Rattle.report_figures.specs.declared.limits.Limit.{Limit}
+use Rattle.report_figures.specs.Limits.{has_name, limit_line, name_line, Keeps}
 use Rattle.session_reports.specs.declared.limits.CheckStatus.TheVariants.{Kept, NotKept, Unknown}
 use Rattle.session_reports.specs.Asked.{Asked, Printed}
 use Rattle.session_reports.specs.Figures.{AreFigures}

@@ -5,11 +5,11 @@ use Rattle.bench_types.specs.declared.step.Step.{Step}
 use Rattle.bench_types.specs.Limits.{max_steps}
 use Rattle.bench_types.specs.Session.{Session}
 use Rattle.settled_runs.specs.declared.waiting_call.WaitingCall.{WaitingCall}
-use Rattle.run_comparisons.specs.Settled.{IsSettledTooLong, SettledRun}
+use Rattle.settled_runs.specs.Runs.{SettledRun}
 use Rattle.run_numbers.specs.Readings.{measured}
-use Rattle.run_reports.specs.declared.figures.Figure.{Figure}
-use Rattle.run_reports.specs.Figures.{figures_in}
-use Rattle.run_reports.specs.Subjects.{subjects_of}
+use Rattle.report_figures.specs.declared.figures.Figure.{Figure}
+use Rattle.report_figures.specs.Figures.{figures_in}
+use Rattle.report_figures.specs.Subjects.{subjects_of}
 
 -- those of the run of these steps, of which these calls were not made
 abbrev pub run_figures : Header → List Step → List WaitingCall → List Figure
@@ -26,8 +26,3 @@ pub record AreSettledFigures (session : Session) (figures : List Figure) : Type 
 abbrev pub AreFigures : Bool → Session → List Figure → Type 0
 AreFigures true session figures = AreSettledFigures session figures
 AreFigures false session figures = figures ≡ run_figures session.header session.steps []
-
--- the settled run is asked for, and each has more steps than a session may have
-abbrev pub IsTooLong : Bool → Session → Type 0
-IsTooLong true session = IsSettledTooLong session
-IsTooLong false session = ⊥

@@ -1,7 +1,7 @@
 -- The laws of reports.
 use Rattle.std.specs.Prelude.{◌≡◌, List, Bool}
 use Rattle.bench_types.specs.Session.{Session}
-use Rattle.run_reports.specs.declared.figures.Figure.{Figure}
+use Rattle.report_figures.specs.declared.figures.Figure.{Figure}
 use Rattle.session_reports.specs.Figures.{AreFigures}
 
 -- the run of a session, settled or as its steps stand, has one list of figures alone

@@ -2,9 +2,9 @@
 use Rattle.std.specs.Prelude.{◌≡◌, ℕ, List, Bool}
 use Rattle.bench_types.specs.declared.header.Header.{Header}
 use Rattle.bench_types.specs.Session.{Session}
-use Rattle.run_reports.specs.declared.figures.Figure.{Figure}
-use Rattle.run_reports.specs.Objects.{run_json, runs_json}
-use Rattle.run_reports.specs.Table.{run_table, runs_table}
+use Rattle.report_figures.specs.declared.figures.Figure.{Figure}
+use Rattle.report_figures.specs.Objects.{run_json, runs_json}
+use Rattle.report_figures.specs.Table.{run_table, runs_table}
 use Rattle.session_reports.specs.declared.report.Form.{Form}
 use Rattle.session_reports.specs.declared.report.Form.TheVariants.{Table, Json}
 use Rattle.session_reports.specs.Figures.{AreFigures}

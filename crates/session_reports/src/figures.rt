@@ -3,12 +3,12 @@ ghost use Rattle.std.specs.Prelude.{◌≡◌, ◌≤◌, ◌<◌, ◌^◌, IfOk
 ghost use Rattle.bench_types.specs.Limits.{max_steps};
 ghost use Rattle.bench_types.specs.Session.{IsSession};
 ghost use Rattle.settling.specs.declared.run.SettleFault.TheVariants.{TooManySteps};
-ghost use Rattle.session_reports.specs.Figures.{run_figures, AreFigures, AreSettledFigures, IsTooLong};
-ghost use Rattle.run_comparisons.specs.Settled.{IsSettledTooLong};
+ghost use Rattle.session_reports.specs.Figures.{run_figures, AreFigures, AreSettledFigures};
+ghost use Rattle.settled_runs.specs.Runs.{IsSettledTooLong, IsTooLong};
 
 use bench_types::{Header, Step};
+use report_figures::{Figure, figures_of, subjects_of};
 use run_numbers::measure;
-use run_reports::{Figure, figures_of, subjects_of};
 use settled_runs::WaitingCall;
 use settling::{SettleFault, settle};
 use smp_kernel::Meter;

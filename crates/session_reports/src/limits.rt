@@ -5,11 +5,11 @@ ghost use Rattle.bench_types.specs.Session.{IsSession};
 ghost use Rattle.settling.specs.declared.run.SettleFault.TheVariants.{TooManySteps};
 ghost use Rattle.session_reports.specs.Checks.{checked, is_unknown, kept_or, limits_in, unknown_text, IsCheck, KeepsAll, NamesUnknown};
 ghost use Rattle.session_reports.specs.declared.limits.CheckStatus.TheVariants.{Kept, Unknown};
-ghost use Rattle.session_reports.specs.Figures.{IsTooLong};
+ghost use Rattle.settled_runs.specs.Runs.{IsTooLong};
 
 use crate::figures::figures_of_session;
 use bench_types::{Header, Step};
-use run_reports::{Bound, Figure, Limit, figure_called, limits_text, push_names};
+use report_figures::{Bound, Figure, Limit, figure_called, limits_text, push_names};
 use settling::SettleFault;
 use smp_kernel::Meter;
 use std::alloc::{AllocError, Global};

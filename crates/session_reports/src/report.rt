@@ -3,12 +3,12 @@ ghost use Rattle.std.specs.Prelude.{◌≡◌, ◌≤◌, ◌⊎◌, IfOk, Err, 
 ghost use Rattle.bench_types.specs.Limits.{max_steps};
 ghost use Rattle.bench_types.specs.Session.{IsSession};
 ghost use Rattle.settling.specs.declared.run.SettleFault.TheVariants.{TooManySteps};
-ghost use Rattle.session_reports.specs.Figures.{IsTooLong};
+ghost use Rattle.settled_runs.specs.Runs.{IsTooLong};
 ghost use Rattle.session_reports.specs.Reports.{run_text, runs_text, IsReportOfRun, IsReportOfRuns};
 
 use crate::figures::figures_of_session;
 use bench_types::{Header, Step};
-use run_reports::{Figure, run_json, run_table, runs_json, runs_table};
+use report_figures::{Figure, run_json, run_table, runs_json, runs_table};
 use settling::SettleFault;
 use smp_kernel::Meter;
 use std::alloc::{AllocError, Global};

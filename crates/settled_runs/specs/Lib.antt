@@ -1,3 +1,4 @@
 pub mod Settled
 pub mod SettleLaws
 pub mod Work
+pub mod Runs

@@ -1,9 +1,9 @@
 use Rattle.std.proofs.Common.{List, take, sym, subst, ap, ◌∙◌}
 use Rattle.std.specs.Prelude.{All}
-use Rattle.run_advice.specs.declared.change.Change.{Change}
-use Rattle.run_advice.specs.declared.judge.Judge.{Judge}
-use Rattle.run_advice.specs.declared.rank.Ranked.{Ranked}
-use Rattle.run_advice.specs.Ranking.{IsRanking}
+use Rattle.ranked_changes.specs.declared.change.Change.{Change}
+use Rattle.ranked_changes.specs.declared.judge.Judge.{Judge}
+use Rattle.ranked_changes.specs.declared.rank.Ranked.{Ranked}
+use Rattle.ranked_changes.specs.Ranking.{IsRanking}
 use Rattle.session_advice.specs.Advice.{IsJudged}
 use Rattle.session_advice.specs.Basis.{basis_of, Basis}
 use Rattle.session_advice.proofs.NumbersOfAdvice.{best_judged}

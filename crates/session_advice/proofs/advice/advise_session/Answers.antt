@@ -1,7 +1,7 @@
 use Rattle.std.proofs.Common.{◌≡◌, Some, sym, ap, ◌∙◌}
 use Rattle.std.specs.Prelude.{find}
 use Rattle.bench_types.specs.Session.{Session}
-use Rattle.run_reports.specs.Limits.{has_name}
+use Rattle.report_figures.specs.Limits.{has_name}
 use Rattle.session_advice.proofs.Found.{found_fits}
 use Rattle.session_advice.proofs.advice.advise_session.Goals as goal
 

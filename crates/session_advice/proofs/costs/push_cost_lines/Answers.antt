@@ -1,5 +1,5 @@
 use Rattle.std.proofs.Common.{string_bytes}
-use Rattle.run_reports.proofs.Ranges.{next_items}
+use Rattle.report_figures.proofs.Ranges.{next_items}
 use Rattle.session_advice.specs.Basis.{basis_of}
 use Rattle.session_advice.specs.Costs.{cost_line}
 use Rattle.session_advice.proofs.costs.push_cost_lines.Goals as goal

@@ -2,10 +2,10 @@ use Rattle.std.proofs.Common.{◌≡◌, List, sym, subst, ap₂, ◌∙◌}
 use Rattle.bench_types.specs.declared.header.Header.{Header}
 use Rattle.bench_types.specs.declared.step.Step.{Step}
 use Rattle.bench_types.specs.Session.{Session}
-use Rattle.run_advice.specs.declared.judge.Verdict.{Verdict}
-use Rattle.run_advice.specs.Changed.{changed}
-use Rattle.run_advice.specs.Verdicts.{IsVerdict}
-use Rattle.session_reports.specs.Figures.{IsTooLong}
+use Rattle.ranked_changes.specs.declared.judge.Verdict.{Verdict}
+use Rattle.ranked_changes.specs.Changed.{changed}
+use Rattle.ranked_changes.specs.Verdicts.{IsVerdict}
+use Rattle.settled_runs.specs.Runs.{IsTooLong}
 use Rattle.session_advice.specs.Basis.{basis_of, judge_of, Basis}
 use Rattle.session_advice.proofs.NumbersOfAdvice.{number_is_short}
 use Rattle.session_advice.proofs.costs.push_costs.Goals as goal

@@ -1,7 +1,7 @@
 use Rattle.std.proofs.Common.{◌<◌, length, string_bytes, arith}
-use Rattle.run_advice.specs.declared.judge.Verdict.TheVariants.{Number}
-use Rattle.run_advice.specs.declared.rank.Ranked.{Ranked}
-use Rattle.run_advice.specs.declared.rank.Size.TheVariants.{Priority}
+use Rattle.ranked_changes.specs.declared.judge.Verdict.TheVariants.{Number}
+use Rattle.ranked_changes.specs.declared.rank.Ranked.{Ranked}
+use Rattle.ranked_changes.specs.declared.rank.Size.TheVariants.{Priority}
 use Rattle.session_advice.specs.Basis.{basis_of}
 use Rattle.session_advice.proofs.Texts.{entry_more}
 use Rattle.session_advice.proofs.entries.push_entries.Goals as goal

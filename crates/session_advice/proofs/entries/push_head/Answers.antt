@@ -1,6 +1,6 @@
 use Rattle.std.proofs.Common.{◌≡◌, ℕ, List, ◌++◌, append_assoc, codes, decimal, string_bytes, subst, ap, ◌∙◌}
 use Rattle.std.specs.Prelude.{OnOk}
-use Rattle.run_reports.specs.Limits.{value_text}
+use Rattle.report_figures.specs.Limits.{value_text}
 use Rattle.session_advice.specs.Advice.{head_line}
 use Rattle.session_advice.proofs.entries.push_head.Goals as goal
 

@@ -1,7 +1,7 @@
 use Rattle.std.proofs.Common.{◌≡◌, ◌++◌, codes, string_bytes, sym, subst}
 use Rattle.std.specs.Prelude.{OnOk}
 use Rattle.bench_types.specs.declared.header.TaskArgs.{TaskArgs}
-use Rattle.run_advice.specs.declared.change.Change.{Change}
+use Rattle.ranked_changes.specs.declared.change.Change.{Change}
 use Rattle.session_advice.specs.Words.{change_words, task_words}
 use Rattle.session_advice.proofs.words.push_change.Goals as goal
 

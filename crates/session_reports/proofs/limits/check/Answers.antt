@@ -1,5 +1,5 @@
 use Rattle.std.proofs.Common.{◌≡◌, List, subst}
-use Rattle.run_reports.specs.declared.figures.Figure.{Figure}
+use Rattle.report_figures.specs.declared.figures.Figure.{Figure}
 use Rattle.session_reports.specs.Checks.{checked}
 use Rattle.session_reports.proofs.KeptLimits.{kept_check, unknown_check}
 use Rattle.session_reports.proofs.limits.check.Goals as goal

@@ -12,8 +12,8 @@ use Rattle.session_store.specs.Opening.{open_check}
 use Rattle.bench_types.specs.declared.edit.Edit.{Edit}
 use Rattle.bench_types.specs.Edit.{IsCheckedEdit}
 use Rattle.bench_types.specs.Session.{Session}
-use Rattle.edit_notes.specs.Notes.{edit_notes, refused_line}
-use Rattle.edit_notes.specs.Refused.{refused_edits, IsCounted}
+use Rattle.session_edits.specs.Notes.{edit_notes, refused_line}
+use Rattle.session_edits.specs.Refused.{refused_edits, IsCounted}
 use Rattle.session_text.specs.declared.bench.Bench.{Bench}
 use Rattle.session_text.specs.declared.detail.Detail.TheVariants.{None}
 use Rattle.session_text.specs.declared.fault.TextFault.{TextFault}

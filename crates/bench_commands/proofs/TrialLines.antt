@@ -9,7 +9,7 @@ use Rattle.bench_types.specs.declared.edit.EditFault.{EditFault}
 use Rattle.bench_types.specs.declared.header.Header.{Header}
 use Rattle.bench_model.specs.Meeting.{CheckpointedSession}
 use Rattle.bench_model.specs.Tally.{TaskTally}
-use Rattle.bench_reports.specs.Lines.{tally_lines}
+use Rattle.tallies.specs.Lines.{tally_lines}
 use Rattle.session_store.specs.declared.fault.StoreFault.{StoreFault}
 use Rattle.session_store.specs.declared.fault.StoreFault.TheVariants as fault
 use Rattle.session_store.specs.declared.outcome.Outcome.{Outcome}

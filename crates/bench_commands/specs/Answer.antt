@@ -13,10 +13,10 @@ use Rattle.bench_model.specs.Edits.{accepted, after_edits}
 use Rattle.bench_model.specs.Meeting.{CheckpointedSession, first_kept}
 use Rattle.bench_model.specs.Session.{outcome_at}
 use Rattle.bench_model.specs.Tally.{tallies}
-use Rattle.bench_reports.specs.Lines.{tally_lines}
+use Rattle.tallies.specs.Lines.{tally_lines}
 use Rattle.session_store.specs.Outcomes.{answer, answers}
 use Rattle.session_store.specs.Trials.{tallies_after}
-use Rattle.edit_notes.specs.Notes.{edit_notes, trial_notes}
+use Rattle.session_edits.specs.Notes.{edit_notes, trial_notes}
 use Rattle.session_text.specs.declared.bench.Bench.{Bench}
 use Rattle.session_text.specs.declared.fault.TextFault.{TextFault}
 use Rattle.session_text.specs.Bench.{bench_text}

@@ -3,17 +3,17 @@ ghost use Rattle.std.specs.Prelude.{◌≡◌, ◌++◌, Ok, IfOk, OnOk, string_
 ghost use Rattle.bench_types.specs.declared.edit.Edit.{Edit as Change};
 ghost use Rattle.bench_model.specs.Meeting.{CheckpointedSession};
 ghost use Rattle.session_store.specs.Trials.{IsTried};
-ghost use Rattle.bench_reports.specs.Lines.{tally_lines};
+ghost use Rattle.tallies.specs.Lines.{tally_lines};
 ghost use Rattle.bench_commands.specs.Answer.{trial_text, trials_text};
 ghost use Rattle.bench_commands.specs.Lines.{edit_line};
 ghost use Rattle.bench_commands.specs.TrialLaws.{IndexIsPrinted, PartsAreWhole};
 
 use crate::lines::push_edit_line;
-use bench_reports::Tallies;
 use bench_types::{Edit, Header};
 use session_store::{Outcome, Store, StoreFault};
 use std::alloc::{AllocError, Global};
 use std::thread::Threads;
+use tallies::Tallies;
 use what_if::try_all;
 
 // The line of an edit that is accepted, and those of the tasks.

@@ -17,45 +17,8 @@ use Rattle.bench_types.specs.Session.{Session}
 use Rattle.bench_types.specs.Step.{◌>>◌}
 use Rattle.bench_model.specs.Edits.{accepted, after_edit, after_edits, edited, has_place, has_room}
 use Rattle.run_comparisons.specs.declared.rows.Row.{Row}
-use Rattle.run_comparisons.specs.Origins.{HasPlaceAmong, Origin, origins_after, origins_made, origins_of}
+use Rattle.session_edits.specs.Origins.{Origin, origins_made, origins_of}
 use Rattle.run_comparisons.specs.Rows.{next_after, rows_at, rows_from}
-
--- an accepted edit has its place
-place_there : (session : Session) (edit : Edit) → accepted session edit ≡ Ok tt → has_place session.steps edit ≡ true
-place_there session edit accepts = at (edit_check session.header edit) (has_place session.steps edit) (has_room session.steps edit) refl accepts
-  where
-    at : (fits : Result (Unit {0}) Fault) (there room : Bool) → has_place session.steps edit ≡ there
-        → (result_map_both (λ _. tt) Bench fits >> (if there then Ok tt else Err NoPlace) >> (if room then Ok tt else Err TooLong)) ≡ Ok tt → has_place
-        session.steps edit ≡ true
-    at fits true room is passes = is
-    at (Err why) false room is passes = absurd (cc passes)
-    at (Ok done) false room is passes = absurd (cc passes)
-
-pub among : (session : Session) (edit : Edit) (count : ℕ) → accepted session edit ≡ Ok tt → count ≡ length session.steps → HasPlaceAmong count edit
-among session (Insert at step) count accepts many = let there = place_there session (Insert at step) accepts in grind (arith, nat_tests, there, many)
-among session (Remove at) count accepts many = let there = place_there session (Remove at) accepts in grind (arith, nat_tests, there, many)
-among session (Replace at step) count accepts many = tt
-among session (ChangeTask task priority mask) count accepts many = tt
-
--- there are as many origins as steps
-pub still_many : (session : Session) (edit : Edit) (origins : List Origin) → length origins ≡ length session.steps → HasPlaceAmong (length origins) edit →
-    length (origins_after edit origins) ≡ length (edited edit session).steps
-still_many session (Insert at step) origins many there =
-    length-insert origins at _ there ∙ ap (λ n. n + 1) many ∙ sym (length-insert session.steps at step (omega (arith, many, there)))
-still_many session (Remove at) origins many there =
-    let one = length-remove origins at there in
-    let other = length-remove session.steps at (omega (arith, many, there)) in
-    omega (arith, one, other, many)
-still_many session (Replace at step) origins many there = many ∙ sym (length-set session.steps at step)
-still_many session (ChangeTask task priority mask) origins many there = many
-
-pub made_is : (session : Session) (edit : Edit) (origins : List Origin) → accepted session edit ≡ Ok tt → origins_made session edit origins ≡ origins_after edit
-    origins
-made_is session edit origins accepts = ap (λ (check : Result (Unit {0}) EditFault). if is_ok check then origins_after edit origins else origins) accepts
-
-pub made_not : (session : Session) (edit : Edit) (origins : List Origin) (why : EditFault) → accepted session edit ≡ Err why → origins_made session edit origins
-    ≡ origins
-made_not session edit origins why refuses = ap (λ (check : Result (Unit {0}) EditFault). if is_ok check then origins_after edit origins else origins) refuses
 
 pub session_is : (session : Session) (edit : Edit) → accepted session edit ≡ Ok tt → after_edit session edit ≡ edited edit session
 session_is session edit accepts = ap (λ (check : Result (Unit {0}) EditFault). if is_ok check then edited edit session else session) accepts

@@ -19,7 +19,7 @@ use Rattle.run_comparisons.specs.declared.rows.Row.TheVariants.{Both, Removed, I
 use Rattle.run_comparisons.specs.Alike.{are_alike}
 use Rattle.run_comparisons.specs.RowLaws.{place_after, place_before}
 use Rattle.run_comparisons.specs.Rows.{rows_of}
-use Rattle.run_comparisons.specs.Settled.{SettledRun}
+use Rattle.settled_runs.specs.Runs.{SettledRun}
 use Rattle.run_comparisons.specs.SettledRowLaws.{EachSettledAfter, EachSettledBefore, SharedStandTogether, StandsAs}
 use Rattle.run_comparisons.specs.Shared.{is_same_event, places_in, shared_at, shared_events, AreEventsOf}
 use Rattle.run_comparisons.specs.SideBySide.{first_places, found_after, is_nearer, next_row, past, row_of, row_of_those, AreAligned, AreSideBySide, IsWithin}

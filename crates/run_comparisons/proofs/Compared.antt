@@ -6,7 +6,7 @@ use Rattle.bench_types.specs.declared.step.Step.{Step}
 use Rattle.bench_types.specs.Limits.{max_steps}
 use Rattle.bench_types.specs.Session.{Session}
 use Rattle.bench_model.specs.Edits.{after_edits}
-use Rattle.edit_notes.specs.Refused.{refused_places}
+use Rattle.session_edits.specs.Refused.{refused_places}
 use Rattle.settled_runs.specs.declared.waiting_call.WaitingCall.{WaitingCall}
 use Rattle.settled_runs.specs.Settled.{IsSettled}
 use Rattle.settled_runs.specs.SettleLaws.{comes_from_outside}
@@ -15,7 +15,8 @@ use Rattle.settling.specs.declared.run.SettleFault.{SettleFault}
 use Rattle.run_comparisons.specs.declared.rows.Row.{Row}
 use Rattle.run_comparisons.specs.Rows.{rows_of}
 use Rattle.run_comparisons.specs.declared.settled.SettledPair.{SettledPair}
-use Rattle.run_comparisons.specs.Settled.{settled_text, with_steps, IsComparisonTooLong, IsSettledComparison, IsSettledPair, SettledRun}
+use Rattle.run_comparisons.specs.Settled.{settled_text, with_steps, IsComparisonTooLong, IsSettledComparison, IsSettledPair}
+use Rattle.settled_runs.specs.Runs.{SettledRun}
 use Rattle.run_comparisons.specs.Shared.{shared_among, shared_events, AreEventsOf}
 use Rattle.run_comparisons.specs.SideBySide.{first_places, AreSideBySide}
 

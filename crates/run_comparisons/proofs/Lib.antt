@@ -11,6 +11,7 @@ mod Moved
 mod NoDifference
 pub mod OneText
 mod Outcomes
+mod Places
 mod Ranges
 pub mod RowsCounted
 mod RefusalsFound

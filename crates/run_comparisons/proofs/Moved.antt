@@ -14,7 +14,7 @@ use Rattle.bench_types.specs.declared.step.Step.{Step}
 use Rattle.bench_types.specs.Session.{Session}
 use Rattle.bench_model.specs.Edits.{accepted, after_edit, after_edits, edited}
 use Rattle.run_comparisons.specs.declared.rows.Row.TheVariants.{Both, Removed, Inserted}
-use Rattle.run_comparisons.specs.Origins.{Origin, all_kept, origins_after, origins_made, origins_of}
+use Rattle.session_edits.specs.Origins.{Origin, all_kept, origins_after, origins_made, origins_of}
 use Rattle.run_comparisons.specs.Rows.{removed, rows_from, rows_of}
 use Rattle.run_comparisons.specs.RowLaws.{moved, moved_by, moved_to, IsReplaced, MovedStandTogether, RowsAreOfOne}
 

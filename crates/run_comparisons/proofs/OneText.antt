@@ -4,7 +4,7 @@ use Rattle.bench_types.specs.declared.step.Step.{Step}
 use Rattle.bench_model.specs.Edits.{after_edits}
 use Rattle.settled_runs.specs.declared.waiting_call.WaitingCall.{WaitingCall}
 use Rattle.settled_runs.proofs.Settlings.{settled_run_is_one}
-use Rattle.edit_notes.specs.Refused.{refused_places}
+use Rattle.session_edits.specs.Refused.{refused_places}
 use Rattle.run_comparisons.specs.declared.place_pair.PlacePair.{PlacePair}
 use Rattle.run_comparisons.specs.declared.rows.Row.{Row}
 use Rattle.run_comparisons.specs.Settled.{settled_text, with_steps}

@@ -9,7 +9,8 @@ use Rattle.bench_types.specs.declared.step.Step.{Step}
 use Rattle.bench_types.specs.Limits.{max_steps}
 use Rattle.bench_types.specs.Session.{Session, IsSession}
 use Rattle.bench_model.specs.Edits.{after_edits}
-use Rattle.edit_notes.specs.Refused.{places_of, refused_edits, HasRefusedEdit, RefusedEdit}
+use Rattle.session_edits.specs.declared.refused.RefusedEdit.{RefusedEdit}
+use Rattle.session_edits.specs.Refused.{places_of, refused_edits, HasRefusedEdit}
 use Rattle.run_views.specs.RefusedSteps.{HasRefusedStep}
 use Rattle.settled_runs.specs.declared.waiting_call.WaitingCall.{WaitingCall}
 use Rattle.settled_runs.specs.Settled.{IsSettled}

@@ -10,10 +10,11 @@ use Rattle.bench_types.specs.declared.edit.EditFault.{EditFault}
 use Rattle.bench_types.specs.Session.{Session}
 use Rattle.bench_model.specs.Edits.{accepted, after_edit, after_edits}
 use Rattle.run_comparisons.specs.declared.rows.Row.TheVariants.{Both, Removed}
-use Rattle.run_comparisons.specs.Origins.{Origin, all_kept, origins_after, origins_made, origins_of}
+use Rattle.session_edits.specs.Origins.{Origin, all_kept, origins_after, origins_made, origins_of}
 use Rattle.run_comparisons.specs.Rows.{removed, rows_from}
 use Rattle.run_comparisons.specs.RowLaws.{EachAfter, EachBefore, place_after, place_before}
-use Rattle.run_comparisons.proofs.Aligned.{among, made_is, made_not, session_is, session_not, still_many}
+use Rattle.session_edits.proofs.Moving.{among, made_is, made_not, still_many}
+use Rattle.run_comparisons.proofs.Aligned.{session_is, session_not}
 
 -- ---- after the edits
 

@@ -4,7 +4,7 @@ use Rattle.bench_types.specs.declared.edit.Edit.{Edit}
 use Rattle.bench_types.specs.Session.{Session}
 use Rattle.bench_model.specs.Edits.{after_edits}
 use Rattle.bench_model.specs.Tally.{tallies}
-use Rattle.edit_notes.specs.Refused.{refused_places}
+use Rattle.session_edits.specs.Refused.{refused_places}
 use Rattle.run_comparisons.specs.declared.rows.Row.{Row}
 use Rattle.run_comparisons.specs.declared.rows.Row.TheVariants.{Both, Removed, Inserted}
 use Rattle.run_comparisons.specs.Gains.{gains_text}

@@ -2,7 +2,6 @@ pub mod Alike
 pub mod Columns
 pub mod Comparison
 pub mod Gains
-pub mod Origins
 pub mod Refusals
 pub mod RowLaws
 pub mod RowWords

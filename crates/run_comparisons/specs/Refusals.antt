@@ -4,9 +4,9 @@ use Rattle.bench_types.specs.declared.edit.Edit.{Edit}
 use Rattle.bench_types.specs.Limits.{max_steps}
 use Rattle.bench_types.specs.Session.{Session}
 use Rattle.bench_model.specs.Edits.{after_edits}
-use Rattle.edit_notes.specs.Refused.{HasRefusedEdit}
+use Rattle.session_edits.specs.Refused.{HasRefusedEdit}
 use Rattle.run_views.specs.RefusedSteps.{HasRefusedStep}
-use Rattle.run_comparisons.specs.Settled.{SettledRun}
+use Rattle.settled_runs.specs.Runs.{SettledRun}
 
 -- the kernel refuses a step of the settled run, which has no more steps than a session may have
 abbrev pub HasRefusedSettledStep : Session → Type 0

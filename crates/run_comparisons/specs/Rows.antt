@@ -5,7 +5,7 @@ use Rattle.bench_types.specs.declared.edit.Edit.{Edit}
 use Rattle.bench_types.specs.Session.{Session}
 use Rattle.run_comparisons.specs.declared.rows.Row.{Row}
 use Rattle.run_comparisons.specs.declared.rows.Row.TheVariants.{Both, Removed, Inserted}
-use Rattle.run_comparisons.specs.Origins.{Origin, all_kept, origins_of}
+use Rattle.session_edits.specs.Origins.{Origin, all_kept, origins_of}
 
 -- the steps from one place up to another, which are removed
 abbrev pub removed : ℕ → ℕ → List Row

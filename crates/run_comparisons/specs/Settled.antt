@@ -6,20 +6,15 @@ use Rattle.bench_types.specs.declared.step.Step.{Step}
 use Rattle.bench_types.specs.Limits.{max_steps}
 use Rattle.bench_types.specs.Session.{Session}
 use Rattle.bench_model.specs.Edits.{after_edits}
-use Rattle.edit_notes.specs.Refused.{refused_places}
+use Rattle.session_edits.specs.Refused.{refused_places}
 use Rattle.settled_runs.specs.declared.waiting_call.WaitingCall.{WaitingCall}
+use Rattle.settled_runs.specs.Runs.{IsSettledTooLong, SettledRun}
 use Rattle.settled_runs.specs.Settled.{IsSettled}
 use Rattle.settling.specs.Notes.{left_text}
 use Rattle.run_comparisons.specs.declared.rows.Row.{Row}
 use Rattle.run_comparisons.specs.declared.settled.SettledPair.{SettledPair}
 use Rattle.run_comparisons.specs.Comparison.{fared_text, rows_text}
 use Rattle.run_comparisons.specs.SideBySide.{AreSettledRows}
-
--- a settled run of the session, and the calls that were not made
-pub record SettledRun (session : Session) : Type 0 where
-  pub run : List Step
-  pub left : List WaitingCall
-  pub settled : IsSettled session.header session.steps run left
 
 -- the session with these steps in the place of its own
 abbrev pub with_steps : Session → List Step → Session
@@ -67,10 +62,6 @@ IsSettledComparison session edits text =
     × (text
     ≡ settled_text (with_steps session before.run) (with_steps edited after.run)
     (refused_places session edits) rows before.left after.left)
-
--- every settled run of the session has more steps than a session may have
-abbrev pub IsSettledTooLong : Session → Type 0
-IsSettledTooLong session = (settled : SettledRun session) → max_steps < length settled.run
 
 -- so it is with the session or with the edited one
 abbrev pub IsComparisonTooLong : Session → List Edit → Type 0

@@ -11,7 +11,8 @@ use Rattle.run_comparisons.specs.declared.rows.Row.TheVariants.{Both, Removed, I
 use Rattle.run_comparisons.specs.Alike.{MayShareRow}
 use Rattle.run_comparisons.specs.RowLaws.{place_after, place_before}
 use Rattle.run_comparisons.specs.Rows.{rows_of}
-use Rattle.run_comparisons.specs.Settled.{IsSettledComparison, SettledRun}
+use Rattle.run_comparisons.specs.Settled.{IsSettledComparison}
+use Rattle.settled_runs.specs.Runs.{SettledRun}
 use Rattle.run_comparisons.specs.Shared.{events_before}
 use Rattle.run_comparisons.specs.SideBySide.{AreSettledRows}
 

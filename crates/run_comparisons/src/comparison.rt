@@ -1,17 +1,17 @@
 //! Both runs, row by row, and how the tasks fared.
 ghost use Rattle.std.specs.Prelude.{◌≡◌, ◌++◌, IfOk, OnOk, filter, flat_map, string_bytes};
 ghost use Rattle.bench_model.specs.Edits.{after_edits};
-ghost use Rattle.edit_notes.specs.Refused.{refused_places};
+ghost use Rattle.session_edits.specs.Refused.{refused_places};
 ghost use Rattle.run_comparisons.specs.Comparison.{compare_text, differences_text, ends_text, fared_text, first_text, further_text, last_text, no_difference_text, not_made_line, not_made_text, places_text, rows_text};
 ghost use Rattle.run_comparisons.specs.RowWords.{differs, row_line};
 ghost use Rattle.run_comparisons.specs.Rows.{rows_of};
 
 use crate::gains::push_gains;
 use crate::making::make_edits;
-use crate::origins::all_kept;
 use crate::row_words::{push_place, push_row};
 use crate::rows::{Row, push_rows};
 use bench_types::Edit;
+use session_edits::all_kept;
 use session_store::Store;
 use smp_kernel::Meter;
 use std::alloc::{AllocError, Global};

@@ -3,9 +3,9 @@ ghost use Rattle.std.specs.Prelude.{◌≡◌, ◌++◌, IfOk, OnOk, string_byte
 ghost use Rattle.bench_model.specs.Tallied.{run_at, tally_at};
 ghost use Rattle.run_comparisons.specs.Gains.{counts_gained, difference_text, gain_text, gains_line, gains_of, gains_text, line_with, run_gain, run_gained};
 
-use bench_reports::Tallies;
 use bench_types::{Header, MAX_CORES, MAX_TASKS, Tally};
 use std::alloc::{AllocError, Global};
+use tallies::Tallies;
 
 // How much more or less there is.
 fn push_difference(text: &mut String, before: u32, after: u32) -> Result<(), AllocError>

@@ -7,7 +7,6 @@ mod comparison;
 mod gains;
 pub mod laws;
 mod making;
-mod origins;
 mod place_pair;
 mod printed;
 mod refusals;

@@ -1,11 +1,11 @@
 //! Edits that are made, with the origins of the steps.
 ghost use Rattle.std.specs.Prelude.{◌≡◌, ◌≤◌, ◌++◌, IfOk, OnOk, length};
 ghost use Rattle.bench_model.specs.Edits.{after_edit, after_edits};
-ghost use Rattle.edit_notes.specs.Refused.{places_of, refused_at, refused_places};
-ghost use Rattle.run_comparisons.specs.Origins.{origins_made, origins_of};
+ghost use Rattle.session_edits.specs.Refused.{places_of, refused_at, refused_places};
+ghost use Rattle.session_edits.specs.Origins.{origins_made, origins_of};
 
-use crate::origins::edit_origins;
 use bench_types::Edit;
+use session_edits::edit_origins;
 use session_store::{Store, StoreFault};
 use smp_kernel::Meter;
 use std::alloc::{AllocError, Global};

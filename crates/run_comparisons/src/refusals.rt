@@ -2,15 +2,15 @@
 ghost use Rattle.std.specs.Prelude.{◌≡◌, ◌≢◌, ◌↔◌, [], IfOk, IsTrue, OnOk};
 ghost use Rattle.bench_types.specs.Session.{IsSession};
 ghost use Rattle.bench_model.specs.Edits.{after_edits};
-ghost use Rattle.edit_notes.specs.Refused.{HasRefusedEdit};
+ghost use Rattle.session_edits.specs.Refused.{HasRefusedEdit};
 ghost use Rattle.run_views.specs.RefusedSteps.{HasRefusedStep};
 ghost use Rattle.run_comparisons.specs.Refusals.{HasRefusal, HasRefusedRunStep, HasRefusedSettledStep};
 
 use crate::making::make_edits;
-use crate::origins::all_kept;
 use crate::steps::steps_of;
 use bench_types::{Edit, Header, Step};
 use run_views::has_refused_step;
+use session_edits::all_kept;
 use session_store::Store;
 use settling::{SettleFault, settle};
 use smp_kernel::Meter;

@@ -3,7 +3,8 @@ ghost use Rattle.std.specs.Prelude.{◌≡◌, ◌≤◌, ◌++◌, IfOk, OnOk, 
 ghost use Rattle.bench_types.specs.Limits.{max_steps};
 ghost use Rattle.bench_model.specs.Edits.{after_edits};
 ghost use Rattle.settled_runs.specs.Settled.{IsSettled};
-ghost use Rattle.run_comparisons.specs.Settled.{left_line, left_lines, settled_text, with_steps, IsComparisonTooLong, IsSettledComparison, IsSettledPair, IsSettledTooLong};
+ghost use Rattle.run_comparisons.specs.Settled.{left_line, left_lines, settled_text, with_steps, IsComparisonTooLong, IsSettledComparison, IsSettledPair};
+ghost use Rattle.settled_runs.specs.Runs.{IsSettledTooLong};
 ghost use Rattle.run_comparisons.specs.Shared.{shared_among, AreEventsOf};
 ghost use Rattle.run_comparisons.specs.SideBySide.{first_places, AreSideBySide};
 

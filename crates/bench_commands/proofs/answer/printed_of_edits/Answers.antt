@@ -3,8 +3,8 @@ use Rattle.bench_types.specs.declared.step.Step.{Step}
 use Rattle.bench_types.specs.declared.edit.Edit.{Edit}
 use Rattle.bench_types.specs.Session.{Session}
 use Rattle.bench_model.specs.Meeting.{first_kept}
-use Rattle.edit_notes.specs.Notes.{edit_notes}
-use Rattle.edit_notes.specs.Refused.{IsCounted}
+use Rattle.session_edits.specs.Notes.{edit_notes}
+use Rattle.session_edits.specs.Refused.{IsCounted}
 use Rattle.session_store.specs.Opening.{open_check}
 use Rattle.bench_commands.specs.declared.execution.Mode.TheVariants.{Replay}
 use Rattle.bench_commands.specs.Answer.{bench_notes, bench_output, edited_text}

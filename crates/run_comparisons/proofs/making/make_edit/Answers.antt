@@ -1,8 +1,9 @@
 use Rattle.std.proofs.Common.{rules, ◌++◌, ℕ, List, Option, length, ap, sym, ◌∙◌}
 use Rattle.std.proofs.lemmas.List.{append-nil}
 use Rattle.bench_model.specs.Meeting.{CheckpointedSession}
-use Rattle.edit_notes.proofs.Places.{none_at, one_at}
-use Rattle.run_comparisons.proofs.Aligned.{accepted_printed, among, made_is, made_not, session_is, session_not, still_many}
+use Rattle.run_comparisons.proofs.Places.{none_at, one_at}
+use Rattle.session_edits.proofs.Moving.{among, made_is, made_not, still_many}
+use Rattle.run_comparisons.proofs.Aligned.{accepted_printed, session_is, session_not}
 use Rattle.run_comparisons.proofs.Outcomes.{on_ok, on_ok_then}
 use Rattle.run_comparisons.proofs.making.make_edit.Goals as goal
 

@@ -1,6 +1,6 @@
 use Rattle.std.proofs.Common.{◌++◌, List, ℕ, ap, refl}
-use Rattle.edit_notes.specs.Refused.{refused_places}
-use Rattle.edit_notes.proofs.Places.{places_end, places_on}
+use Rattle.session_edits.specs.Refused.{refused_places}
+use Rattle.run_comparisons.proofs.Places.{places_end, places_on}
 use Rattle.run_comparisons.proofs.Aligned.{way_on}
 use Rattle.run_comparisons.proofs.making.make_edits.Goals as goal
 

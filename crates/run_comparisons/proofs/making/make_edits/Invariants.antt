@@ -1,5 +1,5 @@
 use Rattle.std.proofs.Common.{◌≡◌, ◌++◌, drop}
-use Rattle.edit_notes.specs.Refused.{places_of, refused_from, refused_places}
+use Rattle.session_edits.specs.Refused.{places_of, refused_from, refused_places}
 use Rattle.run_comparisons.proofs.Aligned.{IsOnTheWay}
 use Rattle.run_comparisons.proofs.making.make_edits.Given as goal
 

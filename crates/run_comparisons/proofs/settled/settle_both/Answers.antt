@@ -1,9 +1,9 @@
 use Rattle.std.proofs.Common.{ap, subst, ◌∙◌, inr}
 use Rattle.bench_types.specs.Session.{Session}
 use Rattle.bench_model.specs.Edits.{after_edits}
-use Rattle.edit_notes.specs.Refused.{refused_places}
+use Rattle.session_edits.specs.Refused.{refused_places}
 use Rattle.run_comparisons.specs.Rows.{rows_of}
-use Rattle.run_comparisons.specs.Settled.{IsSettledTooLong}
+use Rattle.settled_runs.specs.Runs.{IsSettledTooLong}
 use Rattle.run_comparisons.proofs.Compared.{events_kept, fault_printed, pair_settled}
 use Rattle.run_comparisons.proofs.settled.settle_both.Goals as goal
 

@@ -1,4 +1,0 @@
-mod RefusedLaws
-mod Printed
-pub mod Accepting
-pub mod Places

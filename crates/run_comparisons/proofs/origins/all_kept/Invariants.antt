@@ -1,6 +1,0 @@
-use Rattle.std.proofs.Common.{◌≡◌}
-use Rattle.run_comparisons.specs.Origins.{all_kept}
-use Rattle.run_comparisons.proofs.origins.all_kept.Given as goal
-
-abbrev pub invariant-loop-place : goal.invariant-loop-place
-invariant-loop-place l = l.origins.items ≡ all_kept l.place

@@ -1,0 +1,5 @@
+pub mod Accepting
+mod Listed
+pub mod Moving
+mod RefusedLaws
+mod Texts

@@ -1,0 +1,4 @@
+pub mod Edited
+pub mod Notes
+pub mod Origins
+pub mod Refused

@@ -31,6 +31,4 @@ mod sizes;
 #[cfg(test)]
 mod trials;
 #[cfg(test)]
-mod view;
-#[cfg(test)]
 mod words;

@@ -2,7 +2,6 @@
 //! numbers, over a flat table.
 ghost use Rattle.session_store.specs.Sums.{AreSumsOf};
 
-use bench_reports::Tallies;
 use bench_samples::three_tasks;
 use bench_types::{Call, Edit, EditFault, Fault, Header, Step};
 use session_store::{Outcome, Store, StoreFault, Sums};
@@ -11,6 +10,7 @@ use std::alloc::{AllocError, Global};
 use std::process::Abort;
 use std::test::Fail;
 use std::thread::Threads;
+use tallies::Tallies;
 use what_if::try_all;
 
 const TICK: Step = Step::Tick;

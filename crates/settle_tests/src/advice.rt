@@ -5,7 +5,7 @@ ghost use Rattle.bench_types.specs.Header.{header_check};
 use crate::settled::{TICK, call, need_checked, switch};
 use bench_samples::{PLAIN, crowd, three_tasks};
 use bench_types::{Call, Header};
-use run_advice::{Advice, Change, Family, Judge, Measure, Progress, Verdict, advise};
+use ranked_changes::{Advice, Change, Family, Judge, Measure, Progress, Verdict, advise};
 use run_numbers::{Condition, Subject};
 use std::process::Abort;
 use std::test::Fail;

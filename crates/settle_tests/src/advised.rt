@@ -2,7 +2,7 @@
 use crate::settled::{TICK, call, need_checked};
 use bench_samples::three_tasks;
 use bench_types::Call;
-use run_advice::{Family, Silent};
+use ranked_changes::{Family, Silent};
 use session_advice::{AdviceStatus, Advised, Question, advise_session};
 use smp_kernel::Meter;
 use std::process::Abort;

@@ -5,7 +5,7 @@ ghost use Rattle.bench_types.specs.Header.{header_check};
 use crate::settled::{TICK, call, need_checked, switch};
 use bench_samples::three_tasks;
 use bench_types::{Call, Header, Step};
-use run_reports::{Bound, figure_called, figures_of, subjects_of};
+use report_figures::{Bound, figure_called, figures_of, subjects_of};
 use session_reports::{CheckStatus, Checked, Wanted, check, figures_of_session};
 use smp_kernel::Meter;
 use std::process::Abort;

@@ -5,7 +5,7 @@ ghost use Rattle.bench_types.specs.Header.{header_check};
 use crate::settled::{TICK, call, need_checked, switch};
 use bench_samples::{PLAIN, crowd};
 use bench_types::{Call, Header};
-use run_advice::{Family, Judge, Measure, Progress, advise};
+use ranked_changes::{Family, Judge, Measure, Progress, advise};
 use run_numbers::{Condition, Subject};
 use std::process::Abort;
 use std::test::Fail;

@@ -1,10 +1,12 @@
-//! Changes that are ranked where the settled runs of some have too many steps. Their order was
-//! worked out by hand.
+//! Changes that are ranked where the settled runs of some have too many steps, and advice of them.
+//! Their order and the text were worked out by hand.
 use crate::settled::{TICK, need_checked};
 use bench_samples::{PLAIN, header_of};
 use bench_types::{Config, Header, MAX_STEPS, Step};
-use run_advice::{Advice, Family, Judge, Measure, Silent, Verdict, advise};
+use ranked_changes::{Advice, Family, Judge, Measure, Silent, Verdict, advise};
 use run_numbers::{Condition, Subject};
+use session_advice::{AdviceStatus, Advised, Question, advise_session};
+use smp_kernel::Meter;
 use std::alloc::Global;
 use std::process::Abort;
 use std::test::Fail;
@@ -25,6 +27,12 @@ fn slicing(alloc: Global) -> Result<Header, Fail> {
     Ok(header)
 }
 
+const PRIORITIES: Family = Family {
+    priority: true,
+    mask: false,
+    order: false,
+};
+
 /// Changes of priorities, by how many ticks C runs.
 fn advice<R: Threads + Abort + Sync>(
     rt: &R,
@@ -42,11 +50,6 @@ fn advice<R: Threads + Abort + Sync>(
         subject: Subject::Ticks(Condition::Running { task: 4 }),
         measure: Measure::Total,
     };
-    let family = Family {
-        priority: true,
-        mask: false,
-        order: false,
-    };
     Ok(advise(
         rt,
         host,
@@ -55,7 +58,7 @@ fn advice<R: Threads + Abort + Sync>(
         header,
         steps,
         judge,
-        family,
+        PRIORITIES,
     )?)
 }
 
@@ -91,5 +94,58 @@ fn changes_that_make_the_run_too_long_come_last(rt: HostRuntime) -> Result<(), F
     let steps = vec![in rt.alloc(); TICK; TICKS]?;
     let advice = advice(&rt, &rt, &header, steps.as_slice())?;
     check_ranked(&rt, &advice);
+    Ok(())
+}
+
+/// Where A or B has priority 3 the tasks fare as before. Where C has it, it takes the core of B,
+/// which then is ready at each tick. Of a run that is too long no costs are told.
+const TOLD: &str = "C.run is 0; 9 changes tried
+1. priority of A 3, was 2: 0 (0)
+2. priority of B 3, was 1: 0 (0)
+3. priority of C 3, was 0: 500001 (+500001)
+   B.run 0 (-500001)
+   B.ready 500001 (+500001)
+4. priority of A 1, was 2: more than 1000000 steps
+5. priority of B 0, was 1: more than 1000000 steps
+6. priority of B 2, was 1: more than 1000000 steps
+7. priority of C 1, was 0: more than 1000000 steps
+8. priority of A 0, was 2: more than 1000000 steps
+9. priority of C 2, was 0: more than 1000000 steps
+";
+
+fn advised<R: Threads + Abort + Sync>(
+    rt: &R,
+    host: &HostRuntime,
+    header: &Header,
+    steps: &[Step],
+) -> Result<Advised, Fail> {
+    header.check()?;
+    need_checked(rt, header, steps);
+    assert!(rt; steps.len() <= MAX_STEPS as usize);
+    let question = Question {
+        name: String::from_str(host.alloc(), "C.run")?,
+        settled: true,
+        family: PRIORITIES,
+        best: 9,
+    };
+    Ok(advise_session(
+        rt,
+        host,
+        host.alloc(),
+        &mut Meter::new(host),
+        &mut Silent,
+        header,
+        steps,
+        &question,
+    )?)
+}
+
+#[test]
+fn runs_that_are_too_long_are_told_as_such(rt: HostRuntime) -> Result<(), Fail> {
+    let header = slicing(rt.alloc())?;
+    let steps = vec![in rt.alloc(); TICK; TICKS]?;
+    let printed = advised(&rt, &rt, &header, steps.as_slice())?;
+    assert_eq!(&rt; printed.status, AdviceStatus::Given);
+    assert_eq!(&rt; printed.text.as_str(), TOLD);
     Ok(())
 }

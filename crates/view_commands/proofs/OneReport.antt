@@ -3,8 +3,9 @@ use Rattle.std.proofs.Common.{◌≡◌, ◌⊎◌, ℕ, List, [], ◌∷◌, Bo
 use Rattle.bench_types.specs.declared.edit.Edit.{Edit}
 use Rattle.bench_types.specs.Session.{Session}
 use Rattle.bench_model.specs.Edits.{after_edits}
-use Rattle.run_reports.specs.declared.figures.Figure.{Figure}
-use Rattle.session_reports.specs.Figures.{AreFigures, IsTooLong}
+use Rattle.report_figures.specs.declared.figures.Figure.{Figure}
+use Rattle.session_reports.specs.Figures.{AreFigures}
+use Rattle.settled_runs.specs.Runs.{IsTooLong}
 use Rattle.session_reports.specs.Reports.{run_text, runs_text, IsReportOfRuns}
 use Rattle.session_reports.proofs.OneList.{figures_are_one}
 use Rattle.view_commands.specs.declared.request.ReportView.{ReportView}

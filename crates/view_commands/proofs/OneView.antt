@@ -7,7 +7,7 @@ use Rattle.bench_types.specs.declared.step.Step.{Step}
 use Rattle.bench_types.specs.Limits.{max_input, max_steps}
 use Rattle.bench_types.specs.Session.{Session}
 use Rattle.bench_model.specs.Edits.{after_edits}
-use Rattle.edit_notes.specs.Notes.{edit_notes}
+use Rattle.session_edits.specs.Notes.{edit_notes}
 use Rattle.session_text.specs.declared.bench.Bench.{Bench}
 use Rattle.session_text.specs.declared.detail.Detail.{Detail}
 use Rattle.session_text.specs.declared.fault.TextFault.{TextFault}

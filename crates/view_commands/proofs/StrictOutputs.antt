@@ -6,7 +6,7 @@ use Rattle.bench_types.specs.declared.header.Header.{Header}
 use Rattle.bench_types.specs.Edit.{IsCheckedEdit}
 use Rattle.bench_types.specs.Session.{Session}
 use Rattle.bench_model.specs.Meeting.{CheckpointedSession}
-use Rattle.edit_notes.specs.Notes.{edit_notes}
+use Rattle.session_edits.specs.Notes.{edit_notes}
 use Rattle.run_comparisons.specs.Refusals.{HasRefusal}
 use Rattle.view_commands.specs.declared.request.Job.{Job}
 use Rattle.view_commands.specs.Commands.{IsDone, IsPrinted}

@@ -5,7 +5,7 @@ use Rattle.std.specs.List.{list_all, list_any}
 use Rattle.std.proofs.lemmas.List.Folds.{flat_map-map, list_all-map}
 use Rattle.std.proofs.lemmas.List.{length-map}
 use Rattle.clap.specs.Words.{Text}
-use Rattle.run_reports.specs.declared.limits.Bound.TheVariants.{AtMost, AtLeast}
+use Rattle.report_figures.specs.declared.limits.Bound.TheVariants.{AtMost, AtLeast}
 use Rattle.session_reports.specs.Asked.{Asked}
 use Rattle.view_commands.specs.Families.{has_word, is_family}
 use Rattle.view_commands.specs.Options.{are_limits, is_limit, limits_from}

@@ -7,7 +7,7 @@ use Rattle.session_advice.specs.declared.question.AdviceStatus.{AdviceStatus}
 use Rattle.session_advice.specs.declared.question.AdviceStatus.TheVariants as advice
 use Rattle.session_advice.specs.Advice.{IsAdvice}
 use Rattle.session_advice.specs.Questions.{Asked, Printed as AdvicePrinted}
-use Rattle.session_reports.specs.Figures.{IsTooLong}
+use Rattle.settled_runs.specs.Runs.{IsTooLong}
 use Rattle.program_io.specs.declared.output.OutputStatus.TheVariants.{Unknown}
 use Rattle.view_commands.specs.SettledViews.{too_long}
 use Rattle.program_io.specs.Outputs.{Printed, printed_with}

@@ -7,7 +7,7 @@ use Rattle.session_reports.specs.declared.limits.CheckStatus.{CheckStatus}
 use Rattle.session_reports.specs.declared.limits.CheckStatus.TheVariants as check
 use Rattle.session_reports.specs.Asked.{Printed as CheckPrinted}
 use Rattle.session_reports.specs.Checks.{IsCheck}
-use Rattle.session_reports.specs.Figures.{IsTooLong}
+use Rattle.settled_runs.specs.Runs.{IsTooLong}
 use Rattle.program_io.specs.declared.output.OutputStatus.TheVariants.{Failed, Unknown}
 use Rattle.view_commands.specs.Selected.{Limited}
 use Rattle.view_commands.specs.SettledViews.{too_long}

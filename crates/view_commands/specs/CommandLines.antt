@@ -1,8 +1,8 @@
 -- Worked command lines.
 use Rattle.std.specs.Prelude.{◌≡◌, ℕ, List, [], ◌∷◌, Bool, true, false, Option, Some, None, codes}
 use Rattle.clap.specs.Words.{Text}
-use Rattle.run_advice.specs.declared.change.Family.{Family}
-use Rattle.run_reports.specs.declared.limits.Bound.TheVariants.{AtMost, AtLeast}
+use Rattle.ranked_changes.specs.declared.change.Family.{Family}
+use Rattle.report_figures.specs.declared.limits.Bound.TheVariants.{AtMost, AtLeast}
 use Rattle.run_pictures.specs.declared.frame.Axis.TheVariants as by
 use Rattle.run_pictures.specs.declared.picture.Extent.{Extent}
 use Rattle.run_views.specs.declared.places.Places.{Places}

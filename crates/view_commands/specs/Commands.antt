@@ -3,7 +3,7 @@ use Rattle.std.specs.Prelude.{◌≡◌, ℕ, List, length, codes, Bool, true, f
 use Rattle.bench_types.specs.declared.edit.Edit.{Edit}
 use Rattle.bench_types.specs.Limits.{max_input, max_steps}
 use Rattle.bench_types.specs.Session.{Session}
-use Rattle.edit_notes.specs.Notes.{edit_notes}
+use Rattle.session_edits.specs.Notes.{edit_notes}
 use Rattle.session_text.specs.declared.bench.Bench.{Bench}
 use Rattle.session_text.specs.declared.fault.TextFault.{TextFault}
 use Rattle.session_text.specs.declared.fault.Why.{Why}

@@ -2,7 +2,7 @@
 use Rattle.std.specs.Prelude.{◌==◌, List, Bool, true, bytes_eq, codes, Option, Some, None, if◌then◌else◌}
 use Rattle.std.specs.List.{list_all, list_any, slice_split}
 use Rattle.clap.specs.Words.{Text}
-use Rattle.run_advice.specs.declared.change.Family.{Family}
+use Rattle.ranked_changes.specs.declared.change.Family.{Family}
 
 -- what stands between the commas
 abbrev pub words_of : Text → List Text

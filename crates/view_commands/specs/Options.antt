@@ -8,12 +8,12 @@ use Rattle.std.specs.Str.{bytes_eq}
 use Rattle.clap.specs.ValueTests.{is_unsigned_in}
 use Rattle.clap.specs.Words.{Row, Text, all_of, first_of, many_of, one_of}
 use Rattle.command_words.specs.Asking.{flag_in, is_flag, number_in, number_of}
-use Rattle.run_advice.specs.declared.change.Family.{Family}
+use Rattle.ranked_changes.specs.declared.change.Family.{Family}
 use Rattle.run_pictures.specs.declared.frame.Axis.{Axis}
 use Rattle.run_pictures.specs.declared.frame.Axis.TheVariants as by
 use Rattle.run_pictures.specs.declared.picture.Extent.{Extent}
-use Rattle.run_reports.specs.declared.limits.Bound.{Bound}
-use Rattle.run_reports.specs.declared.limits.Bound.TheVariants.{AtMost, AtLeast}
+use Rattle.report_figures.specs.declared.limits.Bound.{Bound}
+use Rattle.report_figures.specs.declared.limits.Bound.TheVariants.{AtMost, AtLeast}
 use Rattle.run_views.specs.declared.places.Places.{Places}
 use Rattle.session_reports.specs.Asked.{Asked}
 use Rattle.session_reports.specs.declared.report.Form.TheVariants.{Json, Table}

@@ -3,7 +3,7 @@ use Rattle.std.specs.Prelude.{◌≡◌, ◌⊎◌, ℕ, List, [], ◌∷◌}
 use Rattle.bench_types.specs.declared.edit.Edit.{Edit}
 use Rattle.bench_types.specs.Session.{Session}
 use Rattle.bench_model.specs.Edits.{after_edits}
-use Rattle.session_reports.specs.Figures.{IsTooLong}
+use Rattle.settled_runs.specs.Runs.{IsTooLong}
 use Rattle.session_reports.specs.Reports.{IsReportOfRun, IsReportOfRuns}
 use Rattle.view_commands.specs.declared.request.ReportView.{ReportView}
 use Rattle.view_commands.specs.SettledViews.{too_long}

@@ -8,7 +8,7 @@ use crate::edited::make_edits;
 use crate::settled::not_settled;
 use bench_types::{Edit, Header, Step};
 use program_io::{Output, OutputStatus};
-use run_advice::Progress;
+use ranked_changes::Progress;
 use run_comparisons::steps_of;
 use session_advice::{AdviceStatus, Advised, Question, advise_session};
 use session_store::Store;

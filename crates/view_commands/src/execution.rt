@@ -5,7 +5,7 @@ ghost use Rattle.view_commands.specs.Commands.{IsView};
 use crate::Job;
 use crate::answer::printed_of;
 use program_io::{CountedRead, CountedWrite, Ending, tell_of_input};
-use run_advice::Progress;
+use ranked_changes::Progress;
 use std::alloc::Global;
 use std::thread::Threads;
 

@@ -3,7 +3,7 @@ ghost use Rattle.std.specs.Prelude.{◌≡◌, IfOk, bytes_eq, map};
 ghost use Rattle.std.specs.List.{list_all, list_any};
 ghost use Rattle.view_commands.specs.Families.{family_of, family_with, is_family, words_of};
 
-use run_advice::Family;
+use ranked_changes::Family;
 use std::alloc::{AllocError, Global};
 
 // The words of a list, with commas between them.

@@ -1,10 +1,10 @@
 //! Limits as a command line writes them: NAME=N.
 ghost use Rattle.std.specs.Prelude.{◌≡◌, ◌++◌, ◌==◌, ◌&&◌, IfOk, OnOk, false, flat_map, if◌then◌else◌, length, option_map};
-ghost use Rattle.run_reports.specs.declared.limits.Bound.TheVariants.{AtLeast, AtMost};
+ghost use Rattle.report_figures.specs.declared.limits.Bound.TheVariants.{AtLeast, AtMost};
 ghost use Rattle.std.specs.List.{list_all};
 ghost use Rattle.view_commands.specs.Options.{is_limit, limit_parts, limits_from, number_behind};
 
-use run_reports::Bound;
+use report_figures::Bound;
 use session_reports::Wanted;
 use std::alloc::{AllocError, Global};
 

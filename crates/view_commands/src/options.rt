@@ -12,7 +12,7 @@ use crate::request::{
     CheckView, Command, FileName, Job, PageView, ReportView, Request, Selection, SettledView, View,
 };
 use clap::ArgMatches;
-use run_advice::Family;
+use ranked_changes::Family;
 use run_pictures::{Axis, Extent};
 use run_views::Places;
 use session_advice::Question;

@@ -11,7 +11,7 @@ use crate::execution::run;
 use crate::request::{FileName, Job, Request};
 use crate::source::Source;
 use program_io::{CountedWrite, Ending, RunFault, end_process, given_words, show_text};
-use run_advice::Progress;
+use ranked_changes::Progress;
 use std::alloc::{AllocError, Global};
 use std::convert::AsStr;
 use std::env::Args;

@@ -6,8 +6,8 @@ ghost use Rattle.view_commands.specs.Progress.{progress_text, TellsProgress};
 use arrayvec::ArrayString;
 use itoa::Buffer;
 use program_io::{Counted, write_text};
-use run_advice::Progress;
-use std::io::Write;
+use ranked_changes::Progress;
+use std::io::{IsTerminal, Write};
 
 /// What tells how far long work is, where that is a terminal.
 #[derive(Drop)]
@@ -26,6 +26,16 @@ impl<W> Telling<W> {
             errors: Counted::new(errors),
             is_terminal,
         }
+    }
+}
+
+impl<W: IsTerminal> Telling<W> {
+    /// Tells this device, if it is a terminal, which it says itself.
+    pub fn of(errors: W) -> Self
+        ensures { result.errors.device ≡ errors }
+    {
+        let is_terminal = errors.is_terminal();
+        Telling::new(errors, is_terminal)
     }
 }
 

@@ -1,7 +1,7 @@
 //! A store is opened, edited and asked.
 ghost use Rattle.std.specs.Prelude.{◌≡◌, string_bytes, IfOk};
 ghost use Rattle.bench_model.specs.Tally.{tallies};
-ghost use Rattle.bench_reports.specs.Lines.{tally_lines};
+ghost use Rattle.tallies.specs.Lines.{tally_lines};
 
 use crate::examples::texts::{SESSION, session_of};
 use bench_types::{Edit, Refusal, Reply};

@@ -1,7 +1,7 @@
 use Rattle.std.proofs.Common.{◌≡◌, ◌∙◌, Bool, true, false, List, Bor, Some, None, map, ap, sym, arith, if◌then◌else◌}
 use Rattle.std.specs.List.{list_all}
 use Rattle.clap.specs.Words.{Text}
-use Rattle.run_advice.specs.declared.change.Family.{Family}
+use Rattle.ranked_changes.specs.declared.change.Family.{Family}
 use Rattle.view_commands.specs.Families.{family_with, is_family, words_of}
 use Rattle.view_commands.proofs.Texts.{lent_families}
 use Rattle.view_commands.proofs.families.family_of.Goals as goal

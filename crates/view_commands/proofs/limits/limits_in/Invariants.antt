@@ -1,5 +1,5 @@
 use Rattle.std.proofs.Common.{◌≡◌, ◌++◌, flat_map, take}
-use Rattle.run_reports.specs.declared.limits.Bound.TheVariants.{AtLeast, AtMost}
+use Rattle.report_figures.specs.declared.limits.Bound.TheVariants.{AtLeast, AtMost}
 use Rattle.view_commands.specs.Options.{limits_from}
 use Rattle.view_commands.proofs.limits.limits_in.Given as goal
 

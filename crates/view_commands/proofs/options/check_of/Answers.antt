@@ -1,7 +1,7 @@
 use Rattle.std.proofs.Common.{◌≡◌, ◌∙◌, ◌==◌, ◌&&◌, ◌++◌, Bool, true, false, List, Bor, Some, None, length, flat_map, ap, ap₂, sym, codes, arith, if◌then◌else◌}
 use Rattle.std.specs.List.{list_all}
 use Rattle.clap.specs.Words.{Text, found_of, rows_of}
-use Rattle.run_reports.specs.declared.limits.Bound.TheVariants.{AtMost, AtLeast}
+use Rattle.report_figures.specs.declared.limits.Bound.TheVariants.{AtMost, AtLeast}
 use Rattle.session_reports.specs.Asked.{Asked}
 use Rattle.view_commands.specs.declared.request.Command.TheVariants.{Check}
 use Rattle.view_commands.specs.Options.{is_limit, limits_from, limits_in, settle_in, texts_in}

@@ -2,7 +2,7 @@ use Rattle.std.proofs.Common.{◌≡◌, ◌⊎◌, rules, Err, ap, inl}
 use Rattle.std.specs.Prelude.{string_bytes}
 use Rattle.bench_types.specs.Session.{Session}
 use Rattle.settling.specs.declared.run.SettleFault.{SettleFault}
-use Rattle.session_reports.specs.Figures.{IsTooLong}
+use Rattle.settled_runs.specs.Runs.{IsTooLong}
 use Rattle.session_reports.specs.Reports.{IsReportOfRuns}
 use Rattle.program_io.specs.Outputs.{fine}
 use Rattle.view_commands.proofs.ReportsPrinted.{long_report}

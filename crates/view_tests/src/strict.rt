@@ -1,7 +1,7 @@
 //! Refusals that count, and what is told of them.
-use crate::processes::args_of;
-use crate::view::processes::{Wanted, check_program};
-use crate::view::samples::{FIRST_RUN, LEFT_CALLS, NO_NINTH, SHARED_MUTEX};
+use crate::processes::{Wanted, check_program};
+use crate::samples::{FIRST_RUN, LEFT_CALLS, NO_NINTH, SHARED_MUTEX};
+use crate::words::args_of;
 use std::alloc::AllocError;
 use std::process::Abort;
 use std::test::Fail;

@@ -1,6 +1,6 @@
 //! The text of a trace.
 
-use crate::view::samples::{FIRST_RUN, TWO_NOTES};
+use crate::samples::{FIRST_RUN, TWO_NOTES};
 use bench_types::Items;
 use run_views::{Interest, Places, trace};
 use session_text::read_session;

@@ -1,7 +1,7 @@
 //! What a command line asks for.
 
+use report_figures::Bound;
 use run_pictures::{Axis, Extent, MAX_PLACES};
-use run_reports::Bound;
 use run_views::Places;
 use session_advice::Question;
 use session_reports::Form;

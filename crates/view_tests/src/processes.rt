@@ -1,12 +1,12 @@
 //! The whole program: words, standard input or a file in its place, standard output and error, and
 //! the exit status.
 use crate::devices::{Sink, expect_same};
-use crate::processes::args_of;
-use crate::view::files::Shelf;
-use crate::view::samples::FIRST_RUN;
-use crate::view::traces::WHOLE;
+use crate::files::Shelf;
+use crate::samples::FIRST_RUN;
+use crate::traces::WHOLE;
+use crate::words::args_of;
 use program_io::Counted;
-use run_advice::Silent;
+use ranked_changes::Silent;
 use std::env::Args;
 use std::io::{self, ErrorKind};
 use std::process::{Abort, ExitCode};

@@ -1,11 +1,11 @@
 //! Files of the system: each is opened by its own name.
 use crate::devices::{Sink, expect_same};
-use crate::view::processes::Wanted;
-use crate::view::samples::{FIRST_RUN, NO_NINTH, SHARED_MUTEX};
-use crate::view::traces::WHOLE;
-use crate::view::views::KEPT;
+use crate::processes::Wanted;
+use crate::samples::{FIRST_RUN, NO_NINTH, SHARED_MUTEX};
+use crate::traces::WHOLE;
+use crate::views::KEPT;
 use program_io::Counted;
-use run_advice::Silent;
+use ranked_changes::Silent;
 use std::fs;
 use std::process::{Abort, ExitCode};
 use std::test::Fail;

@@ -1,6 +1,6 @@
 //! Pictures.
 
-use crate::view::samples::{FIRST_RUN, HINDERED, WOKEN_AMONG_IDLE};
+use crate::samples::{FIRST_RUN, HINDERED, WOKEN_AMONG_IDLE};
 use bench_types::Step;
 use run_pictures::{
     Axis, Extent, Run, law_of_bars, law_of_first_columns, law_of_hindrances, law_of_legends,

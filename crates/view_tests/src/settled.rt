@@ -1,9 +1,9 @@
 //! Settled runs, as documents and as traces. What is wanted of a document is what
 //! `scripts/settle.py` makes of it.
-use crate::processes::args_of;
-use crate::view::processes::{Wanted, check_program};
-use crate::view::samples::{FIRST_RUN, LEFT_CALLS, LEFT_REFUSED, NO_NINTH, SHARED_MUTEX};
-use crate::view::traces::WHOLE;
+use crate::processes::{Wanted, check_program};
+use crate::samples::{FIRST_RUN, LEFT_CALLS, LEFT_REFUSED, NO_NINTH, SHARED_MUTEX};
+use crate::traces::WHOLE;
+use crate::words::args_of;
 use std::alloc::AllocError;
 use std::process::Abort;
 use std::test::Fail;

@@ -1,9 +1,9 @@
 //! Pages, and the traces that stand in them place by place.
 
-use crate::view::samples::{FIRST_RUN, NO_NINTH, SHARED_MUTEX};
+use crate::samples::{FIRST_RUN, NO_NINTH, SHARED_MUTEX};
 use base64::engine::general_purpose::STANDARD;
 use program_io::Counted;
-use run_advice::Silent;
+use ranked_changes::Silent;
 use run_pages::{Parts, page};
 use run_pictures::{Axis, Extent};
 use run_views::{Places, trace_by_places};

@@ -1,6 +1,6 @@
 //! Settled runs of more steps than a session may have.
-use crate::processes::args_of;
-use crate::view::processes::{Wanted, check_program};
+use crate::processes::{Wanted, check_program};
+use crate::words::args_of;
 use std::alloc::{AllocError, Global};
 use std::process::Abort;
 use std::test::Fail;

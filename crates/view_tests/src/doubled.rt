@@ -1,6 +1,6 @@
 //! Documents in which a member stands twice, whatever is shown of them.
-use crate::processes::args_of;
-use crate::view::processes::{Wanted, check_program};
+use crate::processes::{Wanted, check_program};
+use crate::words::args_of;
 use std::alloc::AllocError;
 use std::process::Abort;
 use std::test::Fail;

@@ -1,9 +1,11 @@
-//! How far advice is, as a terminal is told of it. Each of so many tasks has four other priorities.
+//! How far advice is, as a screen is told of it, and a file not. Each of so many tasks has four
+//! other priorities.
 use crate::devices::{Sink, expect_same};
-use crate::processes::args_of;
+use crate::words::args_of;
 use program_io::Counted;
-use run_advice::Progress;
+use ranked_changes::Progress;
 use std::alloc::{AllocError, Global};
+use std::io::{self, IsTerminal, Write};
 use std::process::{Abort, ExitCode};
 use std::test::Fail;
 use std::thread::Threads;
@@ -11,7 +13,7 @@ use view_commands::{DocumentSource, Telling, run_program};
 
 const LINE: &str = "smp_view advise --task T0 --less run --over priority --best 0";
 
-/// How many tasks there are, what is printed, and what a terminal is told.
+/// How many tasks there are, what is printed, and what a screen is told.
 const ADVICE: [(usize, &str, &str); 4] = [
     (1, "T0.run is 1; 4 changes tried\n", "\r4 of 4 tried\n"),
     (16, "T0.run is 1; 64 changes tried\n", "\r64 of 64 tried\n"),
@@ -29,7 +31,7 @@ const ADVICE: [(usize, &str, &str); 4] = [
 ];
 
 #[test]
-fn each_part_is_told_on_a_terminal(rt: HostRuntime) -> Result<(), Fail> {
+fn each_part_is_told_on_a_screen(rt: HostRuntime) -> Result<(), Fail> {
     for (tasks, output, told) in &ADVICE {
         check(&rt, &rt, *tasks, true, output, told)?;
     }
@@ -42,18 +44,45 @@ fn a_file_is_told_nothing(rt: HostRuntime) -> Result<(), Fail> {
     Ok(())
 }
 
+/// A device that is a screen, or a file.
+#[derive(Drop)]
+struct Device<'a> {
+    sink: &'a mut Sink,
+    is_screen: bool,
+}
+
+impl Write for Device<'_> {
+    fn write(&mut self, buf: &[u8]) -> io::Result<usize> {
+        self.sink.write(buf)
+    }
+
+    fn flush(&mut self) -> io::Result<()> {
+        self.sink.flush()
+    }
+}
+
+impl IsTerminal for Device<'_> {
+    fn is_terminal(&self) -> bool {
+        self.is_screen
+    }
+}
+
 // What is printed of a session of so many tasks, and what a device is told meanwhile.
 fn check<R: Threads + Abort + Sync>(
     rt: &R,
     host: &HostRuntime,
     tasks: usize,
-    is_terminal: bool,
+    is_screen: bool,
     output: &str,
     told: &str,
 ) -> Result<(), AllocError> {
     let document = crowd_document(host.alloc(), tasks)?;
     let mut sink = Sink::wide();
-    let mut progress = Telling::new(&mut sink, is_terminal);
+    let device = Device {
+        sink: &mut sink,
+        is_screen,
+    };
+    let mut progress = Telling::of(device);
     check_advice(rt, host, &mut progress, document.as_bytes(), output)?;
     drop(progress);
     sink.expect(rt, told);

@@ -1,10 +1,10 @@
 //! Documents in files.
 ghost use Rattle.std.specs.Prelude.{Some};
 
-use crate::view::samples::{NO_NINTH, SHARED_MUTEX};
-use crate::view::views::KEPT;
+use crate::samples::{NO_NINTH, SHARED_MUTEX};
+use crate::views::KEPT;
 use program_io::Counted;
-use run_advice::Silent;
+use ranked_changes::Silent;
 use std::alloc::AllocError;
 use std::io;
 use std::io::ErrorKind;

@@ -1,8 +1,8 @@
 //! What each command shows of a document.
 
-use crate::view::samples::{FIRST_RUN, NO_NINTH, SHARED_MUTEX, TWO_NOTES};
+use crate::samples::{FIRST_RUN, NO_NINTH, SHARED_MUTEX, TWO_NOTES};
 use program_io::Counted;
-use run_advice::Silent;
+use ranked_changes::Silent;
 use run_views::Places;
 use std::alloc::{AllocError, Global};
 use std::process::Abort;

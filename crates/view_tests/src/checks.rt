@@ -1,7 +1,7 @@
 //! Checks of limits, and why nothing is shown of a document.
-use crate::processes::args_of;
-use crate::view::processes::{Wanted, check_program};
-use crate::view::samples::{NO_NINTH, SHARED_MUTEX};
+use crate::processes::{Wanted, check_program};
+use crate::samples::{NO_NINTH, SHARED_MUTEX};
+use crate::words::args_of;
 use std::alloc::AllocError;
 use std::process::Abort;
 use std::test::Fail;

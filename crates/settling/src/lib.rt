@@ -7,4 +7,4 @@ mod run;
 mod searches;
 
 pub use notes::push_left;
-pub use run::{SettleFault, Settled, settle};
+pub use run::{SettleFault, settle};

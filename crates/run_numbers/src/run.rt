@@ -18,7 +18,7 @@ ghost use Rattle.run_numbers.specs.SoFar.{AreGauges};
 use crate::event::{BeforeStep, before_step};
 use crate::gauge::Gauge;
 use crate::{Measured, Reading, Subject};
-use bench_types::{Header, Reply, Step};
+use bench_types::{CheckedSession, Header, Reply, Step};
 use settled_runs::WaitingCall;
 use smp_kernel::{Kernel, Meter};
 use std::alloc::{AllocError, Global};
@@ -197,26 +197,24 @@ fn gauges(
     Ok(gauges)
 }
 
-/// The numbers of each subject in the run of these steps, of which these calls were not made. The
-/// meter counts each step once.
+/// The numbers of each subject in the run of the session's steps, of which these calls were not
+/// made. The meter counts each step once.
 pub fn measure(
     alloc: Global,
     meter: &mut Meter,
-    header: &Header,
-    steps: &[Step],
+    session: &CheckedSession,
     left: &[WaitingCall],
     subjects: &[Subject],
 ) -> Result<Vec<Measured>, AllocError>
-    requires session { IsSession (record { header = header.now; steps = steps.now }) }
-    requires few { length steps.now ≤ max_steps }
     requires left { length left.now < 2 ^ 32 }
-    requires known { All (IsSubjectOf (settings_of header.now)) subjects.now }
+    requires known { All (IsSubjectOf (settings_of session.now.header)) subjects.now }
     ensures numbers { IfOk result
         (λ found. found.items
-        ≡ map (measured header.now steps.now left.now) subjects.now) }
-    ensures meter { OnOk result (meter.new ≡ meter_after (length steps.now) meter.old) }
-    ensures some { OnErr result (CountsUpTo (length steps.now) meter.old meter.new) }
+        ≡ map (measured session.now.header session.now.steps left.now) subjects.now) }
+    ensures meter { OnOk result (meter.new ≡ meter_after (length session.now.steps) meter.old) }
+    ensures some { OnErr result
+        (CountsUpTo (length session.now.steps) meter.old meter.new) }
 {
-    let gauges = gauges(alloc, meter, header, steps, subjects)?;
+    let gauges = gauges(alloc, meter, session.header(), session.steps(), subjects)?;
     all_measured(alloc, gauges.as_slice(), left, subjects)
 }

@@ -1,14 +1,12 @@
 //! Whether a run keeps limits.
-ghost use Rattle.std.specs.Prelude.{◌≡◌, ◌++◌, ◌↔◌, ◌≤◌, IfOk, OnOk, Err, find, flat_map, length, option_map, string_bytes};
-ghost use Rattle.bench_types.specs.Limits.{max_steps};
-ghost use Rattle.bench_types.specs.Session.{IsSession};
+ghost use Rattle.std.specs.Prelude.{◌≡◌, ◌++◌, ◌↔◌, IfOk, OnOk, Err, find, flat_map, option_map, string_bytes};
 ghost use Rattle.settling.specs.declared.run.SettleFault.TheVariants.{TooManySteps};
 ghost use Rattle.session_reports.specs.Checks.{checked, is_unknown, kept_or, limits_in, unknown_text, IsCheck, KeepsAll, NamesUnknown};
 ghost use Rattle.session_reports.specs.declared.limits.CheckStatus.TheVariants.{Kept, Unknown};
 ghost use Rattle.settled_runs.specs.Runs.{IsTooLong};
 
 use crate::figures::figures_of_session;
-use bench_types::{Header, Step};
+use bench_types::{CheckedSession, Header};
 use report_figures::{Bound, Figure, Limit, figure_called, limits_text, push_names};
 use settling::SettleFault;
 use smp_kernel::Meter;
@@ -188,27 +186,20 @@ fn printed_of(
 pub fn check(
     alloc: Global,
     meter: &mut Meter,
-    header: &Header,
-    steps: &[Step],
+    session: &CheckedSession,
     settled: bool,
     wanted: &[Wanted],
 ) -> Result<Checked, SettleFault>
-    requires session { IsSession (record { header = header.now; steps = steps.now }) }
-    requires few { length steps.now ≤ max_steps }
     ensures check { IfOk result
-        (λ printed. IsCheck settled (record { header = header.now; steps = steps.now })
-        wanted.now printed) }
+        (λ printed. IsCheck settled session.now wanted.now printed) }
     // All limits are kept, each by the figure of its name, or some name is unknown.
     ensures kept { IfOk result
-        (λ printed. (printed.status ≡ Kept)
-        ↔ KeepsAll settled (record { header = header.now; steps = steps.now }) wanted.now) }
+        (λ printed. (printed.status ≡ Kept) ↔ KeepsAll settled session.now wanted.now) }
     ensures unknown { IfOk result
-        (λ printed. (printed.status ≡ Unknown)
-        ↔ NamesUnknown settled (record { header = header.now; steps = steps.now }) wanted.now) }
-    ensures long { result ≡ Err TooManySteps
-        → IsTooLong settled (record { header = header.now; steps = steps.now }) }
+        (λ printed. (printed.status ≡ Unknown) ↔ NamesUnknown settled session.now wanted.now) }
+    ensures long { result ≡ Err TooManySteps → IsTooLong settled session.now }
 {
-    let figures = figures_of_session(alloc, meter, header, steps, settled)?;
-    let printed = printed_of(alloc, header, figures.as_slice(), wanted)?;
+    let figures = figures_of_session(alloc, meter, session, settled)?;
+    let printed = printed_of(alloc, session.header(), figures.as_slice(), wanted)?;
     Ok(printed)
 }

@@ -1,15 +1,12 @@
 //! Reports as texts.
-ghost use Rattle.std.specs.Prelude.{◌≡◌, ◌≤◌, ◌⊎◌, IfOk, Err, length, string_bytes};
-ghost use Rattle.bench_types.specs.Limits.{max_steps};
-ghost use Rattle.bench_types.specs.Session.{IsSession};
-ghost use Rattle.settling.specs.declared.run.SettleFault.TheVariants.{TooManySteps};
-ghost use Rattle.settled_runs.specs.Runs.{IsTooLong};
-ghost use Rattle.session_reports.specs.Reports.{run_text, runs_text, IsReportOfRun, IsReportOfRuns};
+ghost use Rattle.std.specs.Prelude.{◌≡◌, ◌<◌, ◌^◌, IfOk, length, string_bytes};
+ghost use Rattle.session_reports.specs.Figures.{run_figures};
+ghost use Rattle.session_reports.specs.Reports.{run_text, runs_text};
 
-use crate::figures::figures_of_session;
-use bench_types::{Header, Step};
+use crate::figures::figures_of_run;
+use bench_types::{CheckedSession, Header};
 use report_figures::{Figure, run_json, run_table, runs_json, runs_table};
-use settling::SettleFault;
+use settled_runs::WaitingCall;
 use smp_kernel::Meter;
 use std::alloc::{AllocError, Global};
 
@@ -56,65 +53,49 @@ fn runs_text(
     }
 }
 
-/// The figures of the session's run, as its steps stand or settled, as a text.
-///
-/// There is none where the settled run has more steps than a session may have.
+/// The figures of the run of the session's steps, of which these calls were not made, as a text.
+/// It tells whether the run is a settled one.
 pub fn report_of_run(
     alloc: Global,
     meter: &mut Meter,
-    header: &Header,
-    steps: &[Step],
+    session: &CheckedSession,
+    left: &[WaitingCall],
     settled: bool,
     form: Form,
-) -> Result<String, SettleFault>
-    requires session { IsSession (record { header = header.now; steps = steps.now }) }
-    requires few { length steps.now ≤ max_steps }
-    ensures text { IfOk result
-        (λ text. IsReportOfRun form settled (record {
-          header = header.now;
-          steps = steps.now;
-        }) (string_bytes text)) }
-    ensures long { result ≡ Err TooManySteps
-        → IsTooLong settled (record { header = header.now; steps = steps.now }) }
+) -> Result<String, AllocError>
+    requires { length left.now < 2 ^ 32 }
+    ensures { IfOk result
+        (λ text. string_bytes text
+        ≡ run_text form settled session.now.header
+        (run_figures session.now.header session.now.steps left.now)) }
 {
-    let figures = figures_of_session(alloc, meter, header, steps, settled)?;
-    let text = run_text(alloc, header, figures.as_slice(), settled, form)?;
-    Ok(text)
+    let figures = figures_of_run(alloc, meter, session, left)?;
+    run_text(alloc, session.header(), figures.as_slice(), settled, form)
 }
 
-/// The figures of two sessions' runs beside each other, as a text: that of a session, and that of
-/// the session after some edits.
-///
-/// There is none where a settled run has more steps than a session may have.
+/// The figures of two runs beside each other, as a text: that of a session, of which the calls
+/// `left` were not made, and that of the session after some edits, of which the calls `rest` were
+/// not made. It tells whether the runs are settled ones.
 pub fn report_of_runs(
     alloc: Global,
     meter: &mut Meter,
-    header: &Header,
-    steps: &[Step],
-    edited: &Header,
-    later: &[Step],
+    before: &CheckedSession,
+    left: &[WaitingCall],
+    after: &CheckedSession,
+    rest: &[WaitingCall],
     settled: bool,
     form: Form,
-) -> Result<String, SettleFault>
-    requires session { IsSession (record { header = header.now; steps = steps.now }) }
-    requires few { length steps.now ≤ max_steps }
-    requires edited_session { IsSession (record { header = edited.now; steps = later.now }) }
-    requires few_later { length later.now ≤ max_steps }
-    ensures text { IfOk result
-        (λ text. IsReportOfRuns form settled (record {
-          header = header.now;
-          steps = steps.now;
-        }) (record {
-          header = edited.now;
-          steps = later.now;
-        }) (string_bytes text)) }
-    ensures long { result ≡ Err TooManySteps
-        → IsTooLong settled (record { header = header.now; steps = steps.now })
-        ⊎ IsTooLong settled (record { header = edited.now; steps = later.now }) }
+) -> Result<String, AllocError>
+    requires left { length left.now < 2 ^ 32 }
+    requires rest { length rest.now < 2 ^ 32 }
+    ensures { IfOk result
+        (λ text. string_bytes text
+        ≡ runs_text form settled before.now.header
+        (run_figures before.now.header before.now.steps left.now)
+        (run_figures after.now.header after.now.steps rest.now)) }
 {
-    let before = figures_of_session(alloc, meter, header, steps, settled)?;
-    let after = figures_of_session(alloc, meter, edited, later, settled)?;
-    let (before, after) = (before.as_slice(), after.as_slice());
-    let text = runs_text(alloc, header, before, after, settled, form)?;
-    Ok(text)
+    let own = figures_of_run(alloc, meter, before, left)?;
+    let edited = figures_of_run(alloc, meter, after, rest)?;
+    let (own, edited) = (own.as_slice(), edited.as_slice());
+    runs_text(alloc, before.header(), own, edited, settled, form)
 }

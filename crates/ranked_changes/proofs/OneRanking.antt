@@ -132,8 +132,8 @@ settled_one : (judge : Judge) (session : Session) (one other : Verdict) → IsSe
 settled_one judge session (Number one) (Number other) is too =
     let same = settled_run_is_one session.header session.steps is.0 too.0 is.1 too.1 is.2 too.2 in
     ap Number (is.4 ∙ ap₂ (λ (run : List Step) (left : List WaitingCall). number_in judge session.header run left) same.0 same.1 ∙ sym too.4)
-settled_one judge session (Number one) TooLong is long = absurd (omega (arith, long is.0 is.1 is.2, is.3))
-settled_one judge session TooLong (Number other) long is = absurd (omega (arith, long is.0 is.1 is.2, is.3))
+settled_one judge session (Number one) TooLong is long = absurd (omega (arith, long (record { run = is.0; left = is.1; settled = is.2 }), is.3))
+settled_one judge session TooLong (Number other) long is = absurd (omega (arith, long (record { run = is.0; left = is.1; settled = is.2 }), is.3))
 settled_one judge session TooLong TooLong long too = refl
 
 pub verdict_one : (judge : Judge) (session : Session) (one other : Verdict) → IsVerdict judge session one → IsVerdict judge session other → one ≡ other

@@ -1,11 +1,12 @@
 -- By what a session is judged.
-use Rattle.std.specs.Prelude.{◌≡◌, ℕ, ◌+◌, ◌<◌, ◌≤◌, List, [], length}
+use Rattle.std.specs.Prelude.{◌≡◌, ℕ, ◌+◌, ◌≤◌, List, [], length}
 use Rattle.std.specs.Bool.{MatchBool}
 use Rattle.bench_types.specs.declared.header.Header.{Header}
 use Rattle.bench_types.specs.declared.step.Step.{Step}
 use Rattle.bench_types.specs.Limits.{max_steps}
 use Rattle.bench_types.specs.Session.{Session}
 use Rattle.settled_runs.specs.declared.waiting_call.WaitingCall.{WaitingCall}
+use Rattle.settled_runs.specs.Runs.{IsSettledTooLong}
 use Rattle.settled_runs.specs.Settled.{IsSettled}
 use Rattle.smp_kernel.specs.Counting.{meter_after, CountsUpTo}
 use Rattle.run_numbers.specs.declared.subject.Reading.{Reading}
@@ -26,19 +27,13 @@ abbrev pub number_in : Judge → Header → List Step → List WaitingCall → �
 number_in judge header run left =
     number_of judge.measure (reading_of header run left judge.subject)
 
--- every settled run of the session has more steps than a session may have
-abbrev pub IsTooLong : Session → Type 0
-IsTooLong session =
-    (run : List Step) (left : List WaitingCall)
-    → IsSettled session.header session.steps run left → max_steps < length run
-
 -- it is the number of a settled run of the session, or there is none that is not too long
 abbrev pub IsSettledVerdict : Judge → Session → Verdict → Type 0
 IsSettledVerdict judge session (Number number) =
     (run : List Step) × (left : List WaitingCall)
     × IsSettled session.header session.steps run left × (length run ≤ max_steps)
     × (number ≡ number_in judge session.header run left)
-IsSettledVerdict judge session TooLong = IsTooLong session
+IsSettledVerdict judge session TooLong = IsSettledTooLong session
 
 -- it is the number of the session as it stands
 abbrev pub IsPlainVerdict : Judge → Session → Verdict → Type 0

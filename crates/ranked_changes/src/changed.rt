@@ -1,12 +1,11 @@
 //! The session with a change made.
 ghost use Rattle.std.specs.Prelude.{◌≡◌, IfOk, length};
-ghost use Rattle.bench_types.specs.Session.{IsSession};
 ghost use Rattle.bench_types.specs.Step.{settings_of};
 ghost use Rattle.bench_model.specs.Edits.{args_of, changed as with_numbers};
-ghost use Rattle.ranked_changes.specs.Changed.{changed_header, changed_steps, IsChangeOf, IsHeaderChange, IsStepChange, IsUserTask};
+ghost use Rattle.ranked_changes.specs.Changed.{changed, changed_header, changed_steps, IsChangeOf, IsHeaderChange, IsStepChange, IsUserTask};
 
 use crate::Change;
-use bench_types::{Header, Items, Step, TaskArgs};
+use bench_types::{CheckedSession, Header, Items, Step, TaskArgs};
 use std::alloc::{AllocError, Global};
 
 /// What the user task is created with.
@@ -69,23 +68,23 @@ pub fn steps_with(alloc: Global, steps: &[Step], change: Change) -> Result<Vec<S
     Ok(made)
 }
 
-/// A second session, its header and its steps, in which the change is made. It has as many steps,
-/// and the same cores, tasks and mutexes.
+/// A second session in which the change is made. It has as many steps, and the same cores, tasks and
+/// mutexes.
 pub fn changed_session(
     alloc: Global,
-    header: &Header,
-    steps: &[Step],
+    session: &CheckedSession,
     change: Change,
-) -> Result<(Header, Vec<Step>), AllocError>
-    requires session { IsSession (record { header = header.now; steps = steps.now }) }
-    requires allowed { IsChangeOf (record { header = header.now; steps = steps.now }) change }
-    ensures header { IfOk result (λ made. made.0 ≡ changed_header header.now change) }
-    ensures steps { IfOk result (λ made. made.1.items ≡ changed_steps steps.now change) }
-    ensures session { IfOk result
-        (λ made. IsSession (record { header = made.0; steps = made.1.items })) }
-    ensures settings { IfOk result (λ made. settings_of made.0 ≡ settings_of header.now) }
-    ensures count { IfOk result (λ made. length made.1.items ≡ length steps.now) }
+) -> Result<CheckedSession, AllocError>
+    requires { IsChangeOf session.now change }
+    ensures changed { IfOk result (λ made. made ≡ changed session.now change) }
+    ensures settings { IfOk result
+        (λ made. settings_of made.header ≡ settings_of session.now.header) }
+    ensures count { IfOk result (λ made. length made.steps ≡ length session.now.steps) }
 {
-    let made = header_with(alloc, header, change)?;
-    Ok((made, steps_with(alloc, steps, change)?))
+    let header = header_with(alloc, session.header(), change)?;
+    let steps = steps_with(alloc, session.steps(), change)?;
+    match CheckedSession::new(header, steps) {
+        Some(made) => Ok(made),
+        None => unreachable!(),
+    }
 }

@@ -1,7 +1,6 @@
 //! The changes that a family has in a session.
 ghost use Rattle.std.specs.Prelude.{◌≡◌, ◌+◌, ◌<◌, ◌≤◌, ◌==◌, [], IfOk, All, map, length, not, if◌then◌else◌, position, ◌^◌};
 ghost use Rattle.bench_types.specs.Limits.{max_steps};
-ghost use Rattle.bench_types.specs.Session.{IsSession};
 ghost use Rattle.bench_model.specs.Edits.{args_of};
 ghost use Rattle.settled_runs.specs.Settled.{is_event};
 ghost use Rattle.ranked_changes.specs.Changed.{IsChangeOf, IsUserTask};
@@ -10,7 +9,7 @@ ghost use Rattle.ranked_changes.specs.Changes.{caller, caller_at, changes_of, ex
 use crate::changed::args_of;
 use crate::masks::masks_of;
 use crate::{Change, Family};
-use bench_types::{Call, Header, Step, cores_of_mask};
+use bench_types::{Call, CheckedSession, Header, Step, cores_of_mask};
 use std::alloc::{AllocError, Global};
 
 // The number after that of the last user task.
@@ -200,23 +199,17 @@ fn orders_if(alloc: Global, steps: &[Step], wanted: bool) -> Result<Vec<Change>,
 #[tactic(auto, using(bench_types::proofs::Passes::checked_header))]
 pub fn changes_of(
     alloc: Global,
-    header: &Header,
-    steps: &[Step],
+    session: &CheckedSession,
     family: Family,
 ) -> Result<Vec<Change>, AllocError>
-    requires session { IsSession (record { header = header.now; steps = steps.now }) }
-    requires few { length steps.now ≤ max_steps }
-    ensures changes { IfOk result
-        (λ changes. changes.items
-        ≡ changes_of (record { header = header.now; steps = steps.now }) family) }
+    ensures changes { IfOk result (λ changes. changes.items ≡ changes_of session.now family) }
     // Each of them may be made.
-    ensures allowed { IfOk result
-        (λ changes. All (IsChangeOf (record { header = header.now; steps = steps.now }))
-        changes.items) }
+    ensures allowed { IfOk result (λ changes. All (IsChangeOf session.now) changes.items) }
 {
+    let header = session.header();
     let mut changes = priorities_if(alloc, header, family.priority)?;
     let mut masks = masks_if(alloc, header, family.mask)?;
-    let mut orders = orders_if(alloc, steps, family.order)?;
+    let mut orders = orders_if(alloc, session.steps(), family.order)?;
     changes.append(&mut masks)?;
     changes.append(&mut orders)?;
     Ok(changes)

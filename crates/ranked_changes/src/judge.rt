@@ -1,13 +1,12 @@
 //! By what a session is judged.
 ghost use Rattle.std.specs.Prelude.{◌≡◌, ◌<◌, ◌≤◌, ◌+◌, ◌^◌, [], IfOk, OnErr, OnOk, length};
 ghost use Rattle.bench_types.specs.Limits.{max_steps};
-ghost use Rattle.bench_types.specs.Session.{IsSession};
 ghost use Rattle.bench_types.specs.Step.{settings_of};
 ghost use Rattle.smp_kernel.specs.Counting.{meter_after, CountsUpTo};
 ghost use Rattle.run_numbers.specs.Readings.{IsSubjectOf};
 ghost use Rattle.ranked_changes.specs.Verdicts.{number_in, number_of, CountsSettled, CountsVerdict, IsPlainVerdict, IsSettledVerdict, IsVerdict};
 
-use bench_types::{Header, Step};
+use bench_types::{CheckedSession, MAX_STEPS};
 use run_numbers::{Reading, Subject, measure};
 use settled_runs::WaitingCall;
 use settling::{SettleFault, settle};
@@ -54,20 +53,18 @@ fn number_of(measure: Measure, reading: Reading) -> u32
 fn number_in(
     alloc: Global,
     meter: &mut Meter,
-    header: &Header,
-    run: &[Step],
+    run: &CheckedSession,
     left: &[WaitingCall],
     judge: Judge,
 ) -> Result<u32, AllocError>
-    requires session { IsSession (record { header = header.now; steps = run.now }) }
-    requires few { length run.now ≤ max_steps }
     requires left { length left.now < 2 ^ 32 }
-    requires known { IsSubjectOf (settings_of header.now) judge.subject }
-    ensures number { IfOk result (λ number. number ≡ number_in judge header.now run.now left.now) }
-    ensures meter { OnOk result (meter.new ≡ meter_after (length run.now) meter.old) }
-    ensures some { OnErr result (CountsUpTo (length run.now) meter.old meter.new) }
+    requires known { IsSubjectOf (settings_of run.now.header) judge.subject }
+    ensures number { IfOk result
+        (λ number. number ≡ number_in judge run.now.header run.now.steps left.now) }
+    ensures meter { OnOk result (meter.new ≡ meter_after (length run.now.steps) meter.old) }
+    ensures some { OnErr result (CountsUpTo (length run.now.steps) meter.old meter.new) }
 {
-    let measured = measure(alloc, meter, header, run, left, &[judge.subject])?;
+    let measured = measure(alloc, meter, run, left, &[judge.subject])?;
     Ok(number_of(judge.measure, measured[0].reading))
 }
 
@@ -75,19 +72,16 @@ fn number_in(
 fn plain_verdict(
     alloc: Global,
     meter: &mut Meter,
-    header: &Header,
-    steps: &[Step],
+    session: &CheckedSession,
     judge: Judge,
 ) -> Result<Verdict, AllocError>
-    requires session { IsSession (record { header = header.now; steps = steps.now }) }
-    requires few { length steps.now ≤ max_steps }
-    requires known { IsSubjectOf (settings_of header.now) judge.subject }
-    ensures verdict { IfOk result
-        (IsPlainVerdict judge (record { header = header.now; steps = steps.now })) }
-    ensures meter { OnOk result (meter.new ≡ meter_after (length steps.now) meter.old) }
-    ensures some { OnErr result (CountsUpTo (length steps.now) meter.old meter.new) }
+    requires { IsSubjectOf (settings_of session.now.header) judge.subject }
+    ensures verdict { IfOk result (IsPlainVerdict judge session.now) }
+    ensures meter { OnOk result (meter.new ≡ meter_after (length session.now.steps) meter.old) }
+    ensures some { OnErr result (CountsUpTo max_steps meter.old meter.new) }
 {
-    let number = number_in(alloc, meter, header, steps, &[], judge)?;
+    prove!(session.steps().len() <= MAX_STEPS as usize);
+    let number = number_in(alloc, meter, session, &[], judge)?;
     Ok(Verdict::Number(number))
 }
 
@@ -95,27 +89,21 @@ fn plain_verdict(
 fn settled_verdict(
     alloc: Global,
     meter: &mut Meter,
-    header: &Header,
-    steps: &[Step],
+    session: &CheckedSession,
     judge: Judge,
 ) -> Result<Verdict, AllocError>
-    requires session { IsSession (record { header = header.now; steps = steps.now }) }
-    requires few { length steps.now ≤ max_steps }
-    requires known { IsSubjectOf (settings_of header.now) judge.subject }
-    ensures verdict { IfOk result
-        (IsSettledVerdict judge (record { header = header.now; steps = steps.now })) }
+    requires { IsSubjectOf (settings_of session.now.header) judge.subject }
+    ensures verdict { IfOk result (IsSettledVerdict judge session.now) }
     ensures meter { IfOk result
-        (λ verdict. CountsSettled (record { header = header.now; steps = steps.now }) verdict
-        meter.old meter.new) }
+        (λ verdict. CountsSettled session.now verdict meter.old meter.new) }
     ensures some { OnErr result (CountsUpTo (max_steps + max_steps) meter.old meter.new) }
 {
-    let settled = match settle(alloc, header, steps, meter) {
-        Ok(settled) => settled,
+    let run = match settle(alloc, session, meter) {
+        Ok(run) => run,
         Err(SettleFault::TooManySteps) => return Ok(Verdict::TooLong),
         Err(SettleFault::NoMemory) => return Err(AllocError),
     };
-    let (run, left) = (settled.run.as_slice(), settled.left.as_slice());
-    let number = number_in(alloc, meter, header, run, left, judge)?;
+    let number = number_in(alloc, meter, run.session(), run.left(), judge)?;
     Ok(Verdict::Number(number))
 }
 
@@ -124,23 +112,18 @@ fn settled_verdict(
 pub fn verdict_of(
     alloc: Global,
     meter: &mut Meter,
-    header: &Header,
-    steps: &[Step],
+    session: &CheckedSession,
     judge: Judge,
 ) -> Result<Verdict, AllocError>
-    requires session { IsSession (record { header = header.now; steps = steps.now }) }
-    requires few { length steps.now ≤ max_steps }
-    requires known { IsSubjectOf (settings_of header.now) judge.subject }
-    ensures verdict { IfOk result
-        (IsVerdict judge (record { header = header.now; steps = steps.now })) }
+    requires { IsSubjectOf (settings_of session.now.header) judge.subject }
+    ensures verdict { IfOk result (IsVerdict judge session.now) }
     ensures meter { IfOk result
-        (λ verdict. CountsVerdict judge (record { header = header.now; steps = steps.now }) verdict
-        meter.old meter.new) }
+        (λ verdict. CountsVerdict judge session.now verdict meter.old meter.new) }
     ensures some { OnErr result (CountsUpTo (max_steps + max_steps) meter.old meter.new) }
 {
     if judge.settled {
-        settled_verdict(alloc, meter, header, steps, judge)
+        settled_verdict(alloc, meter, session, judge)
     } else {
-        plain_verdict(alloc, meter, header, steps, judge)
+        plain_verdict(alloc, meter, session, judge)
     }
 }

@@ -1,7 +1,5 @@
 //! All changes of a family, tried and ranked.
 ghost use Rattle.std.specs.Prelude.{◌≡◌, ◌<◌, ◌≤◌, ◌^◌, All, IfOk, OnErr, OnOk, length};
-ghost use Rattle.bench_types.specs.Limits.{max_steps};
-ghost use Rattle.bench_types.specs.Session.{IsSession};
 ghost use Rattle.bench_types.specs.Step.{settings_of};
 ghost use Rattle.run_numbers.specs.Readings.{IsSubjectOf};
 ghost use Rattle.ranked_changes.specs.Changed.{changed, IsChangeOf, IsHeaderChange};
@@ -14,7 +12,7 @@ use crate::candidate::judge_change;
 use crate::changes::changes_of;
 use crate::rank::{size_of, sorted};
 use crate::{Change, Family, Judge, Progress, Ranked, Verdict};
-use bench_types::{Header, Step};
+use bench_types::{CheckedSession, Header};
 use rayon::prelude::*;
 use smp_kernel::Meter;
 use std::alloc::{AllocError, Global};
@@ -36,34 +34,24 @@ fn part_verdicts<R: Threads + Sync>(
     rt: &R,
     host: &HostRuntime,
     alloc: Global,
-    header: &Header,
-    steps: &[Step],
+    session: &CheckedSession,
     changes: &[Change],
     judge: Judge,
 ) -> Result<Vec<Result<Verdict, AllocError>>, AllocError>
-    requires session { IsSession (record { header = header.now; steps = steps.now }) }
-    requires few { length steps.now ≤ max_steps }
-    requires known { IsSubjectOf (settings_of header.now) judge.subject }
-    requires allowed { All (IsChangeOf (record { header = header.now; steps = steps.now }))
-        changes.now }
+    requires known { IsSubjectOf (settings_of session.now.header) judge.subject }
+    requires allowed { All (IsChangeOf session.now) changes.now }
     ensures { IfOk result
-        (λ verdicts. AreVerdicts judge (record { header = header.now; steps = steps.now })
-        changes.now verdicts.items) }
+        (λ verdicts. AreVerdicts judge session.now changes.now verdicts.items) }
 {
     changes
         .par_iter()
         .map(
             |change: &Change| -> Result<Verdict, AllocError>
-                requires session { IsSession (record { header = header.now; steps = steps.now }) }
-                requires few { length steps.now ≤ max_steps }
-                requires known { IsSubjectOf (settings_of header.now) judge.subject }
-                requires allowed { IsChangeOf
-                    (record { header = header.now; steps = steps.now }) change.now }
+                requires known { IsSubjectOf (settings_of session.now.header) judge.subject }
+                requires allowed { IsChangeOf session.now change.now }
                 ensures { IfOk result
-                    (IsVerdict judge
-                    (changed (record { header = header.entry.now; steps = steps.entry.now })
-                    change.now)) }
-            { judge_change(alloc, &mut Meter::new(host), header, steps, *change, judge) },
+                    (IsVerdict judge (changed session.entry.now change.now)) }
+            { judge_change(alloc, &mut Meter::new(host), session, *change, judge) },
         )
         .with_min_len(1)
         .collect(rt, alloc)
@@ -75,19 +63,14 @@ fn verdicts_of<R: Threads + Sync, P: Progress>(
     host: &HostRuntime,
     alloc: Global,
     progress: &mut P,
-    header: &Header,
-    steps: &[Step],
+    session: &CheckedSession,
     changes: &[Change],
     judge: Judge,
 ) -> Result<Vec<Result<Verdict, AllocError>>, AllocError>
-    requires session { IsSession (record { header = header.now; steps = steps.now }) }
-    requires few { length steps.now ≤ max_steps }
-    requires known { IsSubjectOf (settings_of header.now) judge.subject }
-    requires allowed { All (IsChangeOf (record { header = header.now; steps = steps.now }))
-        changes.now }
+    requires known { IsSubjectOf (settings_of session.now.header) judge.subject }
+    requires allowed { All (IsChangeOf session.now) changes.now }
     ensures verdicts { IfOk result
-        (λ verdicts. AreVerdicts judge (record { header = header.now; steps = steps.now })
-        changes.now verdicts.items) }
+        (λ verdicts. AreVerdicts judge session.now changes.now verdicts.items) }
     ensures told { OnOk result
         (TellsUpTo P.tells (length changes.now) (length changes.now) progress.old progress.new) }
     ensures told_some { OnErr result
@@ -98,7 +81,7 @@ fn verdicts_of<R: Threads + Sync, P: Progress>(
     while done < changes.len() {
         let end = done + PART.min(changes.len() - done);
         let part = &changes[done..end];
-        let mut more = part_verdicts(rt, host, alloc, header, steps, part, judge)?;
+        let mut more = part_verdicts(rt, host, alloc, session, part, judge)?;
         verdicts.append(&mut more)?;
         done = end;
         progress.tell(done, changes.len());
@@ -143,46 +126,32 @@ pub fn advise<R: Threads + Sync, P: Progress>(
     host: &HostRuntime,
     alloc: Global,
     progress: &mut P,
-    header: &Header,
-    steps: &[Step],
+    session: &CheckedSession,
     judge: Judge,
     family: Family,
 ) -> Result<Advice, AllocError>
-    requires session { IsSession (record { header = header.now; steps = steps.now }) }
-    requires few { length steps.now ≤ max_steps }
-    requires known { IsSubjectOf (settings_of header.now) judge.subject }
+    requires known { IsSubjectOf (settings_of session.now.header) judge.subject }
     ensures changes { IfOk result
-        (λ advice. advice.changes.items
-        ≡ changes_of (record { header = header.now; steps = steps.now }) family) }
+        (λ advice. advice.changes.items ≡ changes_of session.now family) }
     ensures ranked { IfOk result
-        (λ advice. IsRanking judge (record { header = header.now; steps = steps.now })
-        advice.changes.items advice.ranked.items) }
+        (λ advice. IsRanking judge session.now advice.changes.items advice.ranked.items) }
     // Each entry has its change, and each change may be made.
     ensures places { IfOk result
         (λ advice. All (λ entry. entry.index < length advice.changes.items)
         advice.ranked.items) }
     ensures allowed { IfOk result
-        (λ advice. All (IsChangeOf (record { header = header.now; steps = steps.now }))
-        advice.changes.items) }
+        (λ advice. All (IsChangeOf session.now) advice.changes.items) }
     ensures told { OnOk result
-        (let all = length (changes_of (record { header = header.now; steps = steps.now }) family)
-        in TellsUpTo P.tells all all progress.old progress.new) }
+        (let all = length (changes_of session.now family) in
+        TellsUpTo P.tells all all progress.old progress.new) }
     ensures told_some { OnErr result
-        (let all = length (changes_of (record { header = header.now; steps = steps.now }) family)
-        in TellsSome P.tells all progress.old progress.new) }
+        (let all = length (changes_of session.now family) in
+        TellsSome P.tells all progress.old progress.new) }
 {
-    let changes = changes_of(alloc, header, steps, family)?;
-    let verdicts = verdicts_of(
-        rt,
-        host,
-        alloc,
-        progress,
-        header,
-        steps,
-        changes.as_slice(),
-        judge,
-    )?;
-    let entries = entries_of(alloc, header, changes.as_slice(), verdicts.as_slice())?;
+    let changes = changes_of(alloc, session, family)?;
+    let part = changes.as_slice();
+    let verdicts = verdicts_of(rt, host, alloc, progress, session, part, judge)?;
+    let entries = entries_of(alloc, session.header(), part, verdicts.as_slice())?;
     let ranked = sorted(entries)?;
     Ok(Advice { changes, ranked })
 }

@@ -3,7 +3,6 @@ use Rattle.std.specs.Prelude.{IfOk, Result}
 use Rattle.std.specs.declared.alloc.AllocError.{AllocError}
 use Rattle.rayon.proofs.ListFacts.{IfOk-then}
 use Rattle.rayon.proofs.ToStd.{slice-AllZip}
-use Rattle.bench_types.specs.Session.{Session}
 use Rattle.ranked_changes.specs.declared.change.Change.{Change}
 use Rattle.ranked_changes.specs.declared.judge.Verdict.{Verdict}
 use Rattle.ranked_changes.specs.Changed.{changed}
@@ -12,7 +11,7 @@ use Rattle.ranked_changes.proofs.trying.part_verdicts.Goals as goal
 
 pub returns : goal.returns
 returns g c =
-    let session : Session = record { header = c.args.header.now; steps = c.args.steps.now } in
+    let session = c.args.session.now in
     let slice = ap (λ it. it.slice.now) c.map.ensures.base ∙ c.par_iter.ensures in
     IfOk-then c.collect.result _ _ c.collect.ensures (λ v h.
     let chain = rw (c.with_min_len.ensures.base, c.map.ensures.f) at h.1 in

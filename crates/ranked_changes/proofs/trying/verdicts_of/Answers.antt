@@ -1,7 +1,6 @@
 use Rattle.std.proofs.Common.{◌+◌, ◌≤◌, length, take, sym, subst, arith}
 use Rattle.std.specs.Prelude.{IfOk, List, Result}
 use Rattle.std.specs.declared.alloc.AllocError.{AllocError}
-use Rattle.bench_types.specs.Session.{Session}
 use Rattle.ranked_changes.specs.declared.change.Change.{Change}
 use Rattle.ranked_changes.specs.declared.judge.Verdict.{Verdict}
 use Rattle.ranked_changes.specs.Changed.{changed}
@@ -13,7 +12,7 @@ use Rattle.ranked_changes.proofs.trying.verdicts_of.Goals as goal
 
 pub loop-done-preserved : goal.loop-done-preserved
 loop-done-preserved g c =
-    let session : Session = record { header = c.args.header.now; steps = c.args.steps.now } in
+    let session = c.args.session.now in
     let done = c.loop-done.done in
     let end = done + c.min.result in
     let more : done ≤ end = omega arith in

@@ -1,7 +1,6 @@
 -- What a session with a change made is compared with.
-use Rattle.std.specs.Prelude.{◌≤◌, List, Bool, length}
-use Rattle.bench_types.specs.Limits.{max_steps}
-use Rattle.bench_types.specs.Session.{IsSession, Session}
+use Rattle.std.specs.Prelude.{List, Bool}
+use Rattle.bench_types.specs.Session.{Session}
 use Rattle.bench_types.specs.Step.{settings_of}
 use Rattle.run_numbers.specs.Readings.{IsSubjectOf}
 use Rattle.ranked_changes.specs.declared.judge.Judge.{Judge}
@@ -21,7 +20,7 @@ pub record Basis : Type 0 where
 
 abbrev pub basis_of : Base → Basis
 basis_of base = record {
-  session = record { header = base.header.now; steps = base.steps.now };
+  session = base.session.now;
   settled = base.settled;
   figures = base.figures.now;
   judged = base.judged;
@@ -40,8 +39,6 @@ judge_of basis = record {
   measure = measure_of basis.judged.part;
 }
 
--- a session of not too many steps, and a figure of one of its subjects
-pub record IsBasis (basis : Basis) : Type 0 where
-  pub session : IsSession basis.session
-  pub few : length basis.session.steps ≤ max_steps
-  pub known : IsSubjectOf (settings_of basis.session.header) basis.judged.subject
+-- the figure is one of the session's subjects
+abbrev pub IsBasis : Basis → Type 0
+IsBasis basis = IsSubjectOf (settings_of basis.session.header) basis.judged.subject

@@ -1,7 +1,5 @@
 //! Advice on a number of a session's run.
-ghost use Rattle.std.specs.Prelude.{◌≡◌, ◌≤◌, IfErr, IfOk, OnErr, OnOk, Err, length, string_bytes, take};
-ghost use Rattle.bench_types.specs.Limits.{max_steps};
-ghost use Rattle.bench_types.specs.Session.{IsSession};
+ghost use Rattle.std.specs.Prelude.{◌≡◌, IfErr, IfOk, OnErr, OnOk, Err, length, string_bytes, take};
 ghost use Rattle.settling.specs.declared.run.SettleFault.TheVariants.{TooManySteps};
 ghost use Rattle.ranked_changes.specs.Changes.{changes_of};
 ghost use Rattle.ranked_changes.specs.Tellings.{TellsSome, TellsUpTo};
@@ -13,7 +11,7 @@ ghost use Rattle.session_advice.specs.Telling.{TellsByFault, TellsByStatus};
 use crate::basis::{Base, judge_of};
 use crate::entries::{push_entries, push_head};
 use crate::question::{AdviceStatus, Advised, Question};
-use bench_types::{Header, Step};
+use bench_types::CheckedSession;
 use ranked_changes::{Family, Progress, Ranked, advise};
 use report_figures::figure_called;
 use session_reports::{figures_of_session, unknown_text};
@@ -51,16 +49,7 @@ fn advice_text<R: Threads + Sync, P: Progress>(
         in TellsSome P.tells all progress.old progress.new) }
 {
     let judge = judge_of(base);
-    let advice = advise(
-        rt,
-        host,
-        alloc,
-        progress,
-        base.header,
-        base.steps,
-        judge,
-        family,
-    )?;
+    let advice = advise(rt, host, alloc, progress, base.session, judge, family)?;
     let changes = advice.changes.as_slice();
     let best = best_of(advice.ranked.as_slice(), best);
     let mut text = String::new(alloc);
@@ -81,30 +70,24 @@ pub fn advise_session<R: Threads + Sync, P: Progress>(
     alloc: Global,
     meter: &mut Meter,
     progress: &mut P,
-    header: &Header,
-    steps: &[Step],
+    session: &CheckedSession,
     question: &Question,
 ) -> Result<Advised, SettleFault>
-    requires session { IsSession (record { header = header.now; steps = steps.now }) }
-    requires few { length steps.now ≤ max_steps }
     ensures advice { IfOk result
-        (λ printed. IsAdvice question.now (record { header = header.now; steps = steps.now })
-        printed) }
+        (λ printed. IsAdvice question.now session.now printed) }
     ensures long { result ≡ Err TooManySteps
-        → IsTooLong question.now.settled (record { header = header.now; steps = steps.now }) }
+        → IsTooLong question.now.settled session.now }
     // How many of the changes were tried, where any were.
     ensures told { IfOk result
-        (λ printed. let all = length (changes_of
-        (record { header = header.now; steps = steps.now }) question.now.family)
+        (λ printed. let all = length (changes_of session.now question.now.family)
         in TellsByStatus P.tells printed.status all progress.old progress.new) }
     ensures told_some { IfErr result
-        (λ fault. let all = length (changes_of
-        (record { header = header.now; steps = steps.now }) question.now.family)
+        (λ fault. let all = length (changes_of session.now question.now.family)
         in TellsByFault P.tells fault all progress.old progress.new) }
 {
     let (family, settled, best) = (question.family, question.settled, question.best);
-    let own = figures_of_session(alloc, meter, header, steps, settled)?;
-    let figures = own.as_slice();
+    let own = figures_of_session(alloc, meter, session, settled)?;
+    let (header, figures) = (session.header(), own.as_slice());
     let Some(judged) = figure_called(alloc, header, figures, question.name.as_str())? else {
         return Ok(Advised {
             status: AdviceStatus::Unknown,
@@ -112,8 +95,7 @@ pub fn advise_session<R: Threads + Sync, P: Progress>(
         });
     };
     let base = Base {
-        header,
-        steps,
+        session,
         settled,
         figures,
         judged,

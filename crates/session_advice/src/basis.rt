@@ -2,15 +2,14 @@
 ghost use Rattle.std.specs.Prelude.{◌≡◌};
 ghost use Rattle.session_advice.specs.Basis.{basis_of, judge_of, measure_of};
 
-use bench_types::{Header, Step};
+use bench_types::CheckedSession;
 use ranked_changes::{Judge, Measure};
 use report_figures::{Figure, Part};
 
 // The session as it is, the figures of its run, and the one that is to be lower.
 #[derive(Clone, Copy)]
 pub(crate) struct Base<'a> {
-    pub(crate) header: &'a Header,
-    pub(crate) steps: &'a [Step],
+    pub(crate) session: &'a CheckedSession,
     pub(crate) settled: bool,
     pub(crate) figures: &'a [Figure],
     pub(crate) judged: Figure,

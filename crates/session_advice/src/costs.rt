@@ -1,7 +1,5 @@
 //! What a change costs other tasks.
-ghost use Rattle.std.specs.Prelude.{◌≡◌, ◌≤◌, ◌++◌, IfOk, OnOk, length, string_bytes};
-ghost use Rattle.bench_types.specs.Limits.{max_steps};
-ghost use Rattle.bench_types.specs.Session.{IsSession};
+ghost use Rattle.std.specs.Prelude.{◌≡◌, ◌++◌, IfOk, OnOk, string_bytes};
 ghost use Rattle.ranked_changes.specs.Changed.{changed, IsChangeOf};
 ghost use Rattle.ranked_changes.specs.Verdicts.{IsVerdict};
 ghost use Rattle.session_reports.specs.Figures.{AreFigures};
@@ -12,7 +10,7 @@ ghost use Rattle.session_advice.specs.Costs.{bearer, cost_line, cost_lines, is_a
 
 use crate::basis::Base;
 use crate::words::push_number;
-use bench_types::{Header, Step};
+use bench_types::CheckedSession;
 use ranked_changes::{Change, Verdict, changed_session};
 use report_figures::{Figure, Part, push_name_at, value_at};
 use run_numbers::{Cause, Condition, Event, Subject};
@@ -132,7 +130,7 @@ fn push_cost_line(
         return Ok(());
     }
     text.push_str("   ")?;
-    push_name_at(text, base.header, before, index)?;
+    push_name_at(text, base.session.header(), before, index)?;
     text.push_str(" ")?;
     push_number(alloc, text, value_at(before, index), value_at(after, index))?;
     text.push_str("\n")
@@ -158,18 +156,13 @@ fn push_cost_lines(
 fn figures_after(
     alloc: Global,
     meter: &mut Meter,
-    header: &Header,
-    steps: &[Step],
+    session: &CheckedSession,
     settled: bool,
 ) -> Result<Vec<Figure>, AllocError>
-    requires session { IsSession (record { header = header.now; steps = steps.now }) }
-    requires few { length steps.now ≤ max_steps }
-    requires short { ¬ (IsTooLong settled (record { header = header.now; steps = steps.now })) }
-    ensures { IfOk result
-        (λ figures. AreFigures settled (record { header = header.now; steps = steps.now })
-        figures.items) }
+    requires { ¬ (IsTooLong settled session.now) }
+    ensures { IfOk result (λ figures. AreFigures settled session.now figures.items) }
 {
-    match figures_of_session(alloc, meter, header, steps, settled) {
+    match figures_of_session(alloc, meter, session, settled) {
         Ok(figures) => Ok(figures),
         Err(SettleFault::NoMemory) => Err(AllocError),
         Err(SettleFault::TooManySteps) => unreachable!(),
@@ -195,9 +188,8 @@ pub(crate) fn push_costs(
 {
     match verdict {
         Verdict::Number(_) => {
-            let (header, steps) = changed_session(alloc, base.header, base.steps, change)?;
-            let steps = steps.as_slice();
-            let after = figures_after(alloc, meter, &header, steps, base.settled)?;
+            let made = changed_session(alloc, base.session, change)?;
+            let after = figures_after(alloc, meter, &made, base.settled)?;
             push_cost_lines(alloc, text, base, after.as_slice())?;
             Ok(())
         }

@@ -17,7 +17,7 @@ pub(crate) fn push_head(text: &mut String, base: &Base<'_>, count: usize) -> Res
     ensures { OnOk result
         (string_bytes text.new ≡ string_bytes text.old ++ head_line (basis_of base.now) count) }
 {
-    push_value(text, base.header, base.judged)?;
+    push_value(text, base.session.header(), base.judged)?;
     write!(text, "; {count} changes tried\n")
 }
 
@@ -30,13 +30,13 @@ fn push_entry_line(
     change: Change,
     verdict: Verdict,
 ) -> Result<(), AllocError>
-    requires { IsHeaderChange base.now.header.now change }
+    requires { IsHeaderChange base.now.session.now.header change }
     ensures { OnOk result
         (string_bytes text.new
         ≡ string_bytes text.old ++ entry_line (basis_of base.now) rank change verdict) }
 {
     write!(text, "{rank}. ")?;
-    push_change(text, base.header, change)?;
+    push_change(text, base.session.header(), change)?;
     text.push_str(": ")?;
     push_verdict(alloc, text, base.judged.value, verdict)?;
     text.push_str("\n")

@@ -1,116 +1,337 @@
--- The gauges of all subjects, from the start of a run to its end.
-use Rattle.std.proofs.Common.{◌≡◌, ℕ, zero, suc, ◌<◌, ◌≤◌, Bool, true, false, List, length, map, Some, All, refl, sym}
-use Rattle.std.proofs.Common.{ap, subst, ◌∙◌, arith}
+-- The counters of all subjects, from the start of a run to its end.
+use Rattle.std.proofs.Common.{◌≡◌, get_or, ℕ, suc, ◌+◌, ◌^◌, ◌<◌, ◌≤◌, Bool, true, false, List, [], ◌∷◌, ◌++◌, length, length-append, map, Option, Some, None, refl, sym}
+use Rattle.std.proofs.Common.{ap, subst, ◌∙◌, arith, inl, inr}
+use Rattle.std.proofs.lemmas.Option.{slice_get-get_or}
+use Rattle.std.specs.Prelude.{◌≢◌, if◌then◌else◌, is_some, min, option_map, slice_get}
+use Rattle.std.specs.Option.{option_map_or, ForSome}
 use Rattle.std.proofs.lemmas.List.{ext_get_or, length-map, get_or-map}
 use Rattle.std.proofs.lemmas.List.Elements.{All-get_or}
 use Rattle.std.proofs.lemmas.List.FromFn.{length-range_with_len, length-map-range_with_len, get_or-map-range_with_len}
 use Rattle.std.proofs.lemmas.List.Sums.{count_by-le-length}
-use Rattle.std.specs.Prelude.{slice_get}
 use Rattle.bench_types.specs.declared.header.Header.{Header}
+use Rattle.bench_types.specs.declared.reply.Reply.{Reply}
 use Rattle.bench_types.specs.declared.step.Step.{Step}
+use Rattle.bench_types.specs.declared.step.Step.TheVariants.{Tick}
+use Rattle.bench_types.specs.Limits.{max_steps}
+use Rattle.bench_types.specs.Session.{Session}
+use Rattle.bench_types.specs.Step.{settings_of}
 use Rattle.list_orders.specs.Search.{numbers}
+use Rattle.bench_model.specs.Control.{task_at}
 use Rattle.bench_model.specs.Equal.{StandsFor}
-use Rattle.bench_model.specs.Lists.{View, view_of}
+use Rattle.bench_model.specs.Lists.{View, view_of, list_queues}
 use Rattle.bench_model.specs.Session.{state_at, step_of}
 use Rattle.bench_model.specs.Start.{start}
-use Rattle.bench_model.specs.Table.{Stamps}
-use Rattle.bench_model.specs.Tally.{Moment}
+use Rattle.bench_model.specs.Table.{Stamps, Table}
+use Rattle.bench_model.specs.Tally.{Moment, is_tick}
+use Rattle.smp_kernel.specs.Raised.{raised_by}
 use Rattle.settled_runs.specs.declared.waiting_call.WaitingCall.{WaitingCall}
-use Rattle.run_numbers.specs.declared.gauge.Gauge.{Gauge}
-use Rattle.run_numbers.specs.declared.subject.Condition.{Condition}
+use Rattle.run_numbers.specs.declared.counter.Counter.{Counter}
+use Rattle.run_numbers.specs.declared.look.Look.{Look}
+use Rattle.run_numbers.specs.declared.subject.Reading.{Reading}
 use Rattle.run_numbers.specs.declared.subject.Subject.{Subject}
 use Rattle.run_numbers.specs.declared.subject.Subject.TheVariants.{Ticks, Steps, TopPriority, NotMade}
-use Rattle.run_numbers.specs.Gauges.{initial_gauge, HasRoom}
-use Rattle.run_numbers.specs.Progress.{first, gauge_in, measured_at, measured_in, stepped, subject_in, AreMade, HaveRoom}
-use Rattle.run_numbers.specs.Readings.{measured, IsSubjectOf}
-use Rattle.run_numbers.specs.SoFar.{gauge_at, passed, passes_at, AreGauges}
-use Rattle.run_numbers.specs.Stretches.{holds_at, is_tick_at, stretch_at}
-use Rattle.run_numbers.proofs.Places.{find_top}
-use Rattle.run_numbers.proofs.Steps.{gauge_more}
+use Rattle.run_numbers.specs.declared.taking.Plan.{Plan}
+use Rattle.run_numbers.specs.AfterStep.{known_before, left_by}
+use Rattle.run_numbers.specs.Conditions.{holds}
+use Rattle.run_numbers.specs.Counted.{AreCounted, AreTold, HaveRoom, IsOpen, IsUntouched, Tells}
+use Rattle.run_numbers.specs.Counters.{first_counter, told, took, with_stretch, HasRoom, HasRoomFor}
+use Rattle.run_numbers.specs.Gauge.{Gauge}
+use Rattle.run_numbers.specs.Events.{happens}
+use Rattle.run_numbers.specs.Gauges.{found, spell_after}
+use Rattle.run_numbers.specs.Looks.{look_of, IsKnown, IsRow}
+use Rattle.run_numbers.specs.Progress.{counter_in, first, measured_at, measured_in, stepped, subject_in, ticks_after}
+use Rattle.run_numbers.specs.Readings.{measured, only, IsSubjectOf}
+use Rattle.run_numbers.specs.SoFar.{gauge_at, in_use_at, passed, passes_at}
+use Rattle.run_numbers.specs.Stretches.{is_found, stretch_at}
+use Rattle.run_numbers.specs.Taking.{row_at, AreLooked, AreTaken, IsPlanOf}
+use Rattle.run_numbers.specs.Tasks.{task_of}
+use Rattle.run_numbers.proofs.Counting.{for_none, for_some, is_found as found_is, is_taken, IsFound}
+use Rattle.run_numbers.proofs.Idle.{is_idle}
+use Rattle.run_numbers.proofs.Lawful.{below_top}
+use Rattle.run_numbers.proofs.Places.{find_top, next_state}
+use Rattle.run_numbers.proofs.Steps.{gauge_more, kept}
 
--- before any step
-first_gauge : (header : Header) (steps : List Step) (subject : Subject) → first (start header).control subject ≡ gauge_at header steps 0 subject
-unfolding state_at
-first_gauge header steps (Ticks condition) = refl
-first_gauge header steps (Steps event) = refl
-first_gauge header steps (TopPriority task) = ap initial_gauge (omega arith)
-first_gauge header steps (NotMade task) = refl
+-- ---- rooms
 
-pub start_gauges : (header : Header) (steps : List Step) (subjects : List Subject) (gauges : List Gauge) → gauges ≡ map (first (start header).control) subjects
-    → AreGauges header steps 0 subjects gauges
-start_gauges header steps subjects gauges made = record {
-  size = ap (λ (gs : List Gauge). length gs) made ∙ length-map subjects (first (start header).control);
-  each = λ k low.
-      ap (λ gs. gauge_in gs k) made ∙ get_or-map (first (start header).control) subjects k (NotMade 0) (initial_gauge 0) low ∙ first_gauge header steps
-      (subject_in subjects k);
-}
-
--- no more ticks than places
+-- no more ticks or steps than places
 few_passed : (header : Header) (steps : List Step) (passes : Moment Stamps → Bool) (place : ℕ) → passed header steps passes place ≤ place
 few_passed header steps passes place = omega (arith, count_by-le-length (passes_at header steps passes) (numbers place), length-range_with_len 0 place)
 
-few_ticks : (header : Header) (steps : List Step) (condition : Condition) (place : ℕ) → stretch_at header steps condition place ≤ place
-few_ticks header steps condition zero = omega arith
-few_ticks header steps condition (suc place) = at (holds_at header steps condition place) (is_tick_at header steps place) refl refl
-    (few_ticks header steps condition place)
+-- the numbers of a condition can be told
+room_at : (ticks : List ℕ) (gauge : Gauge) (counter : Counter) (most : ℕ) → length ticks ≤ most → most < 2 ^ 32 → gauge.reading.total ≤ most
+    → told ticks counter ≡ gauge.reading → ForSome counter.since (IsOpen ticks gauge) → HasRoom ticks counter
+room_at ticks gauge counter most few low total same holding = at counter.since same holding
   where
-    at : (h t : Bool) → holds_at header steps condition place ≡ h → is_tick_at header steps place ≡ t → stretch_at header steps condition place ≤ place →
-        stretch_at header steps condition (suc place) ≤ suc place
-    at true true holds tick few = rw (holds, tick) (omega (arith, few))
-    at true false holds tick few = rw (holds, tick) (omega (arith, few))
-    at false t holds tick few = rw holds (omega arith)
+    at : (since : Option ℕ) → option_map_or (with_stretch counter.reading ticks) since counter.reading ≡ gauge.reading → ForSome since (IsOpen ticks gauge)
+        → HasRoom ticks (record { reading = counter.reading; since = since })
+    at None same holding = record { few = omega (arith, few, low); opened = for_none _ }
+    at (Some begun) same holding = record {
+      few = omega (arith, few, low);
+      opened = for_some _ begun (record {
+        within = (holding begun refl).within;
+        total = omega (arith, ap (λ (reading : Reading). reading.total) same, total, low);
+      });
+    }
 
-room_at : (header : Header) (steps : List Step) (place : ℕ) (subject : Subject) → HasRoom place subject (gauge_at header steps place subject)
-room_at header steps place (Ticks condition) = (few_passed header steps _ place, few_ticks header steps condition place)
-room_at header steps place (Steps event) = few_passed header steps _ place
-room_at header steps place (TopPriority task) = tt
-room_at header steps place (NotMade task) = tt
+-- those of one without a condition
+plain_room : (ticks : List ℕ) (counter : Counter) → length ticks < 2 ^ 32 → is_some counter.since ≡ false → HasRoom ticks counter
+plain_room ticks counter few plain = at counter.since plain
+  where
+    at : (since : Option ℕ) → is_some since ≡ false → HasRoom ticks (record { reading = counter.reading; since = since })
+    at None is = record { few = few; opened = for_none _ }
+    at (Some begun) is = absurd (cc is)
 
-pub have_room : (header : Header) (steps : List Step) (place : ℕ) (subjects : List Subject) (gauges : List Gauge) → AreGauges header steps place subjects gauges
-    → HaveRoom place subjects gauges
-have_room header steps place subjects gauges are k low = subst (HasRoom place (subject_in subjects k)) (sym (are.each k low))
-    (room_at header steps place (subject_in subjects k))
+total_told : (ticks : List ℕ) (counter : Counter) (n : ℕ) → is_some counter.since ≡ false → (told ticks counter).total ≡ n → counter.reading.total ≡ n
+total_told ticks counter n plain is = at counter.since plain is
+  where
+    at : (since : Option ℕ) → is_some since ≡ false → (option_map_or (with_stretch counter.reading ticks) since counter.reading).total ≡ n
+        → counter.reading.total ≡ n
+    at None plain is = is
+    at (Some begun) plain is = absurd (cc plain)
 
--- One place further.
-module _ (header : Header) (steps : List Step) (place : ℕ) (step : Step) (kernel later : View) (subjects : List Subject) (gauges made : List Gauge) where
-  pub more_gauges :
-      slice_get steps place ≡ Some step → StandsFor kernel (state_at header steps place) → StandsFor later (state_at header steps (suc place)) →
-      (step_of step (state_at header steps place)).1 ≡ state_at header steps (suc place)
-      → All (IsSubjectOf kernel.settings) subjects → AreGauges header steps place subjects gauges
-      → AreMade (stepped kernel step (step_of step (state_at header steps place)).0 later.control place) subjects gauges made → AreGauges header steps
-      (suc place) subjects made
-  more_gauges there stands stood next known are moved = record {
-    size = moved.size ∙ are.size;
-    each = λ k low.
-        let table = state_at header steps place in
-        let subject = subject_in subjects k in
-        let of : IsSubjectOf table.settings subject = subst (λ (v : View). IsSubjectOf v.settings subject) (sym stands.shows)
-        (All-get_or (IsSubjectOf kernel.settings) subjects k (NotMade 0) low known) in
-        moved.each k low
-        ∙ ap (λ (v : View). stepped v step (step_of step table).0 later.control place subject (gauge_in gauges k)) (sym stands.shows)
-        ∙ ap (λ (v : View). stepped (view_of table) step (step_of step table).0 v.control place subject (gauge_in gauges k)) (sym stood.shows)
-        ∙ ap (stepped (view_of table) step (step_of step table).0 (state_at header steps (suc place)).control place subject) (are.each k low)
-        ∙ gauge_more header steps place step there stands.sound.consistent next subject of;
-  }
+-- ---- before any step
+
+first_tells : (header : Header) (steps : List Step) (kernel : View) (subject : Subject) → view_of (start header) ≡ kernel
+    → Tells kernel [] subject (gauge_at header steps 0 subject) (first kernel subject)
+unfolding state_at
+first_tells header steps kernel (Ticks condition) shows = at (holds list_queues condition kernel) refl
+  where
+    at : (h : Bool) → holds list_queues condition kernel ≡ h
+        → Tells kernel [] (Ticks condition) (gauge_at header steps 0 (Ticks condition)) (first_counter 0 h)
+    at true is = record {
+      numbers = refl;
+      opened = sym is;
+      since = for_some _ 0 (record { within = omega arith; stretch = refl; start = λ low. absurd (omega (arith, low)) });
+    }
+    at false is = record { numbers = refl; opened = sym is; since = for_none _ }
+first_tells header steps kernel (Steps event) shows = record { numbers = refl; opened = refl; since = for_none _ }
+first_tells header steps kernel (TopPriority task) shows = record {
+  numbers = ap only (sym (ap (λ (v : View). (task_at v.control task).in_use) shows) ∙ omega arith);
+  opened = refl;
+  since = for_none _;
+}
+first_tells header steps kernel (NotMade task) shows = record { numbers = refl; opened = refl; since = for_none _ }
+
+pub start_counted : (session : Session) (kernel : View) (plan : Plan) (counters : List Counter) (looks : List (Option Look)) (row ticks : List ℕ)
+    → StandsFor kernel (start session.header) → kernel.settings ≡ settings_of session.header
+    → counters ≡ map (first kernel) plan.subjects.now → length looks ≡ plan.tasks
+    → ((task : ℕ) (look : Look) → IsKnown looks task look → ⊥) → IsRow row kernel → ticks ≡ []
+    → AreCounted session 0 kernel plan counters looks row ticks
+unfolding state_at
+start_counted session kernel plan counters looks row ticks stands settings made sights unknown cores none = record {
+  stands = stands;
+  settings = settings;
+  size = ap (λ (cs : List Counter). length cs) made ∙ length-map plan.subjects.now (first kernel);
+  each = λ k low.
+      let subject = subject_in plan.subjects.now k in
+      let own : first kernel subject ≡ counter_in counters k =
+      sym (ap (λ cs. counter_in cs k) made ∙ get_or-map (first kernel) plan.subjects.now k (NotMade 0) (first_counter 0 false) low) in
+      subst (λ (ticks : List ℕ). Tells kernel ticks subject (gauge_at session.header session.steps 0 subject) (counter_in counters k)) (sym none)
+      (subst (Tells kernel [] subject (gauge_at session.header session.steps 0 subject)) own
+      (first_tells session.header session.steps kernel subject stands.shows));
+  sights = sights;
+  looked = λ task look known. absurd (unknown task look known);
+  cores = cores;
+  few = omega (arith, ap (λ (ts : List ℕ). length ts) none);
+}
+
+-- ---- one place further
+
+module _ (session : Session) (place : ℕ) (kernel : View) (plan : Plan) (counters : List Counter) (looks : List (Option Look)) (row ticks : List ℕ)
+    (counted : AreCounted session place kernel plan counters looks row ticks) (low : place < length session.steps) (few : length session.steps ≤ max_steps) where
+  abbrev later_ticks : Step → List ℕ
+  later_ticks step = ticks_after step place ticks
+
+  ticks_few : (step : Step) → length (later_ticks step) ≤ place + 1
+  ticks_few step = at (is_tick step)
+    where
+      at : (t : Bool) → length (if t then ticks ++ place ∷ [] else ticks) ≤ place + 1
+      at true = omega (arith, length-append ticks (place ∷ []), counted.few)
+      at false = omega (arith, counted.few)
+
+  found_at : (step : Step) (k : ℕ) → k < length plan.subjects.now → let subject = subject_in plan.subjects.now k in
+      IsFound kernel (later_ticks step) subject (found kernel step place subject (gauge_at session.header session.steps place subject)) (counter_in counters k)
+  found_at step k within =
+      found_is kernel step place ticks session.header session.steps (subject_in plan.subjects.now k) (counter_in counters k) (counted.each k within)
+
+  -- one step more can be counted
+  room_for : (step : Step) (subject : Subject) (counter : Counter)
+      → IsFound kernel (later_ticks step) subject (found kernel step place subject (gauge_at session.header session.steps place subject)) counter
+      → HasRoomFor (later_ticks step) subject counter
+  room_for step (Ticks condition) counter it =
+      let gauge = gauge_at session.header session.steps place (Ticks condition) in
+      room_at (later_ticks step) (found kernel step place (Ticks condition) gauge) counter (place + 1) (ticks_few step) (omega (arith, low, few))
+      (at (holds list_queues condition kernel) (is_tick step)) it.tells.numbers it.tells.since
+    where
+      at : (b t : Bool) → (spell_after b t place (gauge_at session.header session.steps place (Ticks condition))).reading.total ≤ place + 1
+      at true true = omega (arith, few_passed session.header session.steps (is_found condition) place)
+      at true false = omega (arith, few_passed session.header session.steps (is_found condition) place)
+      at false t = omega (arith, few_passed session.header session.steps (is_found condition) place)
+  room_for step (Steps event) counter it =
+      let known = total_told (later_ticks step) counter _ it.tells.opened (ap (λ (reading : Reading). reading.total) it.tells.numbers) in
+      omega (arith, known, few_passed session.header session.steps (happens event) place, low, few)
+  room_for step (TopPriority task) counter it = tt
+  room_for step (NotMade task) counter it = tt
+
+  pub have_room : (step : Step) → HaveRoom (later_ticks step) plan.subjects.now counters
+  have_room step k within = room_for step (subject_in plan.subjects.now k) (counter_in counters k) (found_at step k within)
+
+  -- the step that stands there
+  module _ (steps : List Step) (same : steps ≡ session.steps) where
+    pub step_there : slice_get session.steps place ≡ Some (get_or steps place Tick)
+    step_there =
+        let within : place < length steps = omega (arith, low, ap (λ (steps : List Step). length steps) same) in
+        ap (λ (steps : List Step). slice_get steps place) (sym same) ∙ slice_get-get_or steps place Tick within
+
+    pub step_next : (step_of (get_or steps place Tick) (state_at session.header session.steps place)).1 ≡ state_at session.header session.steps (suc place)
+    step_next =
+        ap (λ (steps : List Step). (step_of (get_or steps place Tick) (state_at session.header session.steps place)).1) same
+        ∙ sym (next_state session.header session.steps place Tick low)
+
+  -- it is made
+  module _ (step : Step) (there : slice_get session.steps place ≡ Some step) (later : View)
+      (stood : StandsFor later (state_at session.header session.steps (suc place)))
+      (next : (step_of step (state_at session.header session.steps place)).1 ≡ state_at session.header session.steps (suc place))
+      (settings : later.settings ≡ kernel.settings) (plans : IsPlanOf kernel.settings plan)
+      (core : ForSome (left_by kernel.control step) (λ left. left.0 < kernel.settings.cores)) where
+    abbrev here : Table
+    here = state_at session.header session.steps place
+
+    abbrev reply : Reply
+    reply = (step_of step here).0
+
+    abbrev took_here : Subject → Counter → Counter
+    took_here = took (known_before kernel step) step reply later (later_ticks step)
+
+    of_table : (subject : Subject) → IsSubjectOf kernel.settings subject → IsSubjectOf here.settings subject
+    of_table subject known = subst (λ (v : View). IsSubjectOf v.settings subject) (sym counted.stands.shows) known
+
+    known_at : (k : ℕ) → k < length plan.subjects.now → IsSubjectOf kernel.settings (subject_in plan.subjects.now k)
+    known_at k within = All-get_or (IsSubjectOf kernel.settings) plan.subjects.now k (NotMade 0) within plans.known
+
+    -- the gauge after the step
+    gauge_next : (subject : Subject) → IsSubjectOf kernel.settings subject
+        → stepped kernel step reply later.control place subject (gauge_at session.header session.steps place subject)
+        ≡ gauge_at session.header session.steps (suc place) subject
+    gauge_next subject known =
+        let gauge = gauge_at session.header session.steps place subject in
+        ap (λ (v : View). stepped v step reply later.control place subject gauge) (sym counted.stands.shows)
+        ∙ ap (λ (v : View). stepped (view_of here) step reply v.control place subject gauge) (sym stood.shows)
+        ∙ gauge_more session.header session.steps place step there counted.stands.sound.consistent next subject (of_table subject known)
+
+    taken_tells : (k : ℕ) → k < length plan.subjects.now → let subject = subject_in plan.subjects.now k in
+        Tells later (later_ticks step) subject (gauge_at session.header session.steps (suc place) subject) (took_here subject (counter_in counters k))
+    taken_tells k within =
+        let subject = subject_in plan.subjects.now k in
+        subst (λ (gauge : Gauge). Tells later (later_ticks step) subject gauge (took_here subject (counter_in counters k)))
+        (gauge_next subject (known_at k within))
+        (is_taken (known_before kernel step) step reply kernel later (later_ticks step) subject _ (counter_in counters k) (found_at step k within))
+
+    -- the priority in use of a task that is not raised is told already
+    top_told : (task : ℕ) (counter : Counter) → Tells kernel ticks (TopPriority task) (gauge_at session.header session.steps place (TopPriority task)) counter
+        → ForSome (known_before kernel step).raised (λ (raised : ℕ × ℕ). raised.0 ≢ task) → (task_at later.control task).in_use ≤ counter.reading.total
+    top_told task counter tells away =
+        let total = total_told ticks counter _ tells.opened (ap (λ (reading : Reading). reading.total) tells.numbers) in
+        let raises : raised_by kernel step ≢ Some task = not_raised (raised_by kernel step) away in
+        let others = kept session.header session.steps place step there counted.stands.sound.consistent next in
+        let still = others task (λ is. raises (ap (λ (v : View). raised_by v step) (sym counted.stands.shows) ∙ is)) in
+        let later_is = ap (λ (v : View). (task_at v.control task).in_use) stood.shows in
+        let before = below_top (in_use_at session.header session.steps task) place place (omega arith) in
+        omega (arith, total, still, later_is, before)
+      where
+        with_priority : ℕ → ℕ × ℕ
+        with_priority other = (other, (task_at kernel.control other).in_use)
+
+        not_raised : (raised : Option ℕ) → ForSome (option_map with_priority raised) (λ (raised : ℕ × ℕ). raised.0 ≢ task) → raised ≢ Some task
+        not_raised None away is = absurd (cc is)
+        not_raised (Some other) away is = let same : other ≡ task = cc is in away (with_priority other) refl same
+
+    -- a task has a row of its own
+    task_row : (tasks task : ℕ) (own : Option ℕ) → option_map_or (λ task. min task tasks) own tasks ≡ task → task < tasks → own ≡ Some task
+    task_row tasks task None is low = absurd (omega (arith, is, low))
+    task_row tasks task (Some other) is low = ap Some (omega (arith, is, low))
+
+    idle_at : (k : ℕ) → k < length plan.subjects.now → row_at plan k < plan.tasks
+        → IsUntouched looks row (known_before kernel step) step later (row_at plan k) → took_here (subject_in plan.subjects.now k) (counter_in counters k)
+        ≡ counter_in counters k
+    idle_at k within own untouched =
+        let subject = subject_in plan.subjects.now k in
+        let task = row_at plan k in
+        let tells = counted.each k within in
+        let same : look_of later task ≡ look_of kernel task = counted.looked task (look_of later task) untouched.known in
+        is_idle kernel later row step reply task settings counted.cores untouched.apart subject (later_ticks step) (counter_in counters k)
+        (task_row plan.tasks task (task_of subject) refl own) (known_at k within) same core tells.opened
+        (λ is. top_told task (counter_in counters k)
+        (subst (λ (subject : Subject). Tells kernel ticks subject (gauge_at session.header session.steps place subject) (counter_in counters k)) is tells)
+        untouched.apart.raised)
+
+    pub more_counted : (made : List Counter) (seen : List (Option Look)) (cores : List ℕ) → length made ≡ length counters → length seen ≡ length looks
+        → AreTaken took_here (IsUntouched looks row (known_before kernel step) step later) plan counters made → AreLooked later seen → IsRow cores later
+        → AreCounted session (suc place) later plan made seen cores (later_ticks step)
+    more_counted made seen cores size sights taken looked row_is = record {
+      stands = stood;
+      settings = settings ∙ counted.settings;
+      size = size ∙ counted.size;
+      each = λ k within.
+          let subject = subject_in plan.subjects.now k in
+          let told : Tells later (later_ticks step) subject (gauge_at session.header session.steps (suc place) subject)
+          (took_here subject (counter_in counters k)) = taken_tells k within in
+          elim (taken k within) [
+            | inl is ↦ subst (Tells later (later_ticks step) subject (gauge_at session.header session.steps (suc place) subject)) (sym is) told
+            | inr it ↦
+                subst (Tells later (later_ticks step) subject (gauge_at session.header session.steps (suc place) subject))
+                (idle_at k within it.0 it.1 ∙ sym it.2) told
+          ];
+      sights = sights ∙ counted.sights;
+      looked = looked;
+      cores = row_is;
+      few = omega (arith, ticks_few step);
+    }
+
+-- ---- after the last step
+
+pub all_told : (session : Session) (kernel : View) (plan : Plan) (counters : List Counter) (looks : List (Option Look)) (row ticks : List ℕ)
+    → length session.steps ≤ max_steps → AreCounted session (length session.steps) kernel plan counters looks row ticks
+    → AreTold session plan.subjects.now ticks counters
+all_told session kernel plan counters looks row ticks few counted = record {
+  size = counted.size;
+  each = λ k within. (counted.each k within).numbers;
+  room = λ k within. at (subject_in plan.subjects.now k) (counter_in counters k) (counted.each k within);
+}
+  where
+    n : ℕ
+    n = length session.steps
+
+    at : (subject : Subject) (counter : Counter) → Tells kernel ticks subject (gauge_at session.header session.steps (length session.steps) subject) counter
+        → HasRoom ticks counter
+    at (Ticks condition) counter tells =
+        room_at ticks (gauge_at session.header session.steps (length session.steps) (Ticks condition)) counter (length session.steps) counted.few
+        (omega (arith, few)) (few_passed session.header session.steps (is_found condition) (length session.steps)) tells.numbers tells.since
+    at (Steps event) counter tells = plain_room ticks counter (omega (arith, few, counted.few)) tells.opened
+    at (TopPriority task) counter tells = plain_room ticks counter (omega (arith, few, counted.few)) tells.opened
+    at (NotMade task) counter tells = plain_room ticks counter (omega (arith, few, counted.few)) tells.opened
 
 -- the numbers of a subject after the last step
-last_reading : (header : Header) (steps : List Step) (left : List WaitingCall) (subject : Subject) → measured_in (gauge_at header steps (length steps) subject)
-    left subject ≡ measured header steps left subject
-last_reading header steps left (Ticks condition) = rw (find_top (stretch_at header steps condition) (length steps)) refl
-last_reading header steps left (Steps event) = refl
-last_reading header steps left (TopPriority task) = refl
-last_reading header steps left (NotMade task) = refl
+last_measured : (header : Header) (steps : List Step) (ticks : List ℕ) (counter : Counter) (left : List WaitingCall) (subject : Subject)
+    → told ticks counter ≡ (gauge_at header steps (length steps) subject).reading → measured_in ticks counter left subject ≡ measured header steps left subject
+last_measured header steps ticks counter left (Ticks condition) is =
+    ap (λ (reading : Reading). record { subject = Ticks condition; reading = reading })
+    (is ∙ rw (find_top (stretch_at header steps condition) (length steps)) refl)
+last_measured header steps ticks counter left (Steps event) is = ap (λ (reading : Reading). record { subject = Steps event; reading = reading }) is
+last_measured header steps ticks counter left (TopPriority task) is = ap (λ (reading : Reading). record { subject = TopPriority task; reading = reading }) is
+last_measured header steps ticks counter left (NotMade task) is = refl
 
-pub all_measured : (header : Header) (steps : List Step) (left : List WaitingCall) (subjects : List Subject) (gauges : List Gauge) → AreGauges header steps
-    (length steps) subjects gauges →
-    map (measured_at gauges left subjects) (numbers (length subjects)) ≡ map (measured header steps left) subjects
-all_measured header steps left subjects gauges are =
+pub all_measured : (session : Session) (ticks : List ℕ) (counters : List Counter) (left : List WaitingCall) (subjects : List Subject)
+    → AreTold session subjects ticks counters
+    → map (measured_at ticks counters left subjects) (numbers (length subjects)) ≡ map (measured session.header session.steps left) subjects
+all_measured session ticks counters left subjects are =
     let n = length subjects in
-    let d = measured header steps left (NotMade 0) in
-    ext_get_or d (map (measured_at gauges left subjects) (numbers n)) (map (measured header steps left) subjects)
-    (length-map-range_with_len (measured_at gauges left subjects) 0 n ∙ sym (length-map subjects (measured header steps left)))
+    let of = measured session.header session.steps left in
+    let d = of (NotMade 0) in
+    ext_get_or d (map (measured_at ticks counters left subjects) (numbers n)) (map of subjects)
+    (length-map-range_with_len (measured_at ticks counters left subjects) 0 n ∙ sym (length-map subjects of))
     (λ k low.
-    let within : k < n = omega (arith, low, length-map-range_with_len (measured_at gauges left subjects) 0 n) in
-    get_or-map-range_with_len (measured_at gauges left subjects) 0 n k k d within (omega arith) ∙ ap (λ gauge. measured_in gauge left (subject_in subjects k))
-    (are.each k within)
-    ∙ last_reading header steps left (subject_in subjects k) ∙ sym (get_or-map (measured header steps left) subjects k (NotMade 0) d within))
+    let within : k < n = omega (arith, low, length-map-range_with_len (measured_at ticks counters left subjects) 0 n) in
+    get_or-map-range_with_len (measured_at ticks counters left subjects) 0 n k k d within (omega arith)
+    ∙ last_measured session.header session.steps ticks (counter_in counters k) left (subject_in subjects k) (are.each k within)
+    ∙ sym (get_or-map of subjects k (NotMade 0) d within))

@@ -13,7 +13,7 @@ use Rattle.bench_model.specs.Tallied.{one_if}
 use Rattle.bench_model.specs.Tally.{Moment, is_tick, moment_at}
 use Rattle.smp_kernel.specs.Raised.{raised_by, KeepsOthers}
 use Rattle.smp_kernel.proofs.Raises.{step_others}
-use Rattle.run_numbers.specs.declared.gauge.Gauge.{Gauge}
+use Rattle.run_numbers.specs.Gauge.{Gauge}
 use Rattle.run_numbers.specs.declared.subject.Condition.{Condition}
 use Rattle.run_numbers.specs.declared.subject.Subject.{Subject}
 use Rattle.run_numbers.specs.declared.subject.Subject.TheVariants.{Ticks, Steps, TopPriority, NotMade}
@@ -57,7 +57,7 @@ module _ (header : Header) (steps : List Step) (place : ℕ) (step : Step) (ther
   tick_here : is_tick_at header steps place ≡ is_tick step
   tick_here = rw there refl
 
-  kept : KeepsOthers (raised_by (view_of here) step) here.control later.control
+  pub kept : KeepsOthers (raised_by (view_of here) step) here.control later.control
   kept = subst (λ (table : Table). KeepsOthers (raised_by (view_of here) step) here.control table.control) next (step_others stamp_queues step here)
 
   spell_more : (condition : Condition) (b t : Bool) → holds_at header steps condition place ≡ b → is_tick step ≡ t → spell_after b t place

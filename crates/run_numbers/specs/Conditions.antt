@@ -1,7 +1,9 @@
 -- What holds of a task, a core or a mutex in a state.
-use Rattle.std.specs.Prelude.{ℕ, Bool, true, false, not, ◌&&◌, ◌==◌, nat_lt, Option, Some, None, is_some}
+use Rattle.std.specs.Prelude.{ℕ, Bool, true, false, not, ◌&&◌, ◌==◌, nat_lt, Option, Some, None, is_some, option_map}
 use Rattle.std.specs.Option.{option_and_then, option_map_or}
-use Rattle.bench_types.specs.declared.step.BlockingCall.TheVariants.{Delay, DelayUntil, NotifyWait, NotifyTake}
+use Rattle.bench_types.specs.Cause.{cause_of}
+use Rattle.bench_types.specs.declared.cause.Cause.{Cause as WaitCause}
+use Rattle.bench_types.specs.declared.cause.Cause.TheVariants as wait
 use Rattle.bench_types.specs.declared.step.Unfinished.{Unfinished}
 use Rattle.bench_types.specs.declared.step.Unfinished.TheVariants.{Made, Take}
 use Rattle.bench_model.specs.Control.{Control, current, is_due, is_idle, task_at}
@@ -12,15 +14,13 @@ use Rattle.run_numbers.specs.declared.subject.Cause.TheVariants as cause
 use Rattle.run_numbers.specs.declared.subject.Condition.{Condition}
 use Rattle.run_numbers.specs.declared.subject.Condition.TheVariants.{Running, RunningOn, WantsCore, Inverted, Blocked, HeldUp, Busy, Idle, Due, Held}
 
--- a task that is blocked in the unfinished call is blocked for the cause
-abbrev pub is_cause : Cause → Unfinished → Bool
-is_cause cause.Delay (Made (Delay ticks)) = true
-is_cause cause.Delay (Made (DelayUntil prev inc)) = true
-is_cause cause.Notification (Made (NotifyWait entry exit ticks index)) = true
-is_cause cause.Notification (Made (NotifyTake clear ticks index)) = true
-is_cause cause.AnyMutex (Take mutex mark) = true
-is_cause (cause.Mutex wanted) (Take mutex mark) = mutex == wanted
-is_cause cause call = false
+-- a task that is blocked for what its unfinished call waits for is blocked for the cause
+abbrev pub is_cause : Cause → WaitCause → Bool
+is_cause cause.Delay wait.Delay = true
+is_cause cause.Notification wait.Notification = true
+is_cause cause.AnyMutex (wait.Mutex mutex) = true
+is_cause (cause.Mutex wanted) (wait.Mutex mutex) = mutex == wanted
+is_cause cause waits = false
 
 -- the mutex that the unfinished call takes
 abbrev pub mutex_of : Unfinished → Option ℕ
@@ -38,7 +38,7 @@ module _ {Orders : Type 0} (ops : QueueOps Orders) where
   abbrev pub is_blocked : ℕ → Cause → State Orders → Bool
   is_blocked task cause state =
       not (ops.is_ready task state.orders)
-      && option_map_or (is_cause cause) (call_at state.calls task) false
+      && option_map_or (is_cause cause) (option_map cause_of (call_at state.calls task)) false
 
   -- the task that holds the mutex for which the task is blocked
   abbrev pub holder_before : ℕ → State Orders → Option ℕ

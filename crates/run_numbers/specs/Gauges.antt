@@ -1,5 +1,5 @@
 -- The numbers of a subject, one step further.
-use Rattle.std.specs.Prelude.{ℕ, ◌+◌, ◌-◌, ◌<◌, ◌≤◌, ◌^◌, max, ◌==◌, Bool, nat_lt, if◌then◌else◌, ⊤}
+use Rattle.std.specs.Prelude.{ℕ, ◌+◌, max, ◌==◌, Bool, nat_lt, if◌then◌else◌}
 use Rattle.bench_types.specs.declared.reply.Reply.{Reply}
 use Rattle.bench_types.specs.declared.step.Step.{Step}
 use Rattle.bench_model.specs.Control.{Control, task_at}
@@ -7,7 +7,7 @@ use Rattle.bench_model.specs.Lists.{View, list_queues}
 use Rattle.bench_model.specs.Tallied.{one_if}
 use Rattle.bench_model.specs.Tally.{is_tick}
 use Rattle.run_numbers.specs.declared.event.BeforeStep.{BeforeStep}
-use Rattle.run_numbers.specs.declared.gauge.Gauge.{Gauge}
+use Rattle.run_numbers.specs.Gauge.{Gauge}
 use Rattle.run_numbers.specs.declared.subject.Reading.{Reading}
 use Rattle.run_numbers.specs.declared.subject.Subject.{Subject}
 use Rattle.run_numbers.specs.declared.subject.Subject.TheVariants.{Ticks, Steps, TopPriority}
@@ -59,15 +59,3 @@ left before step reply after (Steps event) gauge =
 left before step reply after (TopPriority task) gauge =
     with_total (max gauge.reading.total (task_at after task).in_use) gauge
 left before step reply after subject gauge = gauge
-
--- no more ticks or steps than places
-abbrev pub HasRoom : ℕ → Subject → Gauge → Type 0
-HasRoom place (Ticks condition) gauge =
-    (gauge.reading.total ≤ place) × (gauge.stretch ≤ place)
-HasRoom place (Steps event) gauge = gauge.reading.total ≤ place
-HasRoom place subject gauge = ⊤
-
--- one more step can be counted
-abbrev pub HasTotal : Subject → Gauge → Type 0
-HasTotal (Steps event) gauge = gauge.reading.total < 2 ^ 32 - 1
-HasTotal subject gauge = ⊤

@@ -1,46 +1,38 @@
 -- All subjects of a run, one step further.
-use Rattle.std.specs.Prelude.{◌≡◌, ℕ, ◌<◌, List, length, slice_index_or}
+use Rattle.std.specs.Prelude.{ℕ, List, [], ◌∷◌, ◌++◌, false, if◌then◌else◌, slice_index_or}
 use Rattle.bench_types.specs.declared.reply.Reply.{Reply}
 use Rattle.bench_types.specs.declared.step.Step.{Step}
 use Rattle.bench_model.specs.Control.{Control, task_at}
-use Rattle.bench_model.specs.Lists.{View}
+use Rattle.bench_model.specs.Lists.{View, list_queues}
+use Rattle.bench_model.specs.Tally.{is_tick}
 use Rattle.settled_runs.specs.declared.waiting_call.WaitingCall.{WaitingCall}
-use Rattle.run_numbers.specs.declared.gauge.Gauge.{Gauge}
+use Rattle.run_numbers.specs.declared.counter.Counter.{Counter}
 use Rattle.run_numbers.specs.declared.subject.Measured.{Measured}
 use Rattle.run_numbers.specs.declared.subject.Reading.{Reading}
 use Rattle.run_numbers.specs.declared.subject.Subject.{Subject}
-use Rattle.run_numbers.specs.declared.subject.Subject.TheVariants.{TopPriority, NotMade}
+use Rattle.run_numbers.specs.declared.subject.Subject.TheVariants.{Ticks, TopPriority, NotMade}
 use Rattle.run_numbers.specs.AfterStep.{known_before}
-use Rattle.run_numbers.specs.Gauges.{initial_gauge, found, left, HasRoom, HasTotal}
+use Rattle.run_numbers.specs.Conditions.{holds}
+use Rattle.run_numbers.specs.Counters.{first_counter, told}
+use Rattle.run_numbers.specs.Gauge.{Gauge}
+use Rattle.run_numbers.specs.Gauges.{found, left}
 use Rattle.run_numbers.specs.Readings.{calls_of, only}
 
-abbrev pub gauge_in : List Gauge → ℕ → Gauge
-gauge_in gauges k = slice_index_or gauges k (initial_gauge 0)
+abbrev pub counter_in : List Counter → ℕ → Counter
+counter_in counters k = slice_index_or counters k (first_counter 0 false)
 
 abbrev pub subject_in : List Subject → ℕ → Subject
 subject_in subjects k = slice_index_or subjects k (NotMade 0)
 
--- before any step the greatest priority in use is the first one
-abbrev pub first : Control → Subject → Gauge
-first control (TopPriority task) = initial_gauge (task_at control task).in_use
-first control subject = initial_gauge 0
+-- before any step the condition may hold, and the greatest priority in use is the first one
+abbrev pub first : View → Subject → Counter
+first view (Ticks condition) = first_counter 0 (holds list_queues condition view)
+first view (TopPriority task) = first_counter (task_at view.control task).in_use false
+first view subject = first_counter 0 false
 
--- each gauge is what a function of its subject and of the old one gives
-pub record AreMade (f : Subject → Gauge → Gauge) (subjects : List Subject) (old now : List Gauge) :
-    Type 0 where
-  pub size : length now ≡ length old
-  pub each : (k : ℕ) → k < length subjects
-      → gauge_in now k ≡ f (subject_in subjects k) (gauge_in old k)
-
--- each has room for one tick more
-abbrev pub HaveRoom : ℕ → List Subject → List Gauge → Type 0
-HaveRoom place subjects gauges =
-    (k : ℕ) → k < length subjects → HasRoom place (subject_in subjects k) (gauge_in gauges k)
-
--- and for one step more
-abbrev pub HaveTotals : List Subject → List Gauge → Type 0
-HaveTotals subjects gauges =
-    (k : ℕ) → k < length subjects → HasTotal (subject_in subjects k) (gauge_in gauges k)
+-- the places of the ticks, after the step at a place
+abbrev pub ticks_after : Step → ℕ → List ℕ → List ℕ
+ticks_after step place ticks = if is_tick step then ticks ++ place ∷ [] else ticks
 
 -- a gauge after a step: with what the step found, what it was, and the state after it
 abbrev pub stepped : View → Step → Reply → Control → ℕ → Subject → Gauge → Gauge
@@ -48,15 +40,15 @@ stepped before step reply after place subject gauge =
     left (known_before before step) step reply after subject
     (found before step place subject gauge)
 
--- the numbers of a subject, by its gauge and the calls that were not made
-abbrev pub reading_in : Gauge → List WaitingCall → Subject → Reading
-reading_in gauge left (NotMade task) = only (calls_of task left)
-reading_in gauge left subject = gauge.reading
+-- the numbers of a subject, by its counter and the calls that were not made
+abbrev pub reading_in : List ℕ → Counter → List WaitingCall → Subject → Reading
+reading_in ticks counter left (NotMade task) = only (calls_of task left)
+reading_in ticks counter left subject = told ticks counter
 
-abbrev pub measured_in : Gauge → List WaitingCall → Subject → Measured
-measured_in gauge left subject =
-    record { subject = subject; reading = reading_in gauge left subject }
+abbrev pub measured_in : List ℕ → Counter → List WaitingCall → Subject → Measured
+measured_in ticks counter left subject =
+    record { subject = subject; reading = reading_in ticks counter left subject }
 
-abbrev pub measured_at : List Gauge → List WaitingCall → List Subject → ℕ → Measured
-measured_at gauges left subjects k =
-    measured_in (gauge_in gauges k) left (subject_in subjects k)
+abbrev pub measured_at : List ℕ → List Counter → List WaitingCall → List Subject → ℕ → Measured
+measured_at ticks counters left subjects k =
+    measured_in ticks (counter_in counters k) left (subject_in subjects k)

@@ -1,5 +1,5 @@
 -- The numbers of a subject at a place.
-use Rattle.std.specs.Prelude.{◌≡◌, ℕ, zero, suc, ◌<◌, Bool, false, List, length, map, count_by, nat_lt, if◌then◌else◌}
+use Rattle.std.specs.Prelude.{ℕ, zero, suc, Bool, false, List, map, count_by, nat_lt, if◌then◌else◌}
 use Rattle.std.specs.Option.{option_map_or}
 use Rattle.bench_types.specs.declared.header.Header.{Header}
 use Rattle.bench_types.specs.declared.step.Step.{Step}
@@ -8,12 +8,11 @@ use Rattle.bench_model.specs.Control.{task_at}
 use Rattle.bench_model.specs.Session.{state_at}
 use Rattle.bench_model.specs.Table.{Stamps}
 use Rattle.bench_model.specs.Tally.{Moment, greatest, moment_at}
-use Rattle.run_numbers.specs.declared.gauge.Gauge.{Gauge}
+use Rattle.run_numbers.specs.Gauge.{Gauge}
 use Rattle.run_numbers.specs.declared.subject.Subject.{Subject}
 use Rattle.run_numbers.specs.declared.subject.Subject.TheVariants.{Ticks, Steps, TopPriority, NotMade}
 use Rattle.run_numbers.specs.Events.{happens}
 use Rattle.run_numbers.specs.Gauges.{initial_gauge}
-use Rattle.run_numbers.specs.Progress.{gauge_in, subject_in}
 use Rattle.run_numbers.specs.Stretches.{is_found, start_at, stretch_at}
 
 -- the greatest number at the places up to this one
@@ -51,10 +50,3 @@ module _ (header : Header) (steps : List Step) where
   gauge_at place (Steps event) = initial_gauge (passed (happens event) place)
   gauge_at place (TopPriority task) = initial_gauge (top (in_use_at task) place)
   gauge_at place (NotMade task) = initial_gauge 0
-
--- the gauges of the subjects after so many steps
-pub record AreGauges (header : Header) (steps : List Step) (place : ℕ) (subjects : List Subject)
-    (gauges : List Gauge) : Type 0 where
-  pub size : length gauges ≡ length subjects
-  pub each : (k : ℕ) → k < length subjects
-      → gauge_in gauges k ≡ gauge_at header steps place (subject_in subjects k)

@@ -2,12 +2,16 @@
 //! something happened to them, and the longest stretch of ticks.
 #![tactic(auto)]
 
+mod counter;
 mod event;
-mod gauge;
+mod forget;
 mod laws;
+mod look;
+mod rows;
 mod run;
 mod state;
 mod subject;
+mod taking;
 
 pub use laws::{law_of_stretches, law_of_tallies};
 pub use run::measure;

@@ -1,36 +1,47 @@
 //! The numbers of a whole run.
-ghost use Rattle.std.specs.Prelude.{◌≡◌, ◌<◌, ◌≤◌, ◌+◌, ◌-◌, ◌^◌, Ok, IfOk, OnErr, OnOk, length, map, min, All};
+ghost use Rattle.std.specs.Prelude.{◌≡◌, ◌<◌, ◌≤◌, ◌+◌, ◌-◌, ◌^◌, [], ℕ, Ok, IfOk, OnErr, OnOk, length, map, min, All};
 ghost use Rattle.std.specs.Option.{ForSome};
+ghost use Rattle.std.specs.Vec.{vec_capacity, vec_len};
 ghost use Rattle.bench_types.specs.Limits.{max_steps};
-ghost use Rattle.bench_types.specs.Session.{IsSession};
 ghost use Rattle.bench_types.specs.Step.{settings_of, step_check};
+ghost use Rattle.bench_model.specs.Control.{current};
 ghost use Rattle.bench_model.specs.Equal.{StandsFor};
 ghost use Rattle.bench_model.specs.Session.{step_of};
 ghost use Rattle.bench_model.specs.Table.{Table};
 ghost use Rattle.list_orders.specs.Search.{numbers};
 ghost use Rattle.smp_kernel.specs.Counting.{meter_after, CountsUpTo};
 ghost use Rattle.smp_kernel.specs.Kernel.{StandsForSome};
-ghost use Rattle.run_numbers.specs.Gauges.{found, left, HasRoom};
-ghost use Rattle.run_numbers.specs.Progress.{first, measured_at, measured_in, reading_in, stepped, AreMade, HaveRoom, HaveTotals};
-ghost use Rattle.run_numbers.specs.Readings.{calls_of, measured, IsSubjectOf};
-ghost use Rattle.run_numbers.specs.SoFar.{AreGauges};
+ghost use Rattle.run_numbers.specs.AfterStep.{known_before, left_by};
+ghost use Rattle.run_numbers.specs.Counters.{took, HasRoom};
+ghost use Rattle.run_numbers.specs.Looks.{IsRow};
+ghost use Rattle.run_numbers.specs.Progress.{counter_in, first, measured_at, measured_in, reading_in, ticks_after};
+ghost use Rattle.run_numbers.specs.Readings.{calls_of, measured, only, IsSubjectOf};
+ghost use Rattle.run_numbers.specs.Counted.{AreCounted, AreTold, HaveRoom, IsUntouched};
+ghost use Rattle.run_numbers.specs.Taking.{AreLooked, AreTaken, IsPlanOf};
 
-use crate::event::{BeforeStep, before_step};
-use crate::gauge::Gauge;
+use crate::counter::{Counter, Made};
+use crate::event::before_step;
+use crate::forget::forget_concerned;
+use crate::look::Look;
+use crate::rows::spans_of;
+use crate::state::holds;
+use crate::taking::{Plan, take_all};
 use crate::{Measured, Reading, Subject};
-use bench_types::{CheckedSession, Header, Reply, Step};
+use bench_types::{CheckedSession, Step};
 use settled_runs::WaitingCall;
 use smp_kernel::{Kernel, Meter};
 use std::alloc::{AllocError, Global};
 
 // Before any step.
-fn initial_gauge(kernel: &Kernel, subject: Subject) -> Gauge
-    requires { IsSubjectOf kernel.now.settings subject }
-    ensures { result ≡ first kernel.now.control subject }
+fn initial_counter(kernel: &Kernel, subject: Subject) -> Counter
+    requires known { IsSubjectOf kernel.now.settings subject }
+    requires sound { StandsForSome kernel.now }
+    ensures { result ≡ first kernel.now subject }
 {
     match subject {
-        Subject::TopPriority { task } => Gauge::new(kernel.in_use(task)),
-        _ => Gauge::new(0),
+        Subject::Ticks(condition) => Counter::new(0, holds(kernel, condition)),
+        Subject::TopPriority { task } => Counter::new(kernel.in_use(task), false),
+        _ => Counter::new(0, false),
     }
 }
 
@@ -38,81 +49,161 @@ fn all_initial(
     alloc: Global,
     kernel: &Kernel,
     subjects: &[Subject],
-) -> Result<Vec<Gauge>, AllocError>
-    requires { All (IsSubjectOf kernel.now.settings) subjects.now }
-    ensures { IfOk result (λ gauges. gauges.items ≡ map (first kernel.now.control) subjects.now) }
-{
-    let mut gauges = Vec::with_capacity(alloc, subjects.len())?;
-    for subject in subjects {
-        gauges.push(initial_gauge(kernel, *subject))?;
-    }
-    Ok(gauges)
-}
-
-// What the step finds.
-fn find_all(gauges: &mut [Gauge], subjects: &[Subject], kernel: &Kernel, step: &Step, place: u32)
-    requires size { length gauges.old ≡ length subjects.now }
+) -> Result<Vec<Counter>, AllocError>
     requires known { All (IsSubjectOf kernel.now.settings) subjects.now }
     requires sound { StandsForSome kernel.now }
-    requires room { HaveRoom place subjects.now gauges.old }
-    requires place { place < 2 ^ 32 - 1 }
-    ensures { AreMade (found kernel.now step.now place) subjects.now gauges.old gauges.new }
+    ensures { IfOk result (λ counters. counters.items ≡ map (first kernel.now) subjects.now) }
 {
-    for k in 0..gauges.len() {
-        gauges[k].find_subject(kernel, step, place, subjects[k]);
+    let mut counters = Vec::with_capacity(alloc, subjects.len())?;
+    for subject in subjects {
+        counters.push(initial_counter(kernel, *subject))?;
+    }
+    Ok(counters)
+}
+
+// The current tasks, core 0 first.
+fn first_row(alloc: Global, kernel: &Kernel) -> Result<Vec<u32>, AllocError>
+    ensures { IfOk result (λ row. IsRow row.items kernel.now) }
+{
+    let cores = kernel.settings().cores;
+    let mut row = Vec::with_capacity(alloc, cores as usize)?;
+    for core in 0..cores {
+        row.push_reserved(kernel.running(core));
+    }
+    Ok(row)
+}
+
+// Adds the place, where the step is a tick.
+fn note_tick(ticks: &mut Vec<u32>, step: &Step, place: u32)
+    requires { vec_len ticks.old < vec_capacity ticks.old }
+    ensures ticks { ticks.new.items ≡ ticks_after step.now place ticks.old.items }
+    ensures room { vec_capacity ticks.new ≡ vec_capacity ticks.old }
+{
+    if matches!(step, Step::Tick) {
+        ticks.push_reserved(place);
     }
 }
 
-// What the step was, and the state after it.
-fn leave_all(
-    gauges: &mut [Gauge],
-    subjects: &[Subject],
-    before: BeforeStep,
-    step: &Step,
-    reply: Reply,
-    after: &Kernel,
-)
-    requires size { length gauges.old ≡ length subjects.now }
-    requires known { All (IsSubjectOf after.now.settings) subjects.now }
-    requires core { ForSome before.left (λ left. left.0 < after.now.settings.cores) }
-    requires sound { StandsForSome after.now }
-    requires room { HaveTotals subjects.now gauges.old }
-    ensures { AreMade (left before step.now reply after.now.control) subjects.now gauges.old
-        gauges.new }
-{
-    for k in 0..gauges.len() {
-        gauges[k].leave_subject(before, step, reply, after, subjects[k]);
-    }
-}
-
-// Makes the step, and counts it.
+// Makes the step, and counts it. If it is a tick, its place is the last one of the ticks.
 fn step_all(
-    gauges: &mut [Gauge],
-    subjects: &[Subject],
+    counters: &mut [Counter],
+    looks: &mut [Option<Look>],
+    row: &mut [u32],
+    ticks: &[u32],
+    plan: &Plan<'_>,
     kernel: &mut Kernel,
     meter: &mut Meter,
     step: &Step,
-    place: u32,
 )
     requires checked { step_check kernel.old.settings step.now ≡ Ok tt }
-    requires size { length gauges.old ≡ length subjects.now }
-    requires known { All (IsSubjectOf kernel.old.settings) subjects.now }
+    requires plan { IsPlanOf kernel.old.settings plan.now }
     requires sound { StandsForSome kernel.old }
-    requires room { HaveRoom place subjects.now gauges.old }
-    requires place { place < 2 ^ 32 - 1 }
+    requires size { length counters.old ≡ length plan.now.subjects.now }
+    requires looks { length looks.old ≡ plan.now.tasks }
+    requires row { IsRow row.old kernel.old }
+    requires room { HaveRoom ticks.now plan.now.subjects.now counters.old }
     ensures state { (table : Table) → StandsFor kernel.old table
         → StandsFor kernel.new (step_of step.now table).1 }
     ensures shape { kernel.new.settings ≡ kernel.old.settings }
     ensures meter { meter.new ≡ min (meter.old + 1) (2 ^ 64 - 1) }
-    ensures counted { (table : Table) → StandsFor kernel.old table
-        → AreMade
-        (stepped kernel.old step.now (step_of step.now table).0 kernel.new.control place)
-        subjects.now gauges.old gauges.new }
+    ensures core { ForSome (left_by kernel.old.control step.now)
+        (λ left. left.0 < kernel.old.settings.cores) }
+    ensures row { IsRow row.new kernel.new }
+    ensures looked { AreLooked kernel.new looks.new }
+    ensures taken { (table : Table) → StandsFor kernel.old table
+        → let before = known_before kernel.old step.now in
+        AreTaken
+        (took before step.now (step_of step.now table).0 kernel.new ticks.now)
+        (IsUntouched looks.old row.old before step.now kernel.new) plan.now counters.old
+        counters.new }
 {
     let before = before_step(kernel, step);
-    find_all(gauges, subjects, kernel, step, place);
     let reply = kernel.step(meter, step);
-    leave_all(gauges, subjects, before, step, reply, kernel);
+    forget_concerned(looks, row, before, step, kernel);
+    let made = Made {
+        before,
+        step,
+        reply,
+        after: kernel,
+        ticks,
+    };
+    take_all(counters, looks, plan, &made);
+}
+
+// Makes the steps of the session, and counts them. There is room for each tick.
+fn run_all(
+    counters: &mut [Counter],
+    looks: &mut [Option<Look>],
+    row: &mut [u32],
+    ticks: &mut Vec<u32>,
+    plan: &Plan<'_>,
+    kernel: &mut Kernel,
+    meter: &mut Meter,
+    session: &CheckedSession,
+)
+    requires plan { IsPlanOf (settings_of session.now.header) plan.now }
+    requires begun { AreCounted session.now 0 kernel.old plan.now counters.old looks.old row.old
+        ticks.old.items }
+    requires room { length session.now.steps ≤ vec_capacity ticks.old }
+    ensures counted { AreTold session.now plan.now.subjects.now ticks.new.items counters.new }
+    ensures meter { meter.new ≡ meter_after (length session.now.steps) meter.old }
+{
+    let steps = session.steps();
+    for place in 0..steps.len() {
+        let step = &steps[place];
+        note_tick(ticks, step, place as u32);
+        let so_far = ticks.as_slice();
+        step_all(counters, looks, row, so_far, plan, kernel, meter, step);
+    }
+}
+
+// The counters after the last step, and the places of the ticks.
+#[derive(Drop)]
+struct Counted {
+    counters: Vec<Counter>,
+    ticks: Vec<u32>,
+}
+
+// The meter counts each step once.
+fn count_all(
+    alloc: Global,
+    meter: &mut Meter,
+    session: &CheckedSession,
+    subjects: &[Subject],
+) -> Result<Counted, AllocError>
+    requires { All (IsSubjectOf (settings_of session.now.header)) subjects.now }
+    ensures told { IfOk result
+        (λ counted. AreTold session.now subjects.now counted.ticks.items
+        counted.counters.items) }
+    ensures meter { OnOk result (meter.new ≡ meter_after (length session.now.steps) meter.old) }
+    ensures uncounted { OnErr result (meter.new ≡ meter.old) }
+{
+    let mut kernel = match Kernel::start(alloc, session.header()) {
+        Ok(kernel) => kernel,
+        Err(_) => return Err(AllocError),
+    };
+    let tasks = kernel.settings().tasks;
+    let spans = spans_of(alloc, tasks, subjects)?;
+    let mut counters = all_initial(alloc, &kernel, subjects)?;
+    let mut looks = vec![in alloc; None; tasks as usize]?;
+    let mut row = first_row(alloc, &kernel)?;
+    let mut ticks = Vec::with_capacity(alloc, session.steps().len())?;
+    let plan = Plan {
+        tasks,
+        subjects,
+        spans: spans.as_slice(),
+    };
+    run_all(
+        &mut counters,
+        &mut looks,
+        &mut row,
+        &mut ticks,
+        &plan,
+        &mut kernel,
+        meter,
+        session,
+    );
+    Ok(Counted { counters, ticks })
 }
 
 // The calls of the task among those that were not made.
@@ -123,78 +214,51 @@ fn calls_of(task: u32, left: &[WaitingCall]) -> u32
     left.iter().filter(|call| call.task == task).count() as u32
 }
 
-fn reading(gauge: Gauge, left: &[WaitingCall], subject: Subject) -> Reading
-    requires { length left.now < 2 ^ 32 }
-    ensures { result ≡ reading_in gauge left.now subject }
+// A number that has no stretch.
+fn only(total: u32) -> Reading
+    ensures { result ≡ only total }
 {
-    match subject {
-        Subject::NotMade { task } => Gauge::new(calls_of(task, left)).reading,
-        _ => gauge.reading,
+    Reading {
+        total,
+        longest: 0,
+        from: 0,
     }
 }
 
-fn measured(gauge: Gauge, left: &[WaitingCall], subject: Subject) -> Measured
-    requires { length left.now < 2 ^ 32 }
-    ensures { result ≡ measured_in gauge left.now subject }
+fn reading(counter: &Counter, ticks: &[u32], left: &[WaitingCall], subject: Subject) -> Reading
+    requires room { HasRoom ticks.now counter.now }
+    requires left { length left.now < 2 ^ 32 }
+    ensures { result ≡ reading_in ticks.now counter.now left.now subject }
 {
-    Measured {
-        subject,
-        reading: reading(gauge, left, subject),
+    match subject {
+        Subject::NotMade { task } => only(calls_of(task, left)),
+        _ => counter.told(ticks),
     }
 }
 
 fn all_measured(
     alloc: Global,
-    gauges: &[Gauge],
+    counted: &Counted,
     left: &[WaitingCall],
     subjects: &[Subject],
 ) -> Result<Vec<Measured>, AllocError>
-    requires size { length gauges.now ≡ length subjects.now }
+    requires size { length counted.now.counters.items ≡ length subjects.now }
+    requires room { (k : ℕ) → k < length subjects.now
+        → HasRoom counted.now.ticks.items (counter_in counted.now.counters.items k) }
     requires left { length left.now < 2 ^ 32 }
     ensures { IfOk result
         (λ measured. measured.items
-        ≡ map (measured_at gauges.now left.now subjects.now) (numbers (length subjects.now))) }
+        ≡ map (measured_at counted.now.ticks.items counted.now.counters.items left.now
+        subjects.now) (numbers (length subjects.now))) }
 {
+    let ticks = counted.ticks.as_slice();
     let mut all = Vec::with_capacity(alloc, subjects.len())?;
     for k in 0..subjects.len() {
-        all.push(measured(gauges[k], left, subjects[k]))?;
+        let subject = subjects[k];
+        let reading = reading(&counted.counters[k], ticks, left, subject);
+        all.push(Measured { subject, reading })?;
     }
     Ok(all)
-}
-
-// The gauges after the last step. The meter counts each step once.
-fn gauges(
-    alloc: Global,
-    meter: &mut Meter,
-    header: &Header,
-    steps: &[Step],
-    subjects: &[Subject],
-) -> Result<Vec<Gauge>, AllocError>
-    requires session { IsSession (record { header = header.now; steps = steps.now }) }
-    requires few { length steps.now ≤ max_steps }
-    requires known { All (IsSubjectOf (settings_of header.now)) subjects.now }
-    ensures gauges { IfOk result
-        (λ gauges. AreGauges header.now steps.now (length steps.now) subjects.now gauges.items) }
-    ensures meter { OnOk result (meter.new ≡ meter_after (length steps.now) meter.old) }
-    ensures uncounted { OnErr result (meter.new ≡ meter.old) }
-{
-    let mut kernel = match Kernel::start(alloc, header) {
-        Ok(kernel) => kernel,
-        Err(_) => return Err(AllocError),
-    };
-    let mut gauges = all_initial(alloc, &kernel, subjects)?;
-    for place in 0..steps.len() {
-        let step = &steps[place];
-        step_all(
-            &mut gauges,
-            subjects,
-            &mut kernel,
-            meter,
-            step,
-            place as u32,
-        );
-    }
-    Ok(gauges)
 }
 
 /// The numbers of each subject in the run of the session's steps, of which these calls were not
@@ -215,6 +279,6 @@ pub fn measure(
     ensures some { OnErr result
         (CountsUpTo (length session.now.steps) meter.old meter.new) }
 {
-    let gauges = gauges(alloc, meter, session.header(), session.steps(), subjects)?;
-    all_measured(alloc, gauges.as_slice(), left, subjects)
+    let counted = count_all(alloc, meter, session, subjects)?;
+    all_measured(alloc, &counted, left, subjects)
 }

@@ -10,18 +10,19 @@ ghost use Rattle.run_numbers.specs.Conditions.{holder_before, holds, holds_up, i
 ghost use Rattle.run_numbers.specs.Readings.{IsConditionOf};
 
 use crate::{Cause, Condition};
-use bench_types::{BlockingCall, Unfinished};
+use bench_types::{Cause as WaitCause, Unfinished};
 use smp_kernel::Kernel;
 
-fn wants_core(kernel: &Kernel, task: u32) -> bool
+/// Whether the task is ready and on no core.
+pub(crate) fn wants_core(kernel: &Kernel, task: u32) -> bool
     requires { task < kernel.now.settings.tasks }
     ensures { result ≡ wants_core list_queues task kernel.now }
 {
     kernel.ready(task) && !kernel.is_current(task)
 }
 
-// Whether a core that the task may run on has a task of lower effective priority.
-fn outranks_some(kernel: &Kernel, task: u32) -> bool
+/// Whether a core that the task may run on has a task of lower effective priority.
+pub(crate) fn outranks_some(kernel: &Kernel, task: u32) -> bool
     requires { task < kernel.now.settings.tasks }
     ensures { result ≡ outranks_some kernel.now.control task }
 {
@@ -31,20 +32,14 @@ fn outranks_some(kernel: &Kernel, task: u32) -> bool
     })
 }
 
-fn is_cause(cause: Cause, call: Unfinished) -> bool
-    ensures { result ≡ is_cause cause call }
+fn is_cause(cause: Cause, waits: WaitCause) -> bool
+    ensures { result ≡ is_cause cause waits }
 {
-    match (cause, call) {
-        (
-            Cause::Delay,
-            Unfinished::Made(BlockingCall::Delay(_) | BlockingCall::DelayUntil { .. }),
-        ) => true,
-        (
-            Cause::Notification,
-            Unfinished::Made(BlockingCall::NotifyWait { .. } | BlockingCall::NotifyTake { .. }),
-        ) => true,
-        (Cause::AnyMutex, Unfinished::Take { .. }) => true,
-        (Cause::Mutex(wanted), Unfinished::Take { mutex, .. }) => mutex == wanted,
+    match (cause, waits) {
+        (Cause::Delay, WaitCause::Delay) => true,
+        (Cause::Notification, WaitCause::Notification) => true,
+        (Cause::AnyMutex, WaitCause::Mutex(_)) => true,
+        (Cause::Mutex(wanted), WaitCause::Mutex(mutex)) => mutex == wanted,
         _ => false,
     }
 }
@@ -57,7 +52,7 @@ fn is_blocked(kernel: &Kernel, task: u32, cause: Cause) -> bool
         return false;
     }
     match kernel.unfinished(task) {
-        Some(call) => is_cause(cause, call),
+        Some(call) => is_cause(cause, call.cause()),
         None => false,
     }
 }
@@ -116,7 +111,8 @@ fn holds_up(kernel: &Kernel, task: u32, holder: u32) -> bool
     base(kernel, holder) < base(kernel, task) && !kernel.is_current(holder)
 }
 
-fn is_held_up(kernel: &Kernel, task: u32) -> bool
+/// Whether the task is blocked on a mutex whose holder has a lower base priority and is on no core.
+pub(crate) fn is_held_up(kernel: &Kernel, task: u32) -> bool
     requires task { task < kernel.now.settings.tasks }
     requires sound { StandsForSome kernel.now }
     ensures { result ≡ is_held_up list_queues task kernel.now }

@@ -1,4 +1,7 @@
 //! What a run is measured by.
+ghost use Rattle.std.specs.Prelude.{◌≡◌};
+ghost use Rattle.run_numbers.specs.Tasks.{task_at, task_in, task_of};
+
 use bench_types::Refusal;
 
 /// Why a task is blocked.
@@ -84,4 +87,52 @@ pub struct Reading {
 pub struct Measured {
     pub subject: Subject,
     pub reading: Reading,
+}
+
+impl Condition {
+    /// The task that the condition is of, if it is of a task.
+    pub fn task(self) -> Option<u32>
+        ensures { result ≡ task_in self }
+    {
+        match self {
+            Condition::Running { task }
+            | Condition::RunningOn { task, .. }
+            | Condition::WantsCore { task }
+            | Condition::Inverted { task }
+            | Condition::Blocked { task, .. }
+            | Condition::HeldUp { task } => Some(task),
+            Condition::Busy { .. }
+            | Condition::Idle { .. }
+            | Condition::Due { .. }
+            | Condition::Held { .. } => None,
+        }
+    }
+}
+
+impl Event {
+    /// The task that the event is of, if it is of a task.
+    pub fn task(self) -> Option<u32>
+        ensures { result ≡ task_at self }
+    {
+        match self {
+            Event::SwitchedIn { task }
+            | Event::Inherits { task }
+            | Event::TimesOut { task }
+            | Event::Refused { task, .. } => Some(task),
+            Event::Awaited { .. } => None,
+        }
+    }
+}
+
+impl Subject {
+    /// The task that the subject is of, if it is of a task.
+    pub fn task(self) -> Option<u32>
+        ensures { result ≡ task_of self }
+    {
+        match self {
+            Subject::Ticks(condition) => condition.task(),
+            Subject::Steps(event) => event.task(),
+            Subject::TopPriority { task } | Subject::NotMade { task } => Some(task),
+        }
+    }
 }

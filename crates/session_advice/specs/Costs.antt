@@ -3,12 +3,11 @@ use Rattle.std.specs.Prelude.{◌≡◌, ℕ, ◌==◌, ◌&&◌, not, Bool, tru
 use Rattle.std.specs.Option.{option_map_or}
 use Rattle.list_orders.specs.Search.{numbers}
 use Rattle.run_numbers.specs.declared.subject.Cause.TheVariants.{AnyMutex}
-use Rattle.run_numbers.specs.declared.subject.Condition.{Condition}
-use Rattle.run_numbers.specs.declared.subject.Condition.TheVariants.{Running, RunningOn, WantsCore, Inverted, Blocked, HeldUp}
-use Rattle.run_numbers.specs.declared.subject.Event.{Event}
-use Rattle.run_numbers.specs.declared.subject.Event.TheVariants.{SwitchedIn, Inherits, TimesOut, Refused}
+use Rattle.run_numbers.specs.declared.subject.Condition.TheVariants.{Running, WantsCore, Inverted, Blocked}
+use Rattle.run_numbers.specs.declared.subject.Event.TheVariants.{TimesOut}
 use Rattle.run_numbers.specs.declared.subject.Subject.{Subject}
-use Rattle.run_numbers.specs.declared.subject.Subject.TheVariants.{Ticks, Steps, TopPriority, NotMade}
+use Rattle.run_numbers.specs.declared.subject.Subject.TheVariants.{Ticks, Steps, NotMade}
+use Rattle.run_numbers.specs.Tasks.{task_of}
 use Rattle.ranked_changes.specs.declared.change.Change.{Change}
 use Rattle.ranked_changes.specs.declared.judge.Verdict.{Verdict}
 use Rattle.ranked_changes.specs.declared.judge.Verdict.TheVariants.{Number, TooLong}
@@ -20,31 +19,6 @@ use Rattle.report_figures.specs.Table.{name_at, value_at}
 use Rattle.session_reports.specs.Figures.{AreFigures}
 use Rattle.session_advice.specs.Basis.{Basis}
 use Rattle.session_advice.specs.Words.{number_words}
-
--- the task that a condition is of, if it is of a task
-abbrev pub task_in : Condition → Option ℕ
-task_in (Running task) = Some task
-task_in (RunningOn task core) = Some task
-task_in (WantsCore task) = Some task
-task_in (Inverted task) = Some task
-task_in (Blocked task cause) = Some task
-task_in (HeldUp task) = Some task
-task_in condition = None
-
--- the task that an event is of
-abbrev pub task_at : Event → Option ℕ
-task_at (SwitchedIn task) = Some task
-task_at (Inherits task) = Some task
-task_at (TimesOut task) = Some task
-task_at (Refused task why) = Some task
-task_at event = None
-
--- the task that a subject is of
-abbrev pub task_of : Subject → Option ℕ
-task_of (Ticks condition) = task_in condition
-task_of (Steps event) = task_at event
-task_of (TopPriority task) = Some task
-task_of (NotMade task) = Some task
 
 -- the task that bears what the subject tells: it runs, waits for a core or for a mutex, its wait
 -- runs out, or its calls are not made

@@ -6,7 +6,7 @@ ghost use Rattle.session_reports.specs.Figures.{AreFigures};
 ghost use Rattle.settled_runs.specs.Runs.{IsTooLong};
 ghost use Rattle.session_advice.specs.Advice.{AddsCosts};
 ghost use Rattle.session_advice.specs.Basis.{basis_of, judge_of, IsBasis};
-ghost use Rattle.session_advice.specs.Costs.{bearer, cost_line, cost_lines, is_another, is_changed_at, is_cost, is_cost_at, task_at, task_in, task_of};
+ghost use Rattle.session_advice.specs.Costs.{bearer, cost_line, cost_lines, is_another, is_changed_at, is_cost, is_cost_at};
 
 use crate::basis::Base;
 use crate::words::push_number;
@@ -18,46 +18,6 @@ use session_reports::figures_of_session;
 use settling::SettleFault;
 use smp_kernel::Meter;
 use std::alloc::{AllocError, Global};
-
-fn task_in(condition: Condition) -> Option<u32>
-    ensures { result ≡ task_in condition }
-{
-    match condition {
-        Condition::Running { task }
-        | Condition::RunningOn { task, .. }
-        | Condition::WantsCore { task }
-        | Condition::Inverted { task }
-        | Condition::Blocked { task, .. }
-        | Condition::HeldUp { task } => Some(task),
-        Condition::Busy { .. }
-        | Condition::Idle { .. }
-        | Condition::Due { .. }
-        | Condition::Held { .. } => None,
-    }
-}
-
-fn task_at(event: Event) -> Option<u32>
-    ensures { result ≡ task_at event }
-{
-    match event {
-        Event::SwitchedIn { task }
-        | Event::Inherits { task }
-        | Event::TimesOut { task }
-        | Event::Refused { task, .. } => Some(task),
-        Event::Awaited { .. } => None,
-    }
-}
-
-// The task that the subject is of.
-fn task_of(subject: Subject) -> Option<u32>
-    ensures { result ≡ task_of subject }
-{
-    match subject {
-        Subject::Ticks(condition) => task_in(condition),
-        Subject::Steps(event) => task_at(event),
-        Subject::TopPriority { task } | Subject::NotMade { task } => Some(task),
-    }
-}
 
 // The task that bears what the subject tells.
 fn bearer(subject: Subject) -> Option<u32>
@@ -93,7 +53,7 @@ fn is_cost(judged: Subject, subject: Subject, part: Part) -> bool
     ensures { result ≡ is_cost judged subject part }
 {
     match part {
-        Part::Total => is_another(bearer(subject), task_of(judged)),
+        Part::Total => is_another(bearer(subject), judged.task()),
         Part::Longest => false,
     }
 }

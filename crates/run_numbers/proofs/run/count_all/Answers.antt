@@ -1,0 +1,39 @@
+use Rattle.std.proofs.Common.{◌≡◌, ◌++◌, List, length, drop, take, subst, sym, ap, ◌∙◌, arith, rules}
+use Rattle.std.proofs.lemmas.List.{length-replicate, take-append-le, take_all}
+use Rattle.std.specs.Prelude.{Option, None, replicate}
+use Rattle.bench_types.specs.declared.header.Header.{Header}
+use Rattle.bench_types.specs.Step.{settings_of}
+use Rattle.bench_model.specs.Equal.{StandsFor}
+use Rattle.bench_model.specs.Start.{start}
+use Rattle.run_numbers.specs.declared.counter.Counter.{Counter}
+use Rattle.run_numbers.specs.declared.look.Look.{Look}
+use Rattle.run_numbers.specs.Counted.{AreTold}
+use Rattle.run_numbers.specs.Looks.{IsKnown, IsRow}
+use Rattle.run_numbers.proofs.Known.{never_yet}
+use Rattle.run_numbers.proofs.Runs.{start_counted}
+use Rattle.run_numbers.proofs.run.count_all.Goals as goal
+
+pub run_all-requires-clause-begun : goal.run_all-requires-clause-begun
+run_all-requires-clause-begun c =
+    let session = c.args.session.now in
+    let kernel = c.in-Ok.kernel in
+    let tasks = c.settings-tasks.result.tasks in
+    let looks : c.deref_mut-2.result.now ≡ replicate tasks None =
+    c.deref_mut-2.ensures.value ∙ c.in_ok-looks.ensures.items_if_clones_equal (λ y e. search rules) in
+    start_counted session kernel _ c.deref_mut.result.now c.deref_mut-2.result.now c.deref_mut-3.result.now c.in_ok-ticks.ticks.items
+    (subst (λ (header : Header). StandsFor kernel (start header)) c.header.ensures.header c.in-Ok.ensures.started)
+    (c.in-Ok.ensures.shape ∙ ap settings_of c.header.ensures.header)
+    (c.deref_mut.ensures.value ∙ c.in_ok-counters.ensures)
+    (ap (λ (looks : List (Option Look)). length looks) looks ∙ length-replicate tasks None)
+    (λ task look known. never_yet tasks task look (subst (λ (looks : List (Option Look)). IsKnown looks task look) looks known))
+    (subst (λ row. IsRow row kernel) (sym c.deref_mut-3.ensures.value) c.in_ok-row.ensures)
+    c.in_ok-ticks.ensures.items
+
+pub returns-clause-told : goal.returns-clause-told
+returns-clause-told c =
+    let made = c.run_all.new.counters in
+    let n = c.in_ok-counters.counters.len in
+    let size : length made ≡ n = omega (arith, c.run_all.auto.counters, c.deref_mut.ensures.len) in
+    let all : take n (made ++ drop (length made) c.in_ok-counters.counters.items) ≡ made =
+    take-append-le n made _ (omega (arith, size)) ∙ take_all n made (omega (arith, size)) in
+    subst (λ (counters : List Counter). AreTold c.args.session.now c.args.subjects.now c.run_all.new.ticks.items counters) (sym all) c.run_all.ensures.counted

@@ -1,8 +1,7 @@
 //! Changes that are tried and ranked. Their order was worked out by hand.
-ghost use Rattle.std.specs.Prelude.{◌≡◌, ◌<◌, Ok, ⊤};
-ghost use Rattle.bench_types.specs.Header.{header_check};
+ghost use Rattle.std.specs.Prelude.{◌<◌, ⊤};
 
-use crate::settled::{TICK, call, need_checked, switch};
+use crate::settled::{TICK, call, session_of, switch};
 use bench_samples::{PLAIN, crowd, three_tasks};
 use bench_types::{Call, Header};
 use ranked_changes::{Advice, Change, Family, Judge, Measure, Progress, Verdict, advise};
@@ -40,14 +39,12 @@ fn advice<R: Threads + Abort + Sync>(
     rt: &R,
     host: &HostRuntime,
     last: &mut Last,
-    header: &Header,
+    header: Header,
 ) -> Result<Advice, Fail>
-    requires checked { header_check header.now ≡ Ok tt }
-    requires cores { 1 < header.now.config.cores }
+    requires { 1 < header.config.cores }
 {
-    header.check()?;
     let steps = [call(0, 2, Call::Delay(2)), switch(0), TICK, TICK, TICK];
-    need_checked(rt, header, &steps);
+    let session = session_of(rt, header, Vec::from_slice(host.alloc(), &steps)?)?;
     let judge = Judge {
         settled: false,
         subject: Subject::Ticks(Condition::Busy { core: 1 }),
@@ -58,7 +55,7 @@ fn advice<R: Threads + Abort + Sync>(
         mask: false,
         order: false,
     };
-    Ok(advise(rt, host, host.alloc(), last, header, &steps, judge, family)?)
+    Ok(advise(rt, host, host.alloc(), last, &session, judge, family)?)
 }
 
 /// Core 1 is busy at each tick whatever the priorities, so the smaller change is the better one,
@@ -66,7 +63,7 @@ fn advice<R: Threads + Abort + Sync>(
 fn check_order<R: Threads + Abort + Sync>(rt: &R, host: &HostRuntime) -> Result<(), Fail> {
     let header = three_tasks(host.alloc(), false)?;
     let mut last = NOT_YET;
-    let advice = advice(rt, host, &mut last, &header)?;
+    let advice = advice(rt, host, &mut last, header)?;
     assert_eq!(rt; (last.done, last.all, last.times), (12, 12, 1));
     let changes = advice.changes.as_slice();
     assert_eq!(rt; changes.len(), 12);
@@ -88,9 +85,8 @@ fn check_order<R: Threads + Abort + Sync>(rt: &R, host: &HostRuntime) -> Result<
 /// More changes than are tried side by side: four other priorities of each of 20 tasks.
 fn check_parts<R: Threads + Abort + Sync>(rt: &R, host: &HostRuntime) -> Result<(), Fail> {
     let header = crowd(host.alloc(), PLAIN, 20)?;
-    header.check()?;
     let mut last = NOT_YET;
-    let advice = advice(rt, host, &mut last, &header)?;
+    let advice = advice(rt, host, &mut last, header)?;
     assert_eq!(rt; (last.done, last.all, last.times), (80, 80, 2));
     assert_eq!(rt; advice.ranked.len(), 80);
     Ok(())

@@ -1,5 +1,5 @@
 //! Advice in words. A program that was written apart from this one made the texts.
-use crate::settled::{TICK, call, need_checked};
+use crate::settled::{TICK, call, session_of};
 use bench_samples::three_tasks;
 use bench_types::Call;
 use ranked_changes::{Family, Silent};
@@ -17,10 +17,9 @@ fn advised<R: Threads + Abort + Sync>(
     best: u32,
 ) -> Result<Advised, Fail> {
     let alloc = host.alloc();
-    let header = three_tasks(alloc, false)?;
-    header.check()?;
     let steps = [call(0, 2, Call::Delay(2)), TICK, TICK, TICK, TICK];
-    need_checked(rt, &header, &steps);
+    let header = three_tasks(alloc, false)?;
+    let session = session_of(rt, header, Vec::from_slice(alloc, &steps)?)?;
     let question = Question {
         name: String::from_str(alloc, name)?,
         settled: true,
@@ -37,8 +36,7 @@ fn advised<R: Threads + Abort + Sync>(
         alloc,
         &mut Meter::new(host),
         &mut Silent,
-        &header,
-        &steps,
+        &session,
         &question,
     )?)
 }

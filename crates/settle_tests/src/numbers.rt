@@ -1,10 +1,7 @@
 //! The numbers of runs, and limits of them. Each was counted by hand.
-ghost use Rattle.std.specs.Prelude.{◌≡◌, Ok};
-ghost use Rattle.bench_types.specs.Header.{header_check};
-
-use crate::settled::{TICK, call, need_checked, switch};
+use crate::settled::{TICK, call, session_of, switch};
 use bench_samples::three_tasks;
-use bench_types::{Call, Header, Step};
+use bench_types::{Call, CheckedSession};
 use report_figures::{Bound, figure_called, figures_of, subjects_of};
 use session_reports::{CheckStatus, Checked, Wanted, check, figures_of_session};
 use smp_kernel::Meter;
@@ -12,26 +9,21 @@ use std::process::Abort;
 use std::test::Fail;
 
 /// A waits for two ticks, and is ready when the third comes, while B and C have the cores.
-fn session() -> [Step; 5] {
-    [call(0, 2, Call::Delay(2)), switch(0), TICK, TICK, TICK]
+fn session(rt: &impl Abort, host: &HostRuntime) -> Result<CheckedSession, Fail> {
+    let steps = [call(0, 2, Call::Delay(2)), switch(0), TICK, TICK, TICK];
+    let header = three_tasks(host.alloc(), false)?;
+    session_of(rt, header, Vec::from_slice(host.alloc(), &steps)?)
 }
 
 fn value(
-    rt: &impl Abort,
     host: &HostRuntime,
-    header: &Header,
+    session: &CheckedSession,
     settled: bool,
     name: &str,
-) -> Result<Option<u32>, Fail>
-    requires { header_check header.now ≡ Ok tt }
-{
-    header.check()?;
-    let steps = session();
-    need_checked(rt, header, &steps);
-    let mut meter = Meter::new(host);
+) -> Result<Option<u32>, Fail> {
     let alloc = host.alloc();
-    let figures = figures_of_session(alloc, &mut meter, header, &steps, settled)?;
-    let figure = figure_called(alloc, header, figures.as_slice(), name)?;
+    let figures = figures_of_session(alloc, &mut Meter::new(host), session, settled)?;
+    let figure = figure_called(alloc, session.header(), figures.as_slice(), name)?;
     Ok(figure.map(|figure| figure.value))
 }
 
@@ -41,9 +33,9 @@ fn check_values(
     settled: bool,
     wanted: &[(&str, Option<u32>)],
 ) -> Result<(), Fail> {
-    let header = three_tasks(host.alloc(), false)?;
+    let session = session(rt, host)?;
     for (name, number) in wanted {
-        let found = value(rt, host, &header, settled, name)?;
+        let found = value(host, &session, settled, name)?;
         assert_eq!(rt; found, *number, "{name}");
     }
     Ok(())
@@ -74,20 +66,10 @@ fn numbers_of_runs(rt: HostRuntime) -> Result<(), Fail> {
 
 fn checked(rt: &impl Abort, host: &HostRuntime, name: &str, bound: Bound) -> Result<Checked, Fail> {
     let alloc = host.alloc();
-    let header = three_tasks(alloc, false)?;
-    header.check()?;
-    let steps = session();
-    need_checked(rt, &header, &steps);
+    let session = session(rt, host)?;
     let name = String::from_str(alloc, name)?;
     let limits = [Wanted { name, bound }];
-    Ok(check(
-        alloc,
-        &mut Meter::new(host),
-        &header,
-        &steps,
-        false,
-        &limits,
-    )?)
+    Ok(check(alloc, &mut Meter::new(host), &session, false, &limits)?)
 }
 
 #[test]

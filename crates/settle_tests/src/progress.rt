@@ -1,8 +1,7 @@
 //! How far advice is, as it is told: after each part of at most 64 changes, and at the end.
-ghost use Rattle.std.specs.Prelude.{◌≡◌, ◌<◌, ⊤, Ok};
-ghost use Rattle.bench_types.specs.Header.{header_check};
+ghost use Rattle.std.specs.Prelude.{◌<◌, ⊤};
 
-use crate::settled::{TICK, call, need_checked, switch};
+use crate::settled::{TICK, call, session_of, switch};
 use bench_samples::{PLAIN, crowd};
 use bench_types::{Call, Header};
 use ranked_changes::{Family, Judge, Measure, Progress, advise};
@@ -62,11 +61,10 @@ fn check_told<R: Threads + Abort + Sync>(
     wanted: &[(usize, usize)],
 ) -> Result<(), Fail> {
     let header = crowd(host.alloc(), PLAIN, tasks)?;
-    header.check()?;
     let mut told = Told {
         parts: Vec::new(host.alloc()),
     };
-    let tried = tried(rt, host, &mut told, &header)?;
+    let tried = tried(rt, host, &mut told, header)?;
     assert_eq!(rt; told.parts.as_slice(), wanted);
     assert_eq!(rt; wanted.last().copied(), Some((tried, tried)));
     Ok(())
@@ -77,14 +75,12 @@ fn tried<R: Threads + Abort + Sync>(
     rt: &R,
     host: &HostRuntime,
     told: &mut Told,
-    header: &Header,
+    header: Header,
 ) -> Result<usize, Fail>
-    requires checked { header_check header.now ≡ Ok tt }
-    requires cores { 1 < header.now.config.cores }
+    requires { 1 < header.config.cores }
 {
-    header.check()?;
     let steps = [call(0, 2, Call::Delay(2)), switch(0), TICK];
-    need_checked(rt, header, &steps);
+    let session = session_of(rt, header, Vec::from_slice(host.alloc(), &steps)?)?;
     let judge = Judge {
         settled: false,
         subject: Subject::Ticks(Condition::Busy { core: 1 }),
@@ -95,6 +91,6 @@ fn tried<R: Threads + Abort + Sync>(
         mask: false,
         order: false,
     };
-    let advice = advise(rt, host, host.alloc(), told, header, &steps, judge, family)?;
+    let advice = advise(rt, host, host.alloc(), told, &session, judge, family)?;
     Ok(advice.ranked.len())
 }

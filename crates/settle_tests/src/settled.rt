@@ -1,11 +1,12 @@
 //! Settled runs. A program that was written apart from this one made the runs.
-ghost use Rattle.std.specs.Prelude.{◌≡◌, All, IsTrue, Ok};
+ghost use Rattle.std.specs.Prelude.{◌≡◌, All, IfOk, IsTrue, Ok};
 ghost use Rattle.bench_types.specs.Step.{settings_of, step_check, IsCheckedStep};
 
 use bench_samples::three_tasks;
-use bench_types::{Call, Header, Refusal, Step};
+use bench_types::{Call, CheckedSession, Header, Refusal, Step};
+use session_runs::Run;
 use settled_runs::WaitingCall;
-use settling::{SettleFault, Settled, push_left, settle};
+use settling::{SettleFault, push_left, settle};
 use smp_kernel::{Kernel, Meter};
 use std::alloc::Global;
 use std::process::Abort;
@@ -35,25 +36,54 @@ fn are_checked(header: &Header, steps: &[Step]) -> bool
 }
 
 /// Each step may stand under the header, or the test fails.
-pub(crate) fn need_checked(rt: &impl Abort, header: &Header, steps: &[Step])
+fn need_checked(rt: &impl Abort, header: &Header, steps: &[Step])
     ensures { All (IsCheckedStep (settings_of header.now)) steps.now }
 {
     assert!(rt; are_checked(header, steps));
 }
 
-fn settled_of(rt: &impl Abort, host: &HostRuntime, steps: &[Step]) -> Result<Settled, Fail> {
-    let header = three_tasks(host.alloc(), false)?;
+/// The session of these steps.
+pub(crate) fn session_of(
+    rt: &impl Abort,
+    header: Header,
+    steps: Vec<Step>,
+) -> Result<CheckedSession, Fail>
+    ensures { IfOk result
+        (λ session. session ≡ record { header = header; steps = steps.items }) }
+{
     header.check()?;
-    need_checked(rt, &header, steps);
-    Ok(settle(host.alloc(), &header, steps, &mut Meter::new(host))?)
+    need_checked(rt, &header, steps.as_slice());
+    match CheckedSession::new(header, steps) {
+        Some(session) => Ok(session),
+        None => Err(Fail::from("more steps than a session may have")),
+    }
 }
 
-fn assert_run(rt: &impl Abort, settled: &Settled, run: &[Step]) {
-    assert_eq!(rt; settled.run.as_slice(), run);
+// The session of these steps of A, B and C, with time slices or without.
+fn session_of_three(
+    rt: &impl Abort,
+    alloc: Global,
+    slicing: bool,
+    steps: &[Step],
+) -> Result<CheckedSession, Fail> {
+    session_of(
+        rt,
+        three_tasks(alloc, slicing)?,
+        Vec::from_slice(alloc, steps)?,
+    )
 }
 
-fn assert_left(rt: &impl Abort, settled: &Settled, left: &[WaitingCall]) {
-    assert_eq!(rt; settled.left.as_slice(), left);
+fn settled_of(rt: &impl Abort, host: &HostRuntime, steps: &[Step]) -> Result<Run, Fail> {
+    let session = session_of_three(rt, host.alloc(), false, steps)?;
+    Ok(settle(host.alloc(), &session, &mut Meter::new(host))?)
+}
+
+fn assert_run(rt: &impl Abort, settled: &Run, run: &[Step]) {
+    assert_eq!(rt; settled.session().steps(), run);
+}
+
+fn assert_left(rt: &impl Abort, settled: &Run, left: &[WaitingCall]) {
+    assert_eq!(rt; settled.left(), left);
 }
 
 fn check(
@@ -124,9 +154,8 @@ fn a_call_that_is_not_made(rt: HostRuntime) -> Result<(), Fail> {
 fn told_of_calls(rt: &impl Abort, host: &HostRuntime, calls: usize) -> Result<String, Fail> {
     let steps = vec![in host.alloc(); call(0, 4, Call::Yield); calls]?;
     let settled = settled_of(rt, host, steps.as_slice())?;
-    let header = three_tasks(host.alloc(), false)?;
     let mut text = String::new(host.alloc());
-    push_left(&mut text, &header, settled.left.as_slice())?;
+    push_left(&mut text, settled.session().header(), settled.left())?;
     Ok(text)
 }
 
@@ -149,16 +178,9 @@ fn fault_of_ticks(
     host: &HostRuntime,
     ticks: usize,
 ) -> Result<Option<SettleFault>, Fail> {
-    let header = three_tasks(host.alloc(), true)?;
-    header.check()?;
     let steps = vec![in host.alloc(); TICK; ticks]?;
-    need_checked(rt, &header, steps.as_slice());
-    match settle(
-        host.alloc(),
-        &header,
-        steps.as_slice(),
-        &mut Meter::new(host),
-    ) {
+    let session = session_of_three(rt, host.alloc(), true, steps.as_slice())?;
+    match settle(host.alloc(), &session, &mut Meter::new(host)) {
         Ok(_) => Ok(None),
         Err(why) => Ok(Some(why)),
     }

@@ -1,8 +1,8 @@
 //! Changes that are ranked where the settled runs of some have too many steps, and advice of them.
 //! Their order and the text were worked out by hand.
-use crate::settled::{TICK, need_checked};
+use crate::settled::{TICK, session_of};
 use bench_samples::{PLAIN, header_of};
-use bench_types::{Config, Header, MAX_STEPS, Step};
+use bench_types::{CheckedSession, Config, Header};
 use ranked_changes::{Advice, Family, Judge, Measure, Silent, Verdict, advise};
 use run_numbers::{Condition, Subject};
 use session_advice::{AdviceStatus, Advised, Question, advise_session};
@@ -27,6 +27,10 @@ fn slicing(alloc: Global) -> Result<Header, Fail> {
     Ok(header)
 }
 
+fn session(rt: &impl Abort, alloc: Global) -> Result<CheckedSession, Fail> {
+    session_of(rt, slicing(alloc)?, vec![in alloc; TICK; TICKS]?)
+}
+
 const PRIORITIES: Family = Family {
     priority: true,
     mask: false,
@@ -37,14 +41,10 @@ const PRIORITIES: Family = Family {
 fn advice<R: Threads + Abort + Sync>(
     rt: &R,
     host: &HostRuntime,
-    header: &Header,
-    steps: &[Step],
+    session: &CheckedSession,
 ) -> Result<Advice, Fail> {
-    header.check()?;
-    need_checked(rt, header, steps);
-    assert!(rt; header.config.cores == 2);
-    assert!(rt; header.tasks.as_slice().len() == 3);
-    assert!(rt; steps.len() <= MAX_STEPS as usize);
+    assert!(rt; session.header().config.cores == 2);
+    assert!(rt; session.header().tasks.as_slice().len() == 3);
     let judge = Judge {
         settled: true,
         subject: Subject::Ticks(Condition::Running { task: 4 }),
@@ -55,8 +55,7 @@ fn advice<R: Threads + Abort + Sync>(
         host,
         host.alloc(),
         &mut Silent,
-        header,
-        steps,
+        session,
         judge,
         PRIORITIES,
     )?)
@@ -90,9 +89,8 @@ fn check_ranked(rt: &impl Abort, advice: &Advice) {
 
 #[test]
 fn changes_that_make_the_run_too_long_come_last(rt: HostRuntime) -> Result<(), Fail> {
-    let header = slicing(rt.alloc())?;
-    let steps = vec![in rt.alloc(); TICK; TICKS]?;
-    let advice = advice(&rt, &rt, &header, steps.as_slice())?;
+    let session = session(&rt, rt.alloc())?;
+    let advice = advice(&rt, &rt, &session)?;
     check_ranked(&rt, &advice);
     Ok(())
 }
@@ -116,12 +114,8 @@ const TOLD: &str = "C.run is 0; 9 changes tried
 fn advised<R: Threads + Abort + Sync>(
     rt: &R,
     host: &HostRuntime,
-    header: &Header,
-    steps: &[Step],
+    session: &CheckedSession,
 ) -> Result<Advised, Fail> {
-    header.check()?;
-    need_checked(rt, header, steps);
-    assert!(rt; steps.len() <= MAX_STEPS as usize);
     let question = Question {
         name: String::from_str(host.alloc(), "C.run")?,
         settled: true,
@@ -134,17 +128,15 @@ fn advised<R: Threads + Abort + Sync>(
         host.alloc(),
         &mut Meter::new(host),
         &mut Silent,
-        header,
-        steps,
+        session,
         &question,
     )?)
 }
 
 #[test]
 fn runs_that_are_too_long_are_told_as_such(rt: HostRuntime) -> Result<(), Fail> {
-    let header = slicing(rt.alloc())?;
-    let steps = vec![in rt.alloc(); TICK; TICKS]?;
-    let printed = advised(&rt, &rt, &header, steps.as_slice())?;
+    let session = session(&rt, rt.alloc())?;
+    let printed = advised(&rt, &rt, &session)?;
     assert_eq!(&rt; printed.status, AdviceStatus::Given);
     assert_eq!(&rt; printed.text.as_str(), TOLD);
     Ok(())

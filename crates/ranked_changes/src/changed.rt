@@ -68,8 +68,8 @@ pub fn steps_with(alloc: Global, steps: &[Step], change: Change) -> Result<Vec<S
     Ok(made)
 }
 
-/// A second session in which the change is made. It has as many steps, and the same cores, tasks and
-/// mutexes.
+/// A second session in which the change is made. It has as many steps, and the same cores, tasks
+/// and mutexes.
 pub fn changed_session(
     alloc: Global,
     session: &CheckedSession,

@@ -1,5 +1,5 @@
 //! All changes of a family, tried and ranked.
-ghost use Rattle.std.specs.Prelude.{◌≡◌, ◌<◌, ◌≤◌, ◌^◌, All, IfOk, OnErr, OnOk, length};
+ghost use Rattle.std.specs.Prelude.{◌≡◌, ◌<◌, ◌^◌, All, IfOk, OnErr, OnOk, length};
 ghost use Rattle.bench_types.specs.Step.{settings_of};
 ghost use Rattle.run_numbers.specs.Readings.{IsSubjectOf};
 ghost use Rattle.ranked_changes.specs.Changed.{changed, IsChangeOf, IsHeaderChange};

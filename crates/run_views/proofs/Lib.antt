@@ -3,6 +3,7 @@ pub mod Leading
 pub mod PlaceTexts
 pub mod Refusing
 pub mod Runs
+pub mod Sessions
 pub mod Shown
 pub mod States
 pub mod Telling

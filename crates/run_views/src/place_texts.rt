@@ -1,7 +1,6 @@
 //! What a trace tells of each place.
 ghost use Rattle.std.specs.Prelude.{◌≡◌, ◌++◌, ◌+◌, ◌<◌, ◌≤◌, ◌^◌, All, IfOk, OnOk, flat_map, length, map, string_bytes};
-ghost use Rattle.bench_types.specs.Header.{IsCheckedHeader};
-ghost use Rattle.bench_types.specs.Step.{settings_of, IsCheckedStep};
+ghost use Rattle.bench_types.specs.Step.{IsCheckedStep};
 ghost use Rattle.bench_model.specs.Equal.{StandsFor};
 ghost use Rattle.bench_model.specs.Start.{start};
 ghost use Rattle.run_views.specs.PlaceTexts.{everything, place_texts, shown_text};
@@ -10,7 +9,7 @@ ghost use Rattle.run_views.specs.Trace.{place_line, step_part, trace_text, Shows
 use crate::trace_lines::{push_place_line, push_printed_step};
 use crate::watch::{Seen, Watch};
 use crate::{Look, Places};
-use bench_types::{Header, Step};
+use bench_types::{CheckedSession, Header, Step};
 use smp_kernel::Meter;
 use std::alloc::{AllocError, Global};
 
@@ -144,20 +143,19 @@ pub fn trace_by_places(
     alloc: Global,
     meter: &mut Meter,
     places: Places,
-    header: &Header,
-    steps: &[Step],
+    session: &CheckedSession,
 ) -> Result<Vec<String>, AllocError>
-    requires header { IsCheckedHeader header.now }
-    requires steps { All (IsCheckedStep (settings_of header.now)) steps.now }
-    requires few { length steps.now + 1 < 2 ^ 32 }
     ensures texts { IfOk result
-        (λ texts. map string_bytes texts.items ≡ place_texts places header.now steps.now) }
+        (λ texts. map string_bytes texts.items
+        ≡ place_texts places session.now.header session.now.steps) }
     ensures numbered { IfOk result (λ texts. places.from + length texts.items ≤ 2 ^ 32) }
     // One after another they are the whole trace of these places.
     ensures whole { IfOk result
         (λ texts. flat_map string_bytes texts.items
-        ≡ trace_text places everything header.now steps.now) }
+        ≡ trace_text places everything session.now.header session.now.steps) }
 {
+    let header = session.header();
+    let steps = session.steps();
     match Watch::start(alloc, header) {
         Ok(mut watch) => texts_of(alloc, meter, places, header, &mut watch, steps),
         Err(_) => Err(AllocError),

@@ -1,12 +1,11 @@
 //! Whether the kernel refuses a step of a run.
 ghost use Rattle.std.specs.Prelude.{◌≡◌, ◌↔◌, All, IfOk, IsTrue};
-ghost use Rattle.bench_types.specs.Session.{IsSession};
 ghost use Rattle.bench_types.specs.Step.{IsCheckedStep};
 ghost use Rattle.bench_model.specs.Equal.{StandsFor};
 ghost use Rattle.bench_model.specs.Table.{Table};
 ghost use Rattle.run_views.specs.RefusedSteps.{is_refusal, HasRefusedStep, IsRefusedFrom};
 
-use bench_types::{Header, Reply, Step};
+use bench_types::{CheckedSession, Reply, Step};
 use smp_kernel::{Kernel, Meter};
 use std::alloc::{AllocError, Global};
 
@@ -36,14 +35,13 @@ fn refuses_one(kernel: &mut Kernel, meter: &mut Meter, steps: &[Step]) -> bool
 pub fn has_refused_step(
     alloc: Global,
     meter: &mut Meter,
-    header: &Header,
-    steps: &[Step],
+    session: &CheckedSession,
 ) -> Result<bool, AllocError>
-    requires { IsSession (record { header = header.now; steps = steps.now }) }
-    ensures { IfOk result (λ found. IsTrue found ↔ HasRefusedStep header.now steps.now) }
+    ensures { IfOk result
+        (λ found. IsTrue found ↔ HasRefusedStep session.now.header session.now.steps) }
 {
-    match Kernel::start(alloc, header) {
-        Ok(mut kernel) => Ok(refuses_one(&mut kernel, meter, steps)),
+    match Kernel::start(alloc, session.header()) {
+        Ok(mut kernel) => Ok(refuses_one(&mut kernel, meter, session.steps())),
         Err(_) => Err(AllocError),
     }
 }

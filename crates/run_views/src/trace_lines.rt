@@ -1,7 +1,6 @@
 //! The lines of a trace.
 ghost use Rattle.std.specs.Prelude.{◌≡◌, ◌++◌, ◌+◌, ◌<◌, ◌^◌, All, IfOk, OnOk, flat_map, length, string_bytes};
-ghost use Rattle.bench_types.specs.Header.{IsCheckedHeader};
-ghost use Rattle.bench_types.specs.Step.{settings_of, IsCheckedStep};
+ghost use Rattle.bench_types.specs.Step.{IsCheckedStep};
 ghost use Rattle.bench_model.specs.Equal.{StandsFor};
 ghost use Rattle.bench_model.specs.Start.{start};
 ghost use Rattle.run_views.specs.Trace.{change_line, core_part, cores_part, due_text, hold_part, place_line, place_part, step_lines, step_part, printed_part, trace_text, IsPrinted, Shows};
@@ -11,7 +10,7 @@ use crate::reply_words::push_reply;
 use crate::step_words::push_step;
 use crate::watch::{Seen, Watch};
 use crate::{Change, Interest, Look, Places};
-use bench_types::{CoreLook, Header, Hold, Reply, Step};
+use bench_types::{CheckedSession, CoreLook, Header, Hold, Reply, Step};
 use smp_kernel::Meter;
 use std::alloc::{AllocError, Global};
 
@@ -272,15 +271,14 @@ pub fn trace(
     meter: &mut Meter,
     places: Places,
     interest: &Interest,
-    header: &Header,
-    steps: &[Step],
+    session: &CheckedSession,
 ) -> Result<String, AllocError>
-    requires header { IsCheckedHeader header.now }
-    requires steps { All (IsCheckedStep (settings_of header.now)) steps.now }
-    requires few { length steps.now + 1 < 2 ^ 32 }
     ensures { IfOk result
-        (λ text. string_bytes text ≡ trace_text places interest.now header.now steps.now) }
+        (λ text. string_bytes text
+        ≡ trace_text places interest.now session.now.header session.now.steps) }
 {
+    let header = session.header();
+    let steps = session.steps();
     match Watch::start(alloc, header) {
         Ok(mut watch) => printed(alloc, meter, places, interest, header, &mut watch, steps),
         Err(_) => Err(AllocError),

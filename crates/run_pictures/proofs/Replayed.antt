@@ -7,6 +7,7 @@ use Rattle.bench_types.specs.declared.kernel_data.CoreLook.{CoreLook}
 use Rattle.bench_types.specs.declared.kernel_data.Settings.{Settings}
 use Rattle.bench_types.specs.declared.step.Step.{Step}
 use Rattle.bench_types.specs.Header.{IsCheckedHeader}
+use Rattle.bench_types.specs.Session.{Session, IsCheckedSession}
 use Rattle.bench_types.specs.Step.{settings_of, IsCheckedStep}
 use Rattle.list_orders.specs.Search.{numbers}
 use Rattle.list_orders.proofs.Filters.{list_any-map}
@@ -199,3 +200,7 @@ module _ (places : Places) (header : Header) (steps : List Step) (is : IsChecked
     ticks = ticks_tiled;
     waits = decided_last places header steps;
   }
+
+-- of a checked session
+pub session_tiled : (places : Places) (session : Session) → IsCheckedSession session → IsTiled places session.header session.steps
+session_tiled places session is = all_tiled places session.header session.steps is.checked.header is.checked.steps

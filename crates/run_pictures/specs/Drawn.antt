@@ -4,7 +4,7 @@ use Rattle.bench_types.specs.declared.header.Header.{Header}
 use Rattle.bench_types.specs.declared.step.Step.{Step}
 use Rattle.bench_types.specs.Header.{IsCheckedHeader}
 use Rattle.bench_types.specs.Step.{settings_of, IsCheckedStep}
-use Rattle.run_pictures.specs.declared.picture.Run.{Run}
+use Rattle.run_pictures.specs.declared.picture.PlacedRun.{PlacedRun}
 
 pub record Drawn : Type 0 where
   pub header : Header
@@ -12,10 +12,10 @@ pub record Drawn : Type 0 where
   -- the column at which each place begins
   pub columns : List ℕ
 
-abbrev pub drawn : Run → Drawn
+abbrev pub drawn : PlacedRun → Drawn
 drawn run = record {
-  header = run.header.now;
-  steps = run.steps.now;
+  header = run.session.now.header;
+  steps = run.session.now.steps;
   columns = run.columns.now;
 }
 

@@ -36,7 +36,7 @@ pub use hindrance::{Hindrance, Obstacle};
 pub use laws::{
     law_of_bars, law_of_first_columns, law_of_hindrances, law_of_legends, law_of_waits,
 };
-pub use picture::{Extent, MAX_PLACES, Run, TooLong, law_of_places, timeline, timelines};
+pub use picture::{Extent, MAX_PLACES, PlacedRun, TooLong, law_of_places, timeline, timelines};
 pub use pose::Pose;
 pub use run_looks::{Made, RunLooks};
 pub use stance::Stance;

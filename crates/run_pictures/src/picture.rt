@@ -1,12 +1,11 @@
 //! The picture of a run, or of two runs one above the other.
-ghost use Rattle.std.specs.Prelude.{◌≡◌, ℕ, ◌++◌, ◌+◌, ◌*◌, ◌<◌, ◌≤◌, ◌^◌, All, IfOk, OnOk, flat_map, length, map, min, string_bytes};
+ghost use Rattle.std.specs.Prelude.{◌≡◌, ℕ, ◌++◌, ◌+◌, ◌*◌, ◌<◌, ◌≤◌, ◌^◌, IfOk, OnOk, flat_map, length, map, min, string_bytes};
 ghost use Rattle.list_orders.specs.Search.{numbers};
-ghost use Rattle.bench_types.specs.Header.{IsCheckedHeader};
 ghost use Rattle.bench_types.specs.Limits.{max_cores, max_tasks};
-ghost use Rattle.bench_types.specs.Step.{settings_of, IsCheckedStep};
+ghost use Rattle.bench_types.specs.Session.{IsCheckedSession};
 ghost use Rattle.run_pictures.specs.CoreBands.{core_row};
 ghost use Rattle.run_pictures.specs.Limits.{max_places};
-ghost use Rattle.run_pictures.specs.Drawn.{drawn, IsDrawable};
+ghost use Rattle.run_pictures.specs.Drawn.{drawn};
 ghost use Rattle.run_pictures.specs.Picture.{bands_text, both_text, core_rows, count_of_both, drawn_run, drawn_runs, end_of, frame_for, frame_of, headed_text, heading_text, height_text, least_width, least_text, left_of, legend_text, marks_text, mutexes_down, opening_text, panel_height, panel_text, picture_text, pictures_text, shown_at, shown_count, shown_of, size_text, task_rows, tasks_down, width_of, width_text, Answers};
 ghost use Rattle.run_pictures.specs.Shown.{shown, IsNumbered};
 ghost use Rattle.run_pictures.specs.Theorem.{IsTiled};
@@ -23,7 +22,7 @@ use crate::run_looks::RunLooks;
 use crate::signs::{Sign, legend_height, push_entries, signs_of, signs_of_both};
 use crate::style::{OPENING, STYLE};
 use crate::task_bands::push_task_row;
-use bench_types::{Header, Items, Step};
+use bench_types::{CheckedSession, Header, Items};
 use run_views::{Look, Places};
 use smp_kernel::Meter;
 use std::alloc::{AllocError, Global};
@@ -344,21 +343,18 @@ fn draw_run(
     meter: &mut Meter,
     places: Places,
     axis: Axis,
-    header: &Header,
-    steps: &[Step],
+    session: &CheckedSession,
     count: u64,
 ) -> Result<String, AllocError>
-    requires header { IsCheckedHeader header.now }
-    requires steps { All (IsCheckedStep (settings_of header.now)) steps.now }
-    requires few { length steps.now + 1 < 2 ^ 32 }
-    requires count { count ≡ shown_count places (length steps.now) }
+    requires { count ≡ shown_count places (length session.now.steps) }
     ensures { IfOk result
-        (λ text. string_bytes text ≡ picture_text places axis header.now steps.now) }
+        (λ text. string_bytes text
+        ≡ picture_text places axis session.now.header session.now.steps) }
 {
     let frame = frame_for(alloc, places, axis, count);
-    let run_looks = RunLooks::of_run(alloc, meter, places, header, steps)?;
+    let run_looks = RunLooks::of_run(alloc, meter, places, session)?;
     let panel = Panel {
-        header,
+        header: session.header(),
         frame,
         run_looks,
     };
@@ -371,56 +367,51 @@ pub fn timeline(
     alloc: Global,
     meter: &mut Meter,
     extent: Extent,
-    header: &Header,
-    steps: &[Step],
+    session: &CheckedSession,
 ) -> Result<Result<String, TooLong>, AllocError>
-    requires header { IsCheckedHeader header.now }
-    requires steps { All (IsCheckedStep (settings_of header.now)) steps.now }
-    requires few { length steps.now + 1 < 2 ^ 32 }
-    ensures picture { IfOk result (Answers (shown_count extent.places (length steps.now))
-        (picture_text extent.places extent.axis header.now steps.now)) }
+    ensures picture { IfOk result (Answers (shown_count extent.places (length session.now.steps))
+        (picture_text extent.places extent.axis session.now.header session.now.steps)) }
     // The stretches that are drawn tile what the replay has.
-    ensures tiled { IsTiled extent.places header.now steps.now }
+    ensures tiled { IsTiled extent.places session.now.header session.now.steps }
 {
     let Extent { places, axis } = extent;
-    let count = shown_count(places, steps.len());
+    let count = shown_count(places, session.steps().len());
     if count > MAX_PLACES {
         return Ok(Err(TooLong { places: count }));
     }
-    let text = draw_run(alloc, meter, places, axis, header, steps, count)?;
+    let text = draw_run(alloc, meter, places, axis, session, count)?;
     Ok(Ok(text))
 }
 
-/// A checked session's run that is drawn beside another one, and the columns at which its places
-/// begin. A place for which there is none stands at the column of its number.
+/// A session whose run is drawn beside another one, and the columns at which its places begin. A
+/// place for which there is none stands at the column of its number.
 #[derive(Clone, Copy)]
-pub struct Run<'a> {
-    pub header: &'a Header,
-    pub steps: &'a [Step],
+pub struct PlacedRun<'a> {
+    pub session: &'a CheckedSession,
     pub columns: &'a [u32],
 }
 
-fn left_of(places: Places, before: &Run<'_>, after: &Run<'_>) -> u64
+fn left_of(places: Places, before: &PlacedRun<'_>, after: &PlacedRun<'_>) -> u64
     ensures { result ≡ left_of places (drawn before.now) (drawn after.now) }
 {
     let from = u64::from(places.from);
     column_of(before.columns, from).min(column_of(after.columns, from))
 }
 
-fn end_of(places: Places, run: &Run<'_>) -> u64
-    requires { length run.now.steps.now + 1 < 2 ^ 32 }
+fn end_of(places: Places, run: &PlacedRun<'_>) -> u64
     ensures value { result ≡ end_of places (drawn run.now) }
     ensures few { result ≤ 2 ^ 32 }
+    ensures checked { IsCheckedSession run.now.session.now }
 {
-    let last = u64::from(places.to).min(run.steps.len() as u64);
+    let last = u64::from(places.to).min(run.session.steps().len() as u64);
     column_of(run.columns, last + 1)
 }
 
-fn count_of_both(places: Places, before: &Run<'_>, after: &Run<'_>) -> u64
-    requires before { length before.now.steps.now + 1 < 2 ^ 32 }
-    requires after { length after.now.steps.now + 1 < 2 ^ 32 }
+fn count_of_both(places: Places, before: &PlacedRun<'_>, after: &PlacedRun<'_>) -> u64
     ensures value { result ≡ count_of_both places (drawn before.now) (drawn after.now) }
     ensures few { result ≤ 2 ^ 32 }
+    ensures before { IsCheckedSession before.now.session.now }
+    ensures after { IsCheckedSession after.now.session.now }
 {
     let end = end_of(places, before).max(end_of(places, after));
     end.saturating_sub(left_of(places, before, after))
@@ -432,7 +423,7 @@ fn frame_of(
     axis: Axis,
     scale: Scale,
     left: u64,
-    run: &Run<'_>,
+    run: &PlacedRun<'_>,
 ) -> Result<Frame, AllocError>
     ensures { IfOk result (λ frame. frame ≡ frame_of places axis scale left (drawn run.now)) }
 {
@@ -455,18 +446,16 @@ fn panel_of<'a>(
     axis: Axis,
     scale: Scale,
     left: u64,
-    run: &Run<'a>,
+    run: &PlacedRun<'a>,
 ) -> Result<Panel<'a>, AllocError>
-    requires { IsDrawable (drawn run.now) }
     ensures panel { IfOk result
         (λ panel. shown panel ≡ shown_at places axis scale left (drawn run.now)) }
     ensures numbered { IfOk result (λ panel. IsNumbered (shown panel)) }
 {
-    let header = run.header;
     let frame = frame_of(alloc, places, axis, scale, left, run)?;
-    let run_looks = RunLooks::of_run(alloc, meter, places, header, run.steps)?;
+    let run_looks = RunLooks::of_run(alloc, meter, places, run.session)?;
     Ok(Panel {
-        header,
+        header: run.session.header(),
         frame,
         run_looks,
     })
@@ -543,12 +532,10 @@ fn draw_runs(
     meter: &mut Meter,
     places: Places,
     axis: Axis,
-    before: &Run<'_>,
-    after: &Run<'_>,
+    before: &PlacedRun<'_>,
+    after: &PlacedRun<'_>,
     count: u64,
 ) -> Result<String, AllocError>
-    requires before { IsDrawable (drawn before.now) }
-    requires after { IsDrawable (drawn after.now) }
     requires count { count ≡ count_of_both places (drawn before.now) (drawn after.now) }
     requires few { count ≤ 2 ^ 32 }
     ensures { IfOk result
@@ -569,17 +556,15 @@ pub fn timelines(
     alloc: Global,
     meter: &mut Meter,
     extent: Extent,
-    before: &Run<'_>,
-    after: &Run<'_>,
+    before: &PlacedRun<'_>,
+    after: &PlacedRun<'_>,
 ) -> Result<Result<String, TooLong>, AllocError>
-    requires before { IsDrawable (drawn before.now) }
-    requires after { IsDrawable (drawn after.now) }
     ensures picture { IfOk result
         (Answers (count_of_both extent.places (drawn before.now) (drawn after.now))
         (pictures_text extent.places extent.axis (drawn before.now) (drawn after.now))) }
     // The stretches that are drawn tile what each replay has.
-    ensures tiled { IsTiled extent.places before.now.header.now before.now.steps.now
-        × IsTiled extent.places after.now.header.now after.now.steps.now }
+    ensures tiled { IsTiled extent.places before.now.session.now.header before.now.session.now.steps
+        × IsTiled extent.places after.now.session.now.header after.now.session.now.steps }
 {
     let Extent { places, axis } = extent;
     let count = count_of_both(places, before, after);

@@ -1,14 +1,13 @@
 //! A run as far as a picture shows it.
 ghost use Rattle.std.specs.Prelude.{◌≡◌, ◌++◌, ◌+◌, ◌<◌, ◌^◌, All, IfOk, OnOk, length};
-ghost use Rattle.bench_types.specs.Header.{IsCheckedHeader};
-ghost use Rattle.bench_types.specs.Step.{settings_of, IsCheckedStep};
+ghost use Rattle.bench_types.specs.Step.{IsCheckedStep};
 ghost use Rattle.bench_model.specs.Equal.{StandsFor};
 ghost use Rattle.bench_model.specs.Start.{start};
 ghost use Rattle.bench_model.specs.Table.{Table};
 ghost use Rattle.run_views.specs.Looks.{look_of};
 ghost use Rattle.run_pictures.specs.RunLooks.{run_looks, shown_look, IsSeenRun};
 
-use bench_types::{Header, Items, Reply, Step};
+use bench_types::{CheckedSession, Header, Items, Reply, Step};
 use run_views::{Look, Places};
 use smp_kernel::{Kernel, Meter};
 use std::alloc::{AllocError, Global};
@@ -30,20 +29,19 @@ pub struct RunLooks {
 }
 
 impl RunLooks {
-    /// The looks and steps of a checked session.
+    /// The looks and steps of the session.
     #[tactic(auto, unfolding(crate::specs::RunLooks::run_looks))]
     pub fn of_run(
         alloc: Global,
         meter: &mut Meter,
         places: Places,
-        header: &Header,
-        steps: &[Step],
+        session: &CheckedSession,
     ) -> Result<RunLooks, AllocError>
-        requires header { IsCheckedHeader header.now }
-        requires steps { All (IsCheckedStep (settings_of header.now)) steps.now }
-        requires few { length steps.now + 1 < 2 ^ 32 }
-        ensures { IfOk result (λ made. made ≡ run_looks places header.now steps.now) }
+        ensures { IfOk result
+            (λ made. made ≡ run_looks places session.now.header session.now.steps) }
     {
+        let header = session.header();
+        let steps = session.steps();
         let Ok(mut kernel) = Kernel::start(alloc, header) else {
             return Err(AllocError);
         };

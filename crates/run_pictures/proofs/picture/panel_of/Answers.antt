@@ -8,11 +8,17 @@ pub returns-clause-numbered : goal.returns-clause-numbered
 unfolding run_looks
 returns-clause-numbered c =
     let places = c.args.places in
-    let header = c.args.run.now.header.now in
-    let steps = c.args.run.now.steps.now in
+    let session = c.args.run.now.session.now in
+    let checked = c.header.ensures.checked in
     let seen_run = c.in_ok-run_looks.ensures in
     let framed = c.in_ok-frame.ensures in
-    let few = looks_few places header steps (omega arith) (omega arith) in
-    let some = looks_counted places header steps (omega arith) in
-    let limits = header_facts header (passes_whole header c.requires.header.passes) in
-    record { places = rw (seen_run, framed) few; looks = rw seen_run some; cores = limits.few_cores; tasks = limits.few_tasks }
+    let few = looks_few places session.header session.steps (omega arith) (omega (arith, checked.few)) in
+    let some = looks_counted places session.header session.steps (omega (arith, checked.few)) in
+    let limits = header_facts session.header (passes_whole session.header checked.checked.header.passes) in
+    let same = c.header.ensures.header in
+    record {
+      places = rw (seen_run, framed) few;
+      looks = rw seen_run some;
+      cores = rw same limits.few_cores;
+      tasks = rw same limits.few_tasks;
+    }

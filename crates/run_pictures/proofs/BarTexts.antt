@@ -80,9 +80,9 @@ bars_are_drawn = record {
   current = λ header frame y core stretch. one_drawn frame _ _ _;
   due = due_drawn;
   hold = λ frame y stretch. hold_drawn frame y stretch stretch.value;
-  pose = λ header frame y task made detail stretch. one_drawn frame _ _ _;
+  pose = λ header frame y task detail stretch. one_drawn frame _ _ _;
   inherited = inherited_drawn;
   off = off_drawn;
   holder = λ header frame y mutex stretch. holder_drawn header frame y mutex stretch stretch.value;
-  step = λ header frame top made place. step_drawn header frame top place (slice_get made place);
+  step = λ header frame top made k. step_drawn header frame top (frame.first + k) (slice_get made k);
 }

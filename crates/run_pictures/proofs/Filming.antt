@@ -18,14 +18,14 @@ use Rattle.run_views.specs.Looks.{look_of}
 use Rattle.run_views.specs.Trace.{shows}
 use Rattle.run_views.proofs.States.{made_of, made_of_more, next_state, shown_few}
 use Rattle.run_pictures.specs.declared.run_looks.Made.{Made}
-use Rattle.run_pictures.specs.RunLooks.{IsSeenRun, looks_of, made_from, shown_look, shown_places}
+use Rattle.run_pictures.specs.RunLooks.{IsSeenRun, looks_of, made_from, where_shown, shown_places}
 
 -- what is seen at the shown ones of the first places
 abbrev pub seen : Places → Header → List Step → ℕ → List Look
 seen places header steps count = made_of (shows places) (λ place. look_of (state_at header steps place)) count
 
 pub seen_more : (places : Places) (header : Header) (steps : List Step) (place : ℕ) → seen places header steps (place + 1) ≡ seen places header steps place ++
-    shown_look places place (look_of (state_at header steps place))
+    where_shown places place (look_of (state_at header steps place))
 seen_more places header steps place = made_of_more (shows places) (λ place. look_of (state_at header steps place)) place
 
 pub record LooksSoFar (places : Places) (header : Header) (first : View) (steps : List Step) (looks_old looks : List Look) (made_old made : List Made)
@@ -33,7 +33,7 @@ pub record LooksSoFar (places : Places) (header : Header) (first : View) (steps 
   pub stands : StandsFor kernel (state_at header steps place)
   pub settings : kernel.settings ≡ first.settings
   pub seen_so : looks ≡ looks_old ++ seen places header steps place
-  pub made_so : made ++ made_from (state_at header steps place) (drop place steps) ≡ made_old ++ made_from (start header) steps
+  pub made_so : made ++ made_from places place (state_at header steps place) (drop place steps) ≡ made_old ++ made_from places 0 (start header) steps
 
 pub none_seen : (places : Places) (header : Header) (first : View) (steps : List Step) (looks : List Look) (made : List Made) → StandsFor first (start header) →
     LooksSoFar places header first steps looks looks made made first 0
@@ -48,9 +48,9 @@ none_seen places header first steps looks made starts = record {
 pub step_seen : {places : Places} {header : Header} {first : View} {steps : List Step} {looks_old looks : List Look} {made_old made : List Made} {kernel : View}
     {place : ℕ} (later : View) (looks_next : List Look) (made_next : List Made) (d : Step) (reply : Reply) → LooksSoFar places header first steps looks_old
     looks made_old made kernel place → place < length steps
-    → ((table : Table) → StandsFor kernel table → looks_next ≡ looks ++ shown_look places place (look_of table))
+    → ((table : Table) → StandsFor kernel table → looks_next ≡ looks ++ where_shown places place (look_of table))
     → ((table : Table) → StandsFor kernel table → reply ≡ (step_of (get_or steps place d) table).0)
-    → made_next ≡ made ++ record { step = get_or steps place d; reply = reply } ∷ []
+    → made_next ≡ made ++ where_shown places place (record { step = get_or steps place d; reply = reply })
     → ((table : Table) → StandsFor kernel table → StandsFor later (step_of (get_or steps place d) table).1)
     → later.settings ≡ kernel.settings
     → LooksSoFar places header first steps looks_old looks_next made_old made_next later (place + 1)
@@ -66,33 +66,34 @@ step_seen {places} {header} {first} {steps} {looks_old} {looks} {made_old} {made
     record {
       stands = rw add-one (subst (λ (t : Table). StandsFor later t) (sym next) (moves now were.stands));
       settings = settings ∙ were.settings;
-      seen_so = looked now were.stands ∙ ap (λ ls. ls ++ shown_look places place (look_of now)) were.seen_so
-          ∙ append_assoc looks_old (seen places header steps place) (shown_look places place (look_of now))
+      seen_so = looked now were.stands ∙ ap (λ ls. ls ++ where_shown places place (look_of now)) were.seen_so
+          ∙ append_assoc looks_old (seen places header steps place) (where_shown places place (look_of now))
           ∙ ap (λ ls. looks_old ++ ls) (sym (seen_more places header steps place));
       made_so = rw add-one (
-          ap (λ (t : Table). made_next ++ made_from t (drop (suc place) steps)) next
-          ∙ ap (λ ms. ms ++ made_from (step_of step now).1 (drop (suc place) steps)) (pushed ∙ ap (λ (m : Made). made ++ m ∷ []) same)
-          ∙ append_assoc made (one ∷ []) (made_from (step_of step now).1 (drop (suc place) steps))
-          ∙ ap (λ ss. made ++ made_from now ss) (sym rest)
+          ap (λ (t : Table). made_next ++ made_from places (suc place) t (drop (suc place) steps)) next
+          ∙ ap (λ ms. ms ++ made_from places (suc place) (step_of step now).1 (drop (suc place) steps))
+          (pushed ∙ ap (λ (m : Made). made ++ where_shown places place m) same)
+          ∙ append_assoc made (where_shown places place one) (made_from places (suc place) (step_of step now).1 (drop (suc place) steps))
+          ∙ ap (λ ss. made ++ made_from places place now ss) (sym rest)
           ∙ were.made_so);
     }
 
 pub all_seen : {places : Places} {header : Header} {first : View} {steps : List Step} {looks_old looks : List Look} {made_old made : List Made} {kernel : View}
     {place : ℕ} (looks_new : List Look) → LooksSoFar places header first steps looks_old looks made_old made kernel place → place ≡ length steps
-    → ((table : Table) → StandsFor kernel table → looks_new ≡ looks ++ shown_look places (length steps) (look_of table))
+    → ((table : Table) → StandsFor kernel table → looks_new ≡ looks ++ where_shown places (length steps) (look_of table))
     → IsSeenRun places header steps looks_old looks_new made_old made
 unfolding looks_of
 all_seen {places} {header} {first} {steps} {looks_old} {looks} {made_old} {made} {kernel} {place} looks_new were end looked =
     let now = state_at header steps place in
     let none : drop place steps ≡ [] = drop_all place steps (omega (arith, end)) in
-    let last : looks_new ≡ looks ++ shown_look places place (look_of now) = looked now were.stands ∙ ap (λ n. looks ++ shown_look places n (look_of now))
+    let last : looks_new ≡ looks ++ where_shown places place (look_of now) = looked now were.stands ∙ ap (λ n. looks ++ where_shown places n (look_of now))
     (sym end) in
     record {
-      looks = last ∙ ap (λ ls. ls ++ shown_look places place (look_of now)) were.seen_so
-          ∙ append_assoc looks_old (seen places header steps place) (shown_look places place (look_of now))
+      looks = last ∙ ap (λ ls. ls ++ where_shown places place (look_of now)) were.seen_so
+          ∙ append_assoc looks_old (seen places header steps place) (where_shown places place (look_of now))
           ∙ ap (λ ls. looks_old ++ ls) (sym (seen_more places header steps place))
           ∙ ap (λ n. looks_old ++ seen places header steps n) (add-one place ∙ ap suc end);
-      made = sym (append-nil made) ∙ ap (λ ss. made ++ made_from now ss) (sym none) ∙ were.made_so;
+      made = sym (append-nil made) ∙ ap (λ ss. made ++ made_from places place now ss) (sym none) ∙ were.made_so;
     }
 
 pub looks_few : (places : Places) (header : Header) (steps : List Step) → places.from < 2 ^ 32 → length steps + 1 < 2 ^ 32 → places.from + length

@@ -6,6 +6,7 @@ use Rattle.std.specs.List.{list_any, position_or_len}
 use Rattle.std.proofs.lemmas.Bool.Decides.{nat_tests}
 use Rattle.std.proofs.lemmas.List.Sums.{fails_before_first}
 use Rattle.bench_types.proofs.Passes.{header_facts, passes_whole}
+use Rattle.bench_types.specs.declared.cause.Cause.{Cause}
 use Rattle.bench_types.specs.declared.kernel_data.CoreLook.{CoreLook}
 use Rattle.bench_types.specs.declared.kernel_data.Hold.{Hold}
 use Rattle.bench_types.specs.declared.kernel_data.Settings.{Settings}
@@ -36,10 +37,10 @@ none_passes p xs k d none within = fails_before_first p xs k d (by (nat_lt (posi
     by false is found = let beyond : length xs ≤ position_or_len p xs = grind (arith, nat_tests, is) in omega (arith, beyond, within)
 
 -- a task stands ready where it is in a ready list and on no core
-stood_ready : (b : Bool) (core wake : Option ℕ) → (if b then stance_on core else Blocked wake) ≡ Ready → (b ≡ true) × (core ≡ None)
-stood_ready true None wake e = (refl, refl)
-stood_ready true (Some core) wake e = absurd (cc e)
-stood_ready false core wake e = absurd (cc e)
+stood_ready : (b : Bool) (core wake : Option ℕ) (cause : Option Cause) → (if b then stance_on core else Blocked wake cause) ≡ Ready → (b ≡ true) × (core ≡ None)
+stood_ready true None wake cause e = (refl, refl)
+stood_ready true (Some core) wake cause e = absurd (cc e)
+stood_ready false core wake cause e = absurd (cc e)
 
 cores_decided : (f : ℕ → Obstacle) (ns : List ℕ) → map (λ (hindrance : Hindrance). hindrance.core) (map (λ core. record { core = core; by = f core }) ns) ≡ ns
 cores_decided f [] = refl
@@ -95,7 +96,7 @@ module _ (table : Table) (task : ℕ) (sound : IsSound table) (ready : stance_of
   not_current : (core : ℕ) → core < table.settings.cores → current table.control core ≢ task
   not_current core few same =
       let cores = map (core_at table.control) (numbers table.settings.cores) in
-      let none = (stood_ready (is_ready task table.orders) (core_of task cores) _ ready).1 in
+      let none = (stood_ready (is_ready task table.orders) (core_of task cores) _ _ ready).1 in
       let first : CoreLook = core_at table.control core in
       let fails = none_passes (λ (look : CoreLook). look.current == task) cores core first none
       (omega (arith, few, length_each (core_at table.control) table.settings.cores)) in

@@ -154,10 +154,10 @@ module _ (frame : Frame) (count right : ℕ)
 
   module _ (top : ℕ) (made : List Made) where
     steps_apart : (k n left : ℕ) → k + n ≤ count → left ≤ right → left ≤ x_of frame (frame.first + k)
-        → StandApart frame left right (flat_map (λ k. step_shape top made (frame.first + k)) (range_with_len k n))
+        → StandApart frame left right (flat_map (step_shape frame.first top made) (range_with_len k n))
     steps_apart k zero left within fits behind = fits
     steps_apart k (suc n) left within fits behind =
-        at (is_some (slice_get made (frame.first + k)))
+        at (is_some (slice_get made k))
         (λ next fits_next ahead. steps_apart (k + 1) n next (omega (arith, within)) fits_next ahead)
       where
         next : suc (frame.first + k) ≡ frame.first + (k + 1)
@@ -174,26 +174,26 @@ module _ (frame : Frame) (count right : ℕ)
 
         at : (drawn : Bool)
             → ((next : ℕ) → next ≤ right → next ≤ x_of frame (frame.first + (k + 1))
-            → StandApart frame next right (flat_map (λ k. step_shape top made (frame.first + k)) (range_with_len (k + 1) n)))
+            → StandApart frame next right (flat_map (step_shape frame.first top made) (range_with_len (k + 1) n)))
             → StandApart frame left right (where_drawn drawn
             (record { ink = ink.Clear; first = frame.first + k; last = frame.first + k; y = top; height = 14 })
-            ++ flat_map (λ k. step_shape top made (frame.first + k)) (range_with_len (k + 1) n))
+            ++ flat_map (step_shape frame.first top made) (range_with_len (k + 1) n))
         at false more = more left fits (omega (arith, behind, later))
         at true more = (
           behind,
           more (x_of frame (frame.first + k) + width_between frame (frame.first + k) (frame.first + k)) (omega (arith, wide, most)) (omega (arith, wide)),
         )
 
-    steps_inside : (k n : ℕ) → AllByRecursion (IsWithinRow top 36) (flat_map (λ k. step_shape top made (frame.first + k)) (range_with_len k n))
+    steps_inside : (k n : ℕ) → AllByRecursion (IsWithinRow top 36) (flat_map (step_shape frame.first top made) (range_with_len k n))
     steps_inside k zero = tt
     steps_inside k (suc n) =
-        All-append (IsWithinRow top 36) (step_shape top made (frame.first + k)) (flat_map (λ k. step_shape top made (frame.first + k)) (range_with_len (k + 1) n))
-        (within_where (is_some (slice_get made (frame.first + k)))
+        All-append (IsWithinRow top 36) (step_shape frame.first top made k) (flat_map (step_shape frame.first top made) (range_with_len (k + 1) n))
+        (within_where (is_some (slice_get made k))
         (record { ink = ink.Clear; first = frame.first + k; last = frame.first + k; y = top; height = 14 })
         (record { above = omega arith; below = omega arith })) (steps_inside (k + 1) n)
 
-    pub fill_steps : FillRow frame right top 36 (flat_map (λ k. step_shape top made (frame.first + k)) (numbers count))
+    pub fill_steps : FillRow frame right top 36 (flat_map (step_shape frame.first top made) (numbers count))
     fill_steps = record {
       apart = steps_apart 0 count columns_begin (omega arith) least (x_least (frame.first + 0));
-      within = All-from_recursion (IsWithinRow top 36) (flat_map (λ k. step_shape top made (frame.first + k)) (numbers count)) (steps_inside 0 count);
+      within = All-from_recursion (IsWithinRow top 36) (flat_map (step_shape frame.first top made) (numbers count)) (steps_inside 0 count);
     }

@@ -7,6 +7,7 @@ use Rattle.std.proofs.lemmas.Bool.Decides.{nat_tests}
 use Rattle.std.proofs.lemmas.List.{get_or_default}
 use Rattle.std.proofs.lemmas.List.Elements.{Contains-append_cases, Contains-append_left, Contains-append_right, Contains-get_or}
 use Rattle.std.proofs.lemmas.List.Sums.{passes_at_first}
+use Rattle.bench_types.specs.declared.cause.Cause.{Cause}
 use Rattle.bench_types.specs.declared.kernel_data.CoreLook.{CoreLook}
 use Rattle.bench_types.specs.declared.kernel_data.Hold.{Hold}
 use Rattle.list_orders.specs.Search.{numbers}
@@ -79,10 +80,10 @@ not_true false is = refl
 
 -- ---- what is found of a task on a core
 
-ran : (stands : Standing) (core : Option ℕ) (k : ℕ) → stance_with stands core ≡ Runs k → core ≡ Some k
-ran standing.Ready None k is = absurd (cc is)
-ran standing.Ready (Some core) k is = cc is
-ran (standing.Blocked wake) core k is = absurd (cc is)
+ran : (stands : Standing) (cause : Option Cause) (core : Option ℕ) (k : ℕ) → stance_with stands cause core ≡ Runs k → core ≡ Some k
+ran standing.Ready cause None k is = absurd (cc is)
+ran standing.Ready cause (Some core) k is = cc is
+ran (standing.Blocked wake) cause core k is = absurd (cc is)
 
 abbrev runs_task : ℕ → CoreLook → Bool
 runs_task task core = core.current == task
@@ -353,7 +354,8 @@ module _ (shown : Shown) (top : ℕ)
   used_by_stance : (user : ℕ) (look : Look) (wanted : Sign) (tint : Ink) (stance : Stance) → user < users → Contains looks look
       → stance_in (cores + user) look ≡ stance → tint ≡ stance_ink user stance → sign_of tint ≡ Some wanted → IsUsed wanted
   used_by_stance user look wanted tint (Runs core) few has stands same is =
-      let runs = found_any (cores + user) look.cores core (ran (status_in (cores + user) look).standing (core_of (cores + user) look.cores) core stands) in
+      let runs = found_any (cores + user) look.cores core (ran (status_in (cores + user) look).standing
+      (status_in (cores + user) look).cause (core_of (cores + user) look.cores) core stands) in
       let user_runs : nat_lt (runs.0).current cores ≡ false = grind (arith, nat_tests, runs.2) in
       used_so sign.Running wanted tint (ink.Runs user) refl same is
       (any_to (has_user cores) looks look has (any_to (λ one. not (nat_lt one.current cores)) look.cores runs.0 runs.1 (ap not user_runs)))
@@ -361,7 +363,7 @@ module _ (shown : Shown) (top : ℕ)
       used_so sign.Ready wanted tint (ink.Ready user) refl same is
       (any_to (has_ready shown.header) looks look has
       (any_to (λ u. stands_ready (stance_in (cores + u) look)) (numbers users) user (number_to users user few) (ap stands_ready stands)))
-  used_by_stance user look wanted tint (Blocked wake) few has stands same is =
+  used_by_stance user look wanted tint (Blocked wake cause) few has stands same is =
       used_so sign.Blocked wanted tint ink.Waits refl same is
       (any_to (has_blocked shown.header) looks look has
       (any_to (λ u. is_blocked (stance_in (cores + u) look)) (numbers users) user (number_to users user few) (ap is_blocked stands)))
@@ -465,7 +467,7 @@ module _ (shown : Shown) (top : ℕ)
 
     by_steps : Contains of_steps bar → IsUsed wanted
     by_steps has =
-        let found = flat_from (λ k. step_shape top shown.run_looks.made (first + k)) (numbers (length looks)) bar has in
+        let found = flat_from (step_shape first top shown.run_looks.made) (numbers (length looks)) bar has in
         let one = one_drawn _ _ bar found.2 in
         not_seen wanted bar.ink ink.Clear refl (sym (ap (λ (b : Bar). b.ink) one.1)) is
 
@@ -513,10 +515,10 @@ module _ (shown : Shown) (top : ℕ)
       | inr one ↦ by_steps one
     ]
 
-  by_mark : (k : ℕ) (given : Mark) → k < length looks → mark_at shown.run_looks.made (first + k) ≡ Some given → IsUsed (sign_of_mark given)
-  by_mark k mark.Interrupt within made = any_to (λ k. is_interrupt (mark_at shown.run_looks.made (first + k))) (numbers (length looks)) k
+  by_mark : (k : ℕ) (given : Mark) → k < length looks → mark_at shown.run_looks.made k ≡ Some given → IsUsed (sign_of_mark given)
+  by_mark k mark.Interrupt within made = any_to (λ k. is_interrupt (mark_at shown.run_looks.made k)) (numbers (length looks)) k
       (number_to (length looks) k within) (ap is_interrupt made)
-  by_mark k mark.Refused within made = any_to (λ k. is_refusal (mark_at shown.run_looks.made (first + k))) (numbers (length looks)) k
+  by_mark k mark.Refused within made = any_to (λ k. is_refusal (mark_at shown.run_looks.made k)) (numbers (length looks)) k
       (number_to (length looks) k within) (ap is_refusal made)
 
   pub drawn_used : (wanted : Sign) → IsDrawn shown top wanted → IsUsed wanted
@@ -547,12 +549,12 @@ module _ (shown : Shown) (top : ℕ)
   ready_is : (stance : Stance) (user : ℕ) → stands_ready stance ≡ true → sign_of (stance_ink user stance) ≡ Some sign.Ready
   ready_is Ready user is = refl
   ready_is (Runs core) user is = absurd (true≢false (sym is))
-  ready_is (Blocked wake) user is = absurd (true≢false (sym is))
+  ready_is (Blocked wake cause) user is = absurd (true≢false (sym is))
 
   blocked_is : (stance : Stance) (user : ℕ) → is_blocked stance ≡ true → sign_of (stance_ink user stance) ≡ Some sign.Blocked
   blocked_is Ready user is = absurd (true≢false (sym is))
   blocked_is (Runs core) user is = absurd (true≢false (sym is))
-  blocked_is (Blocked wake) user is = refl
+  blocked_is (Blocked wake cause) user is = refl
 
   own_held : (hold : Option Hold) → is_some hold ≡ true → (core : ℕ) × (one : Hold) × (hold ≡ Some one) × (one.core ≡ core) × (is_some (own_hold core hold) ≡ true)
   own_held None is = absurd (true≢false (sym is))
@@ -606,20 +608,20 @@ module _ (shown : Shown) (top : ℕ)
       let drawn = taken_drawn seen.0 (number_from shown.header.config.mutexes seen.0 seen.1) seen.2 in
       inl (record { bar = drawn.0; drawn = drawn.1; so = drawn.2 })
   used_drawn sign.Interrupt used =
-      let seen = any_from (λ k. is_interrupt (mark_at shown.run_looks.made (first + k))) (numbers (length looks)) used in
+      let seen = any_from (λ k. is_interrupt (mark_at shown.run_looks.made k)) (numbers (length looks)) used in
       inr (record {
         k = seen.0;
         within = number_from (length looks) seen.0 seen.1;
         mark = mark.Interrupt;
-        made = mark_is (mark_at shown.run_looks.made (first + seen.0)) seen.2;
+        made = mark_is (mark_at shown.run_looks.made seen.0) seen.2;
         so = refl;
       })
   used_drawn sign.Refused used =
-      let seen = any_from (λ k. is_refusal (mark_at shown.run_looks.made (first + k))) (numbers (length looks)) used in
+      let seen = any_from (λ k. is_refusal (mark_at shown.run_looks.made k)) (numbers (length looks)) used in
       inr (record {
         k = seen.0;
         within = number_from (length looks) seen.0 seen.1;
         mark = mark.Refused;
-        made = refusal_is (mark_at shown.run_looks.made (first + seen.0)) seen.2;
+        made = refusal_is (mark_at shown.run_looks.made seen.0) seen.2;
         so = refl;
       })

@@ -18,4 +18,3 @@ pub mod Rows
 pub mod Seen
 pub mod Tiling
 pub mod Unfinished
-pub mod Waiting

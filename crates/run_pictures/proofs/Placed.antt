@@ -56,7 +56,7 @@ within_pose : (user y : ℕ) (first last : ℕ) (stance : Stance) → IsWithinRo
     (stance_shape user y (record { first = first; last = last; value = stance }))
 within_pose user y first last (Runs core) = record { above = omega arith; below = omega arith }
 within_pose user y first last Ready = record { above = omega arith; below = omega arith }
-within_pose user y first last (Blocked wake) = record { above = omega arith; below = omega arith }
+within_pose user y first last (Blocked wake cause) = record { above = omega arith; below = omega arith }
 
 -- of a run whose columns climb
 module _ (shown : Shown) (top right : ℕ)

@@ -45,7 +45,6 @@ use Rattle.run_pictures.proofs.Seen.{core_seen, hold_seen, holder_seen, kept_set
 use Rattle.run_pictures.proofs.Seen.{terms_seen, tick_seen}
 use Rattle.run_pictures.proofs.Opened.{all_told, look_there, stances_opened}
 use Rattle.run_pictures.proofs.Tiling.{tiled}
-use Rattle.run_pictures.proofs.Waiting.{decided_last}
 
 -- what is seen in each look, and what is so in each state
 seen_in : {X : Type 0} (in_look : Look → X) (of_table : Table → X) (states : ℕ → Table) →
@@ -198,7 +197,6 @@ module _ (places : Places) (header : Header) (steps : List Step) (is : IsChecked
     holders = holder_tiled;
     taken = taken_decided;
     ticks = ticks_tiled;
-    waits = decided_last places header steps;
   }
 
 -- of a checked session

@@ -3,6 +3,7 @@ use Rattle.std.proofs.Common.{◌≡◌, ℕ, suc, ◌<◌, List, length, map, t
 use Rattle.std.specs.Prelude.{All, if◌then◌else◌}
 use Rattle.std.proofs.lemmas.List.FromFn.{get_or-map-range_with_len}
 use Rattle.std.proofs.lemmas.List.Elements.{All-take}
+use Rattle.bench_types.specs.declared.cause.Cause.{Cause}
 use Rattle.bench_types.specs.declared.header.Header.{Header}
 use Rattle.bench_types.specs.declared.step.Step.{Step}
 use Rattle.bench_types.specs.Header.{IsCheckedHeader}
@@ -32,7 +33,7 @@ use Rattle.run_pictures.specs.TaskNames.{terms_in}
 use Rattle.run_pictures.specs.Theorem.{priorities_at, terms_at}
 
 -- the steps are checked under the settings of the start
-checked_at_start : (header : Header) (steps : List Step) → All (IsCheckedStep (settings_of header)) steps → All (IsCheckedStep (start header).settings) steps
+pub checked_at_start : (header : Header) (steps : List Step) → All (IsCheckedStep (settings_of header)) steps → All (IsCheckedStep (start header).settings) steps
 checked_at_start header steps checked = subst (λ settings. All (IsCheckedStep settings) steps) (sym (start_settings header)) checked
 
 -- a session keeps the settings of its header
@@ -86,17 +87,17 @@ pub terms_seen : (table : Table) (task : ℕ) → task < table.settings.tasks �
 unfolding task_look
 terms_seen table task few = λ i. record { base = (status_seen table task few i).base; mask = (status_seen table task few i).mask }
 
-stood : (b : Bool) (wake core : Option ℕ) → stance_with (if b then standing.Ready else standing.Blocked wake) core ≡
-    (if b then stance_on core else Blocked wake)
-stood true wake core = refl
-stood false wake core = refl
+stood : (b : Bool) (wake : Option ℕ) (cause : Option Cause) (core : Option ℕ) → stance_with (if b then standing.Ready else standing.Blocked wake) cause core ≡
+    (if b then stance_on core else Blocked wake cause)
+stood true wake cause core = refl
+stood false wake cause core = refl
 
 pub stance_seen : (table : Table) (task : ℕ) → task < table.settings.tasks → stance_in task (look_of table) ≡ stance_of table task
 unfolding look_of task_look
 stance_seen table task few =
-    ap (λ (status : TaskStatus). stance_with status.standing (core_of task (map (core_at table.control) (numbers table.settings.cores))))
+    ap (λ (status : TaskStatus). stance_with status.standing status.cause (core_of task (map (core_at table.control) (numbers table.settings.cores))))
     (status_seen table task few)
-    ∙ stood (is_ready task table.orders) _ _
+    ∙ stood (is_ready task table.orders) _ _ _
 
 -- ---- what is in the way of a task
 

@@ -22,7 +22,6 @@ use Rattle.run_pictures.specs.Marks.{mark_in, mark_of, step_at, step_words}
 use Rattle.run_pictures.specs.MutexLines.{held_words, holder_bar}
 use Rattle.run_pictures.specs.Preemption.{off_bar}
 use Rattle.run_pictures.specs.TaskBands.{inherited_bar, inherited_words, pose_bar, pose_words, stance_label, stance_stretch}
-use Rattle.run_pictures.specs.Waits.{last_wait}
 
 -- each of the bars with these words
 abbrev pub bars_text : Frame → List ℕ → List Bar → List ℕ
@@ -78,13 +77,12 @@ pub record BarsAreDrawn : Type 0 where
       → hold_bar frame y stretch
       ≡ bars_text frame (words_of_hold stretch.first stretch.last stretch.value)
       (hold_shape y stretch)
-  pub pose : (header : Header) (frame : Frame) (y task : ℕ) (made : List Made) (detail : Detail)
+  pub pose : (header : Header) (frame : Frame) (y task : ℕ) (detail : Detail)
       (stretch : Stretch Pose)
-      → let wait = last_wait task made stretch.first in
-      pose_bar header frame y task made detail stretch
-      ≡ bars_text frame (pose_words header task wait detail stretch)
+      → pose_bar header frame y task detail stretch
+      ≡ bars_text frame (pose_words header task detail stretch)
       (pose_shape (task - header.config.cores) y stretch)
-      ++ stance_label frame y wait (stance_stretch stretch)
+      ++ stance_label frame y (stance_stretch stretch)
   pub inherited : (header : Header) (frame : Frame) (y task : ℕ) (stretch : Stretch Priorities)
       → inherited_bar header frame y task stretch
       ≡ bars_text frame (inherited_words header task stretch) (inherited_shape y stretch)
@@ -97,8 +95,8 @@ pub record BarsAreDrawn : Type 0 where
       (words_of_holder header mutex stretch.first stretch.last stretch.value)
       (held_shape header.config.cores y stretch)
       ++ label_of_holder header frame y stretch.first stretch.last stretch.value
-  pub step : (header : Header) (frame : Frame) (top : ℕ) (made : List Made) (place : ℕ)
-      → step_at header frame top made place
-      ≡ bars_text frame (words_of_step header place (slice_get made place))
-      (step_shape top made place)
-      ++ mark_of_step header frame top place (slice_get made place)
+  pub step : (header : Header) (frame : Frame) (top : ℕ) (made : List Made) (k : ℕ)
+      → step_at header frame top made k
+      ≡ bars_text frame (words_of_step header (frame.first + k) (slice_get made k))
+      (step_shape frame.first top made k)
+      ++ mark_of_step header frame top (frame.first + k) (slice_get made k)

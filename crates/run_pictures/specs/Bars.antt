@@ -65,10 +65,10 @@ held_over cores y stretch (Some task) = bar_over (ink.Taken (task - cores)) y 14
 abbrev pub held_shape : ℕ → ℕ → Stretch (Option ℕ) → List Bar
 held_shape cores y stretch = held_over cores y stretch stretch.value
 
--- of a place the bar over which its step is told
-abbrev pub step_shape : ℕ → List Made → ℕ → List Bar
-step_shape y made place = where_drawn (is_some (slice_get made place))
-    (record { ink = ink.Clear; first = place; last = place; y = y; height = 14 })
+-- of the k-th place from the first on the bar over which its step is told
+abbrev pub step_shape : ℕ → ℕ → List Made → ℕ → List Bar
+step_shape first y made k = where_drawn (is_some (slice_get made k))
+    (record { ink = ink.Clear; first = first + k; last = first + k; y = y; height = 14 })
 
 -- ---- of a row, where the run begins so far below the top
 
@@ -88,7 +88,7 @@ tick_bars shown top =
 
 abbrev pub step_bars : Shown → ℕ → List Bar
 step_bars shown top =
-    flat_map (λ k. step_shape top shown.run_looks.made (shown.frame.first + k))
+    flat_map (step_shape shown.frame.first top shown.run_looks.made)
     (numbers (length shown.run_looks.looks))
 
 abbrev pub current_bars : Shown → ℕ → ℕ → List Bar

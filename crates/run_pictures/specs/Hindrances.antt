@@ -42,7 +42,7 @@ obstacle_at own hold site =
 abbrev pub where_ready : Stance → List Hindrance → List Hindrance
 where_ready Ready hindrances = hindrances
 where_ready (Runs core) hindrances = []
-where_ready (Blocked wake) hindrances = []
+where_ready (Blocked wake cause) hindrances = []
 
 -- ---- in a look
 

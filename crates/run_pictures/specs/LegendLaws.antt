@@ -1,5 +1,5 @@
 -- A sign stands in the legend just where a bar of such an ink, or such a mark, is drawn.
-use Rattle.std.specs.Prelude.{◌≡◌, ◌<◌, ℕ, ◌+◌, ◌⊎◌, ◌↔◌, List, All, Contains, length, Option, Some, None}
+use Rattle.std.specs.Prelude.{◌≡◌, ◌<◌, ℕ, ◌⊎◌, ◌↔◌, List, All, Contains, length, Option, Some, None}
 use Rattle.bench_types.specs.declared.header.Header.{Header}
 use Rattle.bench_types.specs.declared.step.Step.{Step}
 use Rattle.bench_types.specs.Header.{IsCheckedHeader}
@@ -51,7 +51,7 @@ pub record HasMark (shown : Shown) (sign : Sign) : Type 0 where
   pub k : ℕ
   pub within : k < length shown.run_looks.looks
   pub mark : Mark
-  pub made : mark_at shown.run_looks.made (shown.frame.first + k) ≡ Some mark
+  pub made : mark_at shown.run_looks.made k ≡ Some mark
   pub so : sign_of_mark mark ≡ sign
 
 abbrev pub IsDrawn : Shown → ℕ → Sign → Type 0

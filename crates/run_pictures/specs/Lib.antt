@@ -33,4 +33,3 @@ pub mod TaskNames
 pub mod Theorem
 pub mod TickColumns
 pub mod WaitLaws
-pub mod Waits

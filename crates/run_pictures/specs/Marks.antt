@@ -7,6 +7,7 @@ use Rattle.bench_types.specs.declared.reply.Reply.{Reply}
 use Rattle.bench_types.specs.declared.step.Step.{Step}
 use Rattle.bench_types.specs.declared.step.Step.TheVariants as step
 use Rattle.bench_types.specs.Step.{core_of}
+use Rattle.run_views.specs.RefusedSteps.{is_refusal}
 use Rattle.run_views.specs.ReplyWords.{reply_words}
 use Rattle.run_views.specs.StepWords.{step_text}
 use Rattle.run_pictures.specs.declared.run_looks.Made.{Made}
@@ -18,7 +19,6 @@ use Rattle.run_pictures.specs.declared.marks.Mark.TheVariants.{Refused, Interrup
 use Rattle.run_pictures.specs.Bar.{bar_text}
 use Rattle.run_pictures.specs.Escape.{escaped}
 use Rattle.run_pictures.specs.Frame.{pixels, x_of}
-use Rattle.run_pictures.specs.Waits.{is_refused}
 
 abbrev pub interrupt_mark : Step → Option Mark
 interrupt_mark (step.Interrupt core note) = Some Interrupt
@@ -26,7 +26,7 @@ interrupt_mark other = None
 
 -- what is marked of a step
 abbrev pub mark_of : Made → Option Mark
-mark_of made = if is_refused made.reply then Some Refused else interrupt_mark made.step
+mark_of made = if is_refusal made.reply then Some Refused else interrupt_mark made.step
 
 -- the step in the words of a trace, and its reply on a line of its own
 abbrev pub step_words : Header → ℕ → Step → Reply → List ℕ
@@ -71,10 +71,10 @@ abbrev pub step_part : Header → Frame → ℕ → ℕ → Option Made → List
 step_part header frame top place None = []
 step_part header frame top place (Some made) = step_cell header frame top place made
 
--- what is marked at the place
+-- what is marked at the k-th of the places that are shown
 abbrev pub mark_at : List Made → ℕ → Option Mark
-mark_at made place = option_and_then mark_of (slice_get made place)
+mark_at made k = option_and_then mark_of (slice_get made k)
 
--- the step that is made at the place, if there is one
+-- the step that is made there, if there is one
 abbrev pub step_at : Header → Frame → ℕ → List Made → ℕ → List ℕ
-step_at header frame top made place = step_part header frame top place (slice_get made place)
+step_at header frame top made k = step_part header frame top (frame.first + k) (slice_get made k)

@@ -7,7 +7,6 @@ use Rattle.bench_types.specs.declared.step.Step.{Step}
 use Rattle.list_orders.specs.Search.{numbers}
 use Rattle.run_views.specs.declared.look.Look.{Look}
 use Rattle.run_views.specs.declared.places.Places.{Places}
-use Rattle.run_pictures.specs.declared.run_looks.RunLooks.{RunLooks}
 use Rattle.run_pictures.specs.declared.frame.Axis.{Axis}
 use Rattle.run_pictures.specs.declared.frame.Frame.{Frame}
 use Rattle.run_pictures.specs.declared.frame.Scale.{Scale}
@@ -96,10 +95,10 @@ core_rows header frame y looks =
     (numbers header.config.cores)
 
 -- of the user tasks
-abbrev pub task_rows : Header → Frame → ℕ → RunLooks → List ℕ
-task_rows header frame y run_looks =
-    let detail = detail_for header frame.first run_looks.looks in
-    flat_map (λ user. task_row header frame (y + TASK_ROW * user) run_looks detail
+abbrev pub task_rows : Header → Frame → ℕ → List Look → List ℕ
+task_rows header frame y looks =
+    let detail = detail_for header frame.first looks in
+    flat_map (λ user. task_row header frame (y + TASK_ROW * user) looks detail
     (header.config.cores + user))
     (numbers (length header.tasks))
 
@@ -110,7 +109,7 @@ bands_text shown top =
     let frame = shown.frame in
     let looks = shown.run_looks.looks in
     axis_row frame top looks ++ core_rows header frame (top + 36) looks
-    ++ task_rows header frame (top + tasks_down header) shown.run_looks
+    ++ task_rows header frame (top + tasks_down header) looks
     ++ taken_rows header frame (top + mutexes_down header) looks
 
 -- what its steps are, and where its ticks begin
@@ -119,8 +118,7 @@ marks_text shown top =
     let header = shown.header in
     let frame = shown.frame in
     let looks = shown.run_looks.looks in
-    flat_map (λ k. step_at header frame top shown.run_looks.made (frame.first + k))
-    (numbers (length looks))
+    flat_map (step_at header frame top shown.run_looks.made) (numbers (length looks))
     ++ tick_rules frame top (top + panel_height header looks) looks
 
 -- a run, from the top on

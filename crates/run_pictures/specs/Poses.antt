@@ -58,7 +58,7 @@ detailed_stretches FirstPlace first looks task =
 abbrev pub stands_ready : Stance → Bool
 stands_ready Ready = true
 stands_ready (Runs core) = false
-stands_ready (Blocked wake) = false
+stands_ready (Blocked wake cause) = false
 
 -- how many of the stretches are of a ready task
 abbrev pub count_ready : List (Stretch Pose) → ℕ

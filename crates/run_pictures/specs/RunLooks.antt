@@ -22,25 +22,27 @@ unfoldable pub looks_of : Places → Header → List Step → List Look
 looks_of places header steps =
     map (λ place. look_of (state_at header steps place)) (shown_places places steps)
 
--- the steps from a table on, each with its reply
-abbrev pub made_from : Table → List Step → List Made
-made_from table [] = []
-made_from table (step ∷ steps) =
+-- what the place has, where it is shown
+abbrev pub where_shown : {X : Type 0} → Places → ℕ → X → List X
+where_shown places place one = if shows places place then one ∷ [] else []
+
+-- of the steps from a table on those that are made at places that are shown, each with its reply;
+-- the first step is made at the place
+abbrev pub made_from : Places → ℕ → Table → List Step → List Made
+made_from places place table [] = []
+made_from places place table (step ∷ steps) =
     let outcome = step_of step table in
-    record { step = step; reply = outcome.0 } ∷ made_from outcome.1 steps
+    where_shown places place (record { step = step; reply = outcome.0 })
+    ++ made_from places (suc place) outcome.1 steps
 
 unfoldable pub run_looks : Places → Header → List Step → RunLooks
 run_looks places header steps = record {
   looks = looks_of places header steps;
-  made = made_from (start header) steps;
+  made = made_from places 0 (start header) steps;
 }
-
--- what can be seen at the place, where it is shown
-abbrev pub shown_look : Places → ℕ → Look → List Look
-shown_look places place look = if shows places place then look ∷ [] else []
 
 -- the run was filmed
 pub record IsSeenRun (places : Places) (header : Header) (steps : List Step)
     (looks_old looks_new : List Look) (made_old made_new : List Made) : Type 0 where
   pub looks : looks_new ≡ looks_old ++ looks_of places header steps
-  pub made : made_new ≡ made_old ++ made_from (start header) steps
+  pub made : made_new ≡ made_old ++ made_from places 0 (start header) steps

@@ -1,7 +1,7 @@
 -- Whether what bands show is the same.
 use Rattle.std.specs.Prelude.{Bool, true, false, ◌&&◌, ◌==◌}
-use Rattle.bench_model.specs.SameTest.{are_same_bools, are_same_lists}
-use Rattle.run_views.specs.Changes.{are_same_numbers}
+use Rattle.bench_model.specs.SameTest.{are_same_bools, are_same_lists, are_same_options}
+use Rattle.run_views.specs.Changes.{are_same_causes, are_same_numbers}
 use Rattle.run_pictures.specs.declared.hindrance.Hindrance.{Hindrance}
 use Rattle.run_pictures.specs.declared.hindrance.Obstacle.{Obstacle}
 use Rattle.run_pictures.specs.declared.hindrance.Obstacle.TheVariants as obstacle
@@ -24,7 +24,8 @@ are_same_terms a b = a.base == b.base && a.mask == b.mask
 abbrev pub are_same_stances : Stance → Stance → Bool
 are_same_stances (Runs core) (Runs other) = core == other
 are_same_stances Ready Ready = true
-are_same_stances (Blocked wake) (Blocked other) = are_same_numbers wake other
+are_same_stances (Blocked wake cause) (Blocked other reason) =
+    are_same_numbers wake other && are_same_options are_same_causes cause reason
 are_same_stances a b = false
 
 abbrev pub are_same_obstacles : Obstacle → Obstacle → Bool

@@ -36,7 +36,7 @@ is_held look = is_some look.hold
 abbrev pub is_blocked : Stance → Bool
 is_blocked stance.Ready = false
 is_blocked (stance.Runs core) = false
-is_blocked (stance.Blocked wake) = true
+is_blocked (stance.Blocked wake cause) = true
 
 -- some user task stands ready and on no core
 abbrev pub has_ready : Header → Look → Bool
@@ -72,14 +72,12 @@ is_refusal (Some mark.Refused) = true
 is_refusal (Some mark.Interrupt) = false
 is_refusal None = false
 
--- at one of so many places from the first on an interrupt is marked
-abbrev pub has_interrupt : List Made → ℕ → ℕ → Bool
-has_interrupt made first count =
-    list_any (λ k. is_interrupt (mark_at made (first + k))) (numbers count)
+-- at one of so many places that are shown an interrupt is marked
+abbrev pub has_interrupt : List Made → ℕ → Bool
+has_interrupt made count = list_any (λ k. is_interrupt (mark_at made k)) (numbers count)
 
-abbrev pub has_refusal : List Made → ℕ → ℕ → Bool
-has_refusal made first count =
-    list_any (λ k. is_refusal (mark_at made (first + k))) (numbers count)
+abbrev pub has_refusal : List Made → ℕ → Bool
+has_refusal made count = list_any (λ k. is_refusal (mark_at made k)) (numbers count)
 
 -- whether a run has what the sign stands for, at a place that is shown
 abbrev pub is_used : Shown → Sign → Bool
@@ -93,10 +91,8 @@ is_used shown Inherited = list_any (has_inherited shown.header) shown.run_looks.
 is_used shown PreemptionOff = list_any (has_unpreempted shown.header) shown.run_looks.looks
 is_used shown Taken =
     list_any (is_taken shown.run_looks.looks) (numbers shown.header.config.mutexes)
-is_used shown Interrupt =
-    has_interrupt shown.run_looks.made shown.frame.first (length shown.run_looks.looks)
-is_used shown Refused =
-    has_refusal shown.run_looks.made shown.frame.first (length shown.run_looks.looks)
+is_used shown Interrupt = has_interrupt shown.run_looks.made (length shown.run_looks.looks)
+is_used shown Refused = has_refusal shown.run_looks.made (length shown.run_looks.looks)
 
 -- in their order
 abbrev pub all_signs : List Sign

@@ -1,11 +1,13 @@
 -- How tasks stand.
 use Rattle.std.specs.Prelude.{ℕ, ◌+◌, ◌%◌, ◌^◌, ◌==◌, List, map, position, slice_index_or, false, Option, Some, None, option_map, if◌then◌else◌}
+use Rattle.bench_types.specs.declared.cause.Cause.{Cause}
 use Rattle.bench_types.specs.declared.kernel_data.CoreLook.{CoreLook}
 use Rattle.bench_types.specs.declared.note.NoteState.TheVariants.{NotWaiting}
 use Rattle.list_orders.specs.Search.{numbers}
 use Rattle.bench_model.specs.Control.{core_at}
 use Rattle.bench_model.specs.Looks.{ticks_left}
 use Rattle.bench_model.specs.Table.{Table, is_ready, tick_count}
+use Rattle.run_views.specs.Looks.{cause_in}
 use Rattle.run_views.specs.declared.look.Look.{Look}
 use Rattle.run_views.specs.declared.look.Standing.{Standing}
 use Rattle.run_views.specs.declared.look.Standing.TheVariants as standing
@@ -21,7 +23,7 @@ status_in task look = slice_index_or look.tasks task (record {
   base = 0;
   mask = 0;
   preempt = false;
-  in_call = false;
+  cause = None;
   value = 0;
   state = NotWaiting;
 })
@@ -34,19 +36,22 @@ abbrev pub stance_on : Option ℕ → Stance
 stance_on None = Ready
 stance_on (Some core) = Runs core
 
-abbrev pub stance_with : Standing → Option ℕ → Stance
-stance_with standing.Ready core = stance_on core
-stance_with (standing.Blocked wake) core = Blocked wake
+abbrev pub stance_with : Standing → Option Cause → Option ℕ → Stance
+stance_with standing.Ready cause core = stance_on core
+stance_with (standing.Blocked wake) cause core = Blocked wake cause
 
 -- how the task stands in a look
 abbrev pub stance_in : ℕ → Look → Stance
-stance_in task look = stance_with (status_in task look).standing (core_of task look.cores)
+stance_in task look =
+    let status = status_in task look in
+    stance_with status.standing status.cause (core_of task look.cores)
 
 -- How the task stands in a state: a task that is in no ready list is blocked, for the ticks that
--- are left or without end; one that is ready runs where it is the current task of a core.
+-- are left or without end, and waits for what its unfinished call waits for; one that is ready runs
+-- where it is the current task of a core.
 abbrev pub stance_of : Table → ℕ → Stance
 stance_of table task =
     if is_ready task table.orders
     then stance_on (core_of task (map (core_at table.control) (numbers table.settings.cores)))
     else Blocked (option_map (λ left. (tick_count table.orders + left) % 2 ^ 32)
-    (ticks_left task table.orders))
+    (ticks_left task table.orders)) (cause_in table task)

@@ -18,7 +18,7 @@ use Rattle.run_pictures.specs.declared.stance.Stance.{Stance}
 use Rattle.run_pictures.specs.declared.stretch.Stretch.{Stretch}
 use Rattle.run_pictures.specs.declared.task_names.Terms.{Terms}
 use Rattle.run_pictures.specs.Hindrances.{hindrances_of}
-use Rattle.run_pictures.specs.RunLooks.{run_looks, looks_of, shown_places}
+use Rattle.run_pictures.specs.RunLooks.{looks_of, shown_places}
 use Rattle.run_pictures.specs.MutexLines.{taken_mutexes}
 use Rattle.run_pictures.specs.Poses.{detailed_stretches, pose_of, pose_stretches, stance_of_pose}
 use Rattle.run_pictures.specs.Preemption.{preempt_stretches}
@@ -27,7 +27,6 @@ use Rattle.run_pictures.specs.TaskStretches.{tick_stretches}
 use Rattle.run_pictures.specs.Stances.{stance_of}
 use Rattle.run_pictures.specs.StretchesOf.{with_value, Tiles}
 use Rattle.run_pictures.specs.TaskNames.{terms_stretches}
-use Rattle.run_pictures.specs.Waits.{last_wait, wait_made, IsLast}
 
 abbrev pub priorities_at : Table → ℕ → Priorities
 priorities_at table task = record {
@@ -114,9 +113,8 @@ pub record AreOpened (places : Places) (header : Header) (steps : List Step) (ta
   pub first : All (λ stretch. stretch.value.hindrances
       ≡ hindrances_of (state_at header steps stretch.first) task) stretches
 
--- the stretches that are drawn tile what the replay has at the places that are shown, a mutex has a
--- row where a task holds it at one of these, and a task is told to wait for what it began to wait
--- for last in the replay
+-- the stretches that are drawn tile what the replay has at the places that are shown, and a mutex has
+-- a row where a task holds it at one of these
 pub record IsTiled (places : Places) (header : Header) (steps : List Step) : Type 0 where
   pub cores : (core : ℕ) → core < header.config.cores
       → Tiles places.from (currents_of places header steps core)
@@ -151,6 +149,3 @@ pub record IsTiled (places : Places) (header : Header) (steps : List Step) : Typ
   pub taken : taken_mutexes header (looks_of places header steps) ≡ taken_of places header steps
   pub ticks : Tiles places.from (ticks_of places header steps)
       (tick_stretches places.from (looks_of places header steps))
-  pub waits : (task : ℕ) (place : ℕ)
-      → IsLast (wait_made header steps task) place
-      (last_wait task (run_looks places header steps).made place)

@@ -1,34 +1,32 @@
--- What a task is told to wait for is what its unfinished call waits for.
-use Rattle.std.specs.Prelude.{◌≡◌, ℕ, List, Some}
+-- A blocked task is told to wait for what its unfinished call waits for.
+use Rattle.std.specs.Prelude.{◌≡◌, ◌<◌, ℕ, ◌+◌, List, All, length, false, Option, Some}
 use Rattle.bench_types.specs.declared.header.Header.{Header}
-use Rattle.bench_types.specs.declared.step.BlockingCall.{BlockingCall}
-use Rattle.bench_types.specs.declared.step.BlockingCall.TheVariants as blocking
 use Rattle.bench_types.specs.declared.step.Step.{Step}
 use Rattle.bench_types.specs.declared.step.Unfinished.{Unfinished}
-use Rattle.bench_types.specs.declared.step.Unfinished.TheVariants.{Made, Take}
+use Rattle.bench_types.specs.Cause.{cause_of}
+use Rattle.bench_types.specs.Header.{IsCheckedHeader}
+use Rattle.bench_types.specs.Step.{settings_of, IsCheckedStep}
 use Rattle.bench_model.specs.Session.{state_at}
 use Rattle.bench_model.specs.State.{call_at}
-use Rattle.run_views.specs.declared.places.Places.{Places}
-use Rattle.run_pictures.specs.declared.waits.Wait.{Wait}
-use Rattle.run_pictures.specs.declared.waits.Wait.TheVariants.{Delay, Notification, Mutex}
-use Rattle.run_pictures.specs.RunLooks.{run_looks}
-use Rattle.run_pictures.specs.Waits.{last_wait}
+use Rattle.bench_model.specs.Table.{Table, is_ready}
+use Rattle.run_views.specs.Looks.{look_of}
+use Rattle.run_pictures.specs.declared.stance.Stance.{Stance}
+use Rattle.run_pictures.specs.declared.stance.Stance.TheVariants.{Blocked}
+use Rattle.run_pictures.specs.Stances.{stance_in}
 
--- what a call that is made waits for
-abbrev pub awaited_by : BlockingCall → Wait
-awaited_by (blocking.Delay ticks) = Delay
-awaited_by (blocking.DelayUntil prev inc) = Delay
-awaited_by (blocking.NotifyWait entry exit ticks index) = Notification
-awaited_by (blocking.NotifyTake clear ticks index) = Notification
+-- the task has an unfinished call in the state, and is told to wait for what this call waits for
+pub record WaitsInCall (table : Table) (task : ℕ) (told : Stance) : Type 0 where
+  pub call : Unfinished
+  pub made : call_at table.calls task ≡ Some call
+  pub wake : Option ℕ
+  pub told_so : told ≡ Blocked wake (Some (cause_of call))
 
--- what an unfinished call waits for
-abbrev pub wait_by : Unfinished → Wait
-wait_by (Made call) = awaited_by call
-wait_by (Take mutex mark) = Mutex mutex
-
--- at each place of the replay
+-- each task that is in no ready list at a place of the replay of a checked session
 abbrev pub WaitsAreUnfinished : Type 0
 WaitsAreUnfinished =
-    (places : Places) (header : Header) (steps : List Step) (place task : ℕ) (call : Unfinished)
-    → call_at (state_at header steps place).calls task ≡ Some call
-    → last_wait task (run_looks places header steps).made place ≡ Some (wait_by call)
+    (header : Header) (steps : List Step) (place task : ℕ)
+    → IsCheckedHeader header → All (IsCheckedStep (settings_of header)) steps
+    → task < header.config.cores + length header.tasks
+    → let table = state_at header steps place in
+    is_ready task table.orders ≡ false
+    → WaitsInCall table task (stance_in task (look_of table))

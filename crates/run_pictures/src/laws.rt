@@ -33,7 +33,8 @@ pub fn law_of_legends()
     ensures both { LegendIsOfRuns }
 {}
 
-/// What a task is told to wait for is what its unfinished call waits for.
+/// At each place of a checked session a blocked task has an unfinished call, and is told to wait for
+/// what that call waits for.
 pub fn law_of_waits()
     ensures { WaitsAreUnfinished }
 {}

@@ -27,7 +27,6 @@ mod style;
 mod task_bands;
 mod task_names;
 mod task_stretches;
-mod waits;
 
 pub use by_ticks::{TickColumns, tick_columns};
 pub use escape::{law_of_escapes, push_escaped, push_escaped_bytes};
@@ -41,4 +40,3 @@ pub use pose::Pose;
 pub use run_looks::{Made, RunLooks};
 pub use stance::Stance;
 pub use stretch::{Stretch, StretchValue, stretches_of};
-pub use waits::Wait;

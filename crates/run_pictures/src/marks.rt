@@ -9,9 +9,8 @@ use crate::bar::{Bar, push_bar};
 use crate::escape::push_escaped;
 use crate::frame::{CORE_ROW, Frame};
 use crate::ink::Ink;
-use crate::waits::is_refused;
 use bench_types::{Header, Reply, Step};
-use run_views::{push_reply, push_step};
+use run_views::{is_refusal, push_reply, push_step};
 use std::alloc::{AllocError, Global};
 
 /// What is marked of a step.
@@ -24,7 +23,7 @@ pub(crate) enum Mark {
 fn mark_of(made: Made) -> Option<Mark>
     ensures { result ≡ mark_of made }
 {
-    if is_refused(made.reply) {
+    if is_refusal(made.reply) {
         return Some(Mark::Refused);
     }
     match made.step {
@@ -33,11 +32,11 @@ fn mark_of(made: Made) -> Option<Mark>
     }
 }
 
-/// What is marked at the place.
-pub(crate) fn mark_at(made: &[Made], place: u32) -> Option<Mark>
-    ensures { result ≡ mark_at made.now place }
+/// What is marked at the k-th of the places that are shown.
+pub(crate) fn mark_at(made: &[Made], k: u32) -> Option<Mark>
+    ensures { result ≡ mark_at made.now k }
 {
-    match made.get(place as usize) {
+    match made.get(k as usize) {
         Some(made) => mark_of(*made),
         None => None,
     }
@@ -150,15 +149,16 @@ fn push_at(
     frame: &Frame,
     top: u64,
     made: &[Made],
-    place: u32,
+    k: u32,
 ) -> Result<(), AllocError>
-    requires { top < 2 ^ 38 }
+    requires top { top < 2 ^ 38 }
+    requires place { frame.now.first + k < 2 ^ 32 }
     ensures { OnOk result
         (string_bytes text.new
-        ≡ string_bytes text.old ++ step_at header.now frame.now top made.now place) }
+        ≡ string_bytes text.old ++ step_at header.now frame.now top made.now k) }
 {
-    match made.get(place as usize) {
-        Some(made) => push_cell(alloc, text, header, frame, top, place, *made),
+    match made.get(k as usize) {
+        Some(made) => push_cell(alloc, text, header, frame, top, frame.first + k, *made),
         None => Ok(()),
     }
 }
@@ -178,11 +178,10 @@ pub(crate) fn push_steps(
     ensures { OnOk result
         (string_bytes text.new
         ≡ string_bytes text.old
-        ++ flat_map (λ k. step_at header.now frame.now top made.now (frame.now.first + k))
-        (numbers count)) }
+        ++ flat_map (step_at header.now frame.now top made.now) (numbers count)) }
 {
     for k in 0..count {
-        push_at(alloc, text, header, frame, top, made, frame.first + k)?;
+        push_at(alloc, text, header, frame, top, made, k)?;
     }
     Ok(())
 }

@@ -211,19 +211,18 @@ fn push_tasks(
     header: &Header,
     frame: &Frame,
     y: u64,
-    run_looks: &RunLooks,
+    looks: &[Look],
 ) -> Result<(), AllocError>
     requires y { y < 2 ^ 39 }
-    requires few { frame.now.first + length run_looks.now.looks ≤ 2 ^ 32 }
-    requires looks { length run_looks.now.looks < 2 ^ 32 }
+    requires few { frame.now.first + length looks.now ≤ 2 ^ 32 }
+    requires looks { length looks.now < 2 ^ 32 }
     requires cores { header.now.config.cores ≤ max_cores }
     requires tasks { length header.now.tasks ≤ max_tasks }
     ensures { OnOk result
         (string_bytes text.new
-        ≡ string_bytes text.old ++ task_rows header.now frame.now y run_looks.now) }
+        ≡ string_bytes text.old ++ task_rows header.now frame.now y looks.now) }
 {
     let cores = header.config.cores;
-    let looks = run_looks.looks.as_slice();
     let detail = detail_for(alloc, header, frame.first, looks)?;
     let rows = all_row_stretches(alloc, header, frame.first, looks)?;
     for user in 0..header.tasks.as_slice().len() as u32 {
@@ -235,7 +234,7 @@ fn push_tasks(
             header,
             frame,
             below,
-            run_looks,
+            looks,
             detail,
             cores + user,
             states.as_slice(),
@@ -262,14 +261,8 @@ fn push_bands(
     let looks = panel.run_looks.looks.as_slice();
     push_axis(alloc, text, frame, top, looks)?;
     push_cores(alloc, text, header, frame, top + 36, looks)?;
-    push_tasks(
-        alloc,
-        text,
-        header,
-        frame,
-        top + tasks_down(header),
-        &panel.run_looks,
-    )?;
+    let tasks = top + tasks_down(header);
+    push_tasks(alloc, text, header, frame, tasks, looks)?;
     let down = top + mutexes_down(header);
     push_taken_rows(alloc, text, header, frame, down, looks)
 }

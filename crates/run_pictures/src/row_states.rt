@@ -115,7 +115,7 @@ fn row_state_on(look: &Look, task: u32, core: Option<usize>) -> RowState
 {
     let status = status_in(look, task);
     RowState {
-        stance: stance_with(status.standing, core),
+        stance: stance_with(status.standing, status.cause, core),
         priorities: Priorities {
             in_use: status.in_use,
             base: status.base,

@@ -5,7 +5,7 @@ ghost use Rattle.bench_model.specs.Equal.{StandsFor};
 ghost use Rattle.bench_model.specs.Start.{start};
 ghost use Rattle.bench_model.specs.Table.{Table};
 ghost use Rattle.run_views.specs.Looks.{look_of};
-ghost use Rattle.run_pictures.specs.RunLooks.{run_looks, shown_look, IsSeenRun};
+ghost use Rattle.run_pictures.specs.RunLooks.{run_looks, where_shown, IsSeenRun};
 
 use bench_types::{CheckedSession, Header, Items, Reply, Step};
 use run_views::{Look, Places};
@@ -24,7 +24,7 @@ pub struct Made {
 pub struct RunLooks {
     /// What can be seen at each place that is shown.
     pub looks: Items<Look>,
-    /// All steps, with their replies.
+    /// The steps that are made at these places, with their replies.
     pub made: Items<Made>,
 }
 
@@ -73,11 +73,23 @@ fn push_look(
     kernel: &Kernel,
 ) -> Result<(), AllocError>
     ensures { OnOk result ((table : Table) → StandsFor kernel.now table
-        → looks.new.items ≡ looks.old.items ++ shown_look places place (look_of table)) }
+        → looks.new.items ≡ looks.old.items ++ where_shown places place (look_of table)) }
 {
     if places.shows(place) {
         looks.push(Look::of_kernel(alloc, kernel)?)?;
     }
+    Ok(())
+}
+
+// The step, where the place at which it is made is shown.
+fn push_made(made: &mut Vec<Made>, places: Places, place: u32, step: Made) -> Result<(), AllocError>
+    ensures { OnOk result
+        (made.new.items ≡ made.old.items ++ where_shown places place step) }
+{
+    if !places.shows(place) {
+        return Ok(());
+    }
+    made.push(step)?;
     Ok(())
 }
 
@@ -102,7 +114,7 @@ fn push_run(
     for (place, step) in steps.iter().enumerate() {
         push_look(alloc, looks, places, place as u32, kernel)?;
         let reply = kernel.step(meter, step);
-        made.push(Made { step: *step, reply })?;
+        push_made(made, places, place as u32, Made { step: *step, reply })?;
     }
     push_look(alloc, looks, places, steps.len() as u32, kernel)?;
     Ok(())

@@ -140,18 +140,16 @@ fn is_refusal(mark: Option<Mark>) -> bool
     }
 }
 
-fn has_interrupt(made: &[Made], first: u32, count: u32) -> bool
-    requires { first + count ≤ 2 ^ 32 }
-    ensures { result ≡ has_interrupt made.now first count }
+fn has_interrupt(made: &[Made], count: u32) -> bool
+    ensures { result ≡ has_interrupt made.now count }
 {
-    (0..count).any(|k| is_interrupt(mark_at(made, first + k)))
+    (0..count).any(|k| is_interrupt(mark_at(made, k)))
 }
 
-fn has_refusal(made: &[Made], first: u32, count: u32) -> bool
-    requires { first + count ≤ 2 ^ 32 }
-    ensures { result ≡ has_refusal made.now first count }
+fn has_refusal(made: &[Made], count: u32) -> bool
+    ensures { result ≡ has_refusal made.now count }
 {
-    (0..count).any(|k| is_refusal(mark_at(made, first + k)))
+    (0..count).any(|k| is_refusal(mark_at(made, k)))
 }
 
 fn some_user(looks: &[Look], cores: u32) -> bool
@@ -221,7 +219,6 @@ fn is_used(panel: &Panel<'_>, sign: Sign) -> bool
     let cores = header.config.cores;
     let looks = panel.run_looks.looks.as_slice();
     let made = panel.run_looks.made.as_slice();
-    let first = panel.frame.first;
     let count = looks.len() as u32;
     match sign {
         Sign::Running => some_user(looks, cores),
@@ -233,8 +230,8 @@ fn is_used(panel: &Panel<'_>, sign: Sign) -> bool
         Sign::Inherited => some_inherited(looks, header),
         Sign::PreemptionOff => some_unpreempted(looks, header),
         Sign::Taken => some_taken(looks, header.config.mutexes),
-        Sign::Interrupt => has_interrupt(made, first, count),
-        Sign::Refused => has_refusal(made, first, count),
+        Sign::Interrupt => has_interrupt(made, count),
+        Sign::Refused => has_refusal(made, count),
     }
 }
 

@@ -6,18 +6,23 @@ ghost use Rattle.run_pictures.specs.Stances.{core_of, stance_in, stance_with, st
 
 use crate::shown::is_same_number;
 use crate::stretch::StretchValue;
-use bench_types::NoteState;
-use run_views::{Look, Standing, TaskStatus};
+use bench_types::{Cause, NoteState};
+use run_views::{Look, Standing, TaskStatus, is_same_cause};
 
 /// How a task stands at a place.
 #[derive(Clone, Copy, Debug, PartialEq, Eq)]
 pub enum Stance {
     /// It is ready, and the current task of the core.
-    Runs { core: usize },
+    Runs {
+        core: usize,
+    },
     /// It is ready, and the current task of no core.
     Ready,
-    /// It waits until this tick count, or without end.
-    Blocked { wake: Option<u32> },
+    /// It waits until this tick count, or without end, for what its unfinished call waits for.
+    Blocked {
+        wake: Option<u32>,
+        cause: Option<Cause>,
+    },
 }
 
 impl StretchValue for Stance {
@@ -39,7 +44,13 @@ pub(crate) fn is_same_stance(stance: Stance, other: Stance) -> bool
     match (stance, other) {
         (Stance::Runs { core }, Stance::Runs { core: other }) => core == other,
         (Stance::Ready, Stance::Ready) => true,
-        (Stance::Blocked { wake }, Stance::Blocked { wake: other }) => is_same_number(wake, other),
+        (
+            Stance::Blocked { wake, cause },
+            Stance::Blocked {
+                wake: other,
+                cause: reason,
+            },
+        ) => is_same_number(wake, other) && is_same_cause(cause, reason),
         _ => false,
     }
 }
@@ -56,7 +67,7 @@ pub(crate) fn status_in(look: &Look, task: u32) -> TaskStatus
             base: 0,
             mask: 0,
             preempt: false,
-            in_call: false,
+            cause: None,
             value: 0,
             state: NoteState::NotWaiting,
         },
@@ -71,12 +82,13 @@ fn core_of(look: &Look, task: u32) -> Option<usize>
     cores.iter().position(|core| core.current == task)
 }
 
-/// How a task stands of which this core is the first that runs it.
-pub(crate) fn stance_with(standing: Standing, core: Option<usize>) -> Stance
-    ensures { result ≡ stance_with standing core }
+/// How a task stands whose unfinished call waits for this, and of which this core is the first that
+/// runs it.
+pub(crate) fn stance_with(standing: Standing, cause: Option<Cause>, core: Option<usize>) -> Stance
+    ensures { result ≡ stance_with standing cause core }
 {
     match (standing, core) {
-        (Standing::Blocked(wake), _) => Stance::Blocked { wake },
+        (Standing::Blocked(wake), _) => Stance::Blocked { wake, cause },
         (Standing::Ready, Some(core)) => Stance::Runs { core },
         (Standing::Ready, None) => Stance::Ready,
     }
@@ -86,8 +98,12 @@ pub(crate) fn stance_with(standing: Standing, core: Option<usize>) -> Stance
 pub(crate) fn stance_in(look: &Look, task: u32) -> Stance
     ensures { result ≡ stance_in task look.now }
 {
-    match status_in(look, task).standing {
-        Standing::Blocked(wake) => Stance::Blocked { wake },
+    let status = status_in(look, task);
+    match status.standing {
+        Standing::Blocked(wake) => Stance::Blocked {
+            wake,
+            cause: status.cause,
+        },
         Standing::Ready => match core_of(look, task) {
             Some(core) => Stance::Runs { core },
             None => Stance::Ready,

@@ -2,7 +2,7 @@
 //! priority.
 ghost use Rattle.std.specs.Prelude.{◌≡◌, ◌++◌, ◌+◌, ◌<◌, ◌≤◌, ◌^◌, OnOk, flat_map, length, string_bytes};
 ghost use Rattle.run_pictures.specs.RowStates.{row_stretches};
-ghost use Rattle.run_pictures.specs.TaskBands.{blocked_label, inherited_bar, pose_bar, pose_words, reason_text, stance_label, stance_shape, stance_stretch, stance_text, stance_words, task_row, wait_name};
+ghost use Rattle.run_pictures.specs.TaskBands.{blocked_label, cause_name, inherited_bar, pose_bar, pose_words, reason_text, stance_label, stance_shape, stance_stretch, stance_text, stance_words, task_row};
 
 use crate::bar::{Bar, Letters, push_bar, push_label, push_over};
 use crate::frame::Frame;
@@ -16,43 +16,40 @@ use crate::stance::Stance;
 use crate::stretch::Stretch;
 use crate::task_names::push_task_name;
 use crate::task_stretches::TaskStretches;
-use crate::waits::{Wait, last_wait};
-use crate::{Made, RunLooks};
-use bench_types::Header;
-use run_views::{Standing, push_standing};
+use bench_types::{Cause, Header};
+use run_views::{Look, Standing, push_standing};
 use std::alloc::{AllocError, Global};
 
-fn push_wait(text: &mut String, wait: Wait) -> Result<(), AllocError>
-    ensures { OnOk result (string_bytes text.new ≡ string_bytes text.old ++ wait_name wait) }
+fn push_cause(text: &mut String, cause: Cause) -> Result<(), AllocError>
+    ensures { OnOk result (string_bytes text.new ≡ string_bytes text.old ++ cause_name cause) }
 {
-    match wait {
-        Wait::Delay => text.push_str("delay"),
-        Wait::Notification => text.push_str("notification"),
-        Wait::Mutex(mutex) => write!(text, "mutex {mutex}"),
+    match cause {
+        Cause::Delay => text.push_str("delay"),
+        Cause::Notification => text.push_str("notification"),
+        Cause::Mutex(mutex) => write!(text, "mutex {mutex}"),
     }
 }
 
-fn push_reason(text: &mut String, wait: Option<Wait>) -> Result<(), AllocError>
-    ensures { OnOk result (string_bytes text.new ≡ string_bytes text.old ++ reason_text wait) }
+fn push_reason(text: &mut String, cause: Option<Cause>) -> Result<(), AllocError>
+    ensures { OnOk result (string_bytes text.new ≡ string_bytes text.old ++ reason_text cause) }
 {
-    let Some(wait) = wait else {
+    let Some(cause) = cause else {
         return Ok(());
     };
     text.push_str(" (")?;
-    push_wait(text, wait)?;
+    push_cause(text, cause)?;
     text.push_str(")")
 }
 
-fn push_stance_text(text: &mut String, stance: Stance, wait: Option<Wait>) -> Result<(), AllocError>
-    ensures { OnOk result
-        (string_bytes text.new ≡ string_bytes text.old ++ stance_text stance wait) }
+fn push_stance_text(text: &mut String, stance: Stance) -> Result<(), AllocError>
+    ensures { OnOk result (string_bytes text.new ≡ string_bytes text.old ++ stance_text stance) }
 {
     match stance {
         Stance::Runs { core } => write!(text, " runs on core {core}"),
         Stance::Ready => text.push_str(" ready"),
-        Stance::Blocked { wake } => {
+        Stance::Blocked { wake, cause } => {
             push_standing(text, Standing::Blocked(wake))?;
-            push_reason(text, wait)
+            push_reason(text, cause)
         }
     }
 }
@@ -61,16 +58,15 @@ fn push_stance_words(
     words: &mut String,
     header: &Header,
     task: u32,
-    wait: Option<Wait>,
     stretch: Stretch<Stance>,
 ) -> Result<(), AllocError>
     ensures { OnOk result
         (string_bytes words.new
-        ≡ string_bytes words.old ++ stance_words header.now task wait stretch) }
+        ≡ string_bytes words.old ++ stance_words header.now task stretch) }
 {
     push_over(words, stretch.first, stretch.last)?;
     header.push_name(words, task)?;
-    push_stance_text(words, stretch.value, wait)
+    push_stance_text(words, stretch.value)
 }
 
 // The bar of the user task of that index.
@@ -100,18 +96,18 @@ fn push_blocked_label(
     y: u64,
     first: u32,
     last: u32,
-    wait: Option<Wait>,
+    cause: Option<Cause>,
 ) -> Result<(), AllocError>
     requires { y < 2 ^ 40 }
     ensures { OnOk result
         (string_bytes text.new
-        ≡ string_bytes text.old ++ blocked_label frame.now y first last wait) }
+        ≡ string_bytes text.old ++ blocked_label frame.now y first last cause) }
 {
-    let Some(wait) = wait else {
+    let Some(cause) = cause else {
         return Ok(());
     };
     let mut name = String::new(alloc);
-    push_wait(&mut name, wait)?;
+    push_cause(&mut name, cause)?;
     push_label(
         text,
         frame,
@@ -129,12 +125,11 @@ fn push_stance_label(
     text: &mut String,
     frame: &Frame,
     y: u64,
-    wait: Option<Wait>,
     stretch: Stretch<Stance>,
 ) -> Result<(), AllocError>
     requires { y < 2 ^ 40 }
     ensures { OnOk result
-        (string_bytes text.new ≡ string_bytes text.old ++ stance_label frame.now y wait stretch) }
+        (string_bytes text.new ≡ string_bytes text.old ++ stance_label frame.now y stretch) }
 {
     match stretch.value {
         Stance::Runs { core } => {
@@ -151,8 +146,8 @@ fn push_stance_label(
             )
         }
         Stance::Ready => Ok(()),
-        Stance::Blocked { .. } => {
-            push_blocked_label(alloc, text, frame, y, stretch.first, stretch.last, wait)
+        Stance::Blocked { wake: _, cause } => {
+            push_blocked_label(alloc, text, frame, y, stretch.first, stretch.last, cause)
         }
     }
 }
@@ -173,15 +168,14 @@ fn push_pose_words(
     words: &mut String,
     header: &Header,
     task: u32,
-    wait: Option<Wait>,
     detail: Detail,
     stretch: &Stretch<Pose>,
 ) -> Result<(), AllocError>
     ensures { OnOk result
         (string_bytes words.new
-        ≡ string_bytes words.old ++ pose_words header.now task wait detail stretch.now) }
+        ≡ string_bytes words.old ++ pose_words header.now task detail stretch.now) }
 {
-    push_stance_words(words, header, task, wait, stance_stretch(stretch))?;
+    push_stance_words(words, header, task, stance_stretch(stretch))?;
     let hindrances = stretch.value.hindrances.as_slice();
     push_hindered(alloc, words, header, detail, stretch.first, hindrances)
 }
@@ -195,23 +189,20 @@ fn push_pose(
     frame: &Frame,
     y: u64,
     task: u32,
-    made: &[Made],
     detail: Detail,
     stretch: &Stretch<Pose>,
 ) -> Result<(), AllocError>
     requires { y < 2 ^ 40 }
     ensures { OnOk result
         (string_bytes text.new
-        ≡ string_bytes text.old
-        ++ pose_bar header.now frame.now y task made.now detail stretch.now) }
+        ≡ string_bytes text.old ++ pose_bar header.now frame.now y task detail stretch.now) }
 {
-    let wait = last_wait(task, made, stretch.first);
     let standing = stance_stretch(stretch);
     let mut words = String::new(alloc);
-    push_pose_words(alloc, &mut words, header, task, wait, detail, stretch)?;
+    push_pose_words(alloc, &mut words, header, task, detail, stretch)?;
     let user = task.saturating_sub(header.config.cores);
     push_bar(text, frame, stance_shape(user, y, standing), words.as_str())?;
-    push_stance_label(alloc, text, frame, y, wait, standing)
+    push_stance_label(alloc, text, frame, y, standing)
 }
 
 fn push_poses(
@@ -221,7 +212,6 @@ fn push_poses(
     frame: &Frame,
     y: u64,
     task: u32,
-    made: &[Made],
     detail: Detail,
     stretches: &[Stretch<Pose>],
 ) -> Result<(), AllocError>
@@ -229,10 +219,10 @@ fn push_poses(
     ensures { OnOk result
         (string_bytes text.new
         ≡ string_bytes text.old
-        ++ flat_map (pose_bar header.now frame.now y task made.now detail) stretches.now) }
+        ++ flat_map (pose_bar header.now frame.now y task detail) stretches.now) }
 {
     for stretch in stretches {
-        push_pose(alloc, text, header, frame, y, task, made, detail, stretch)?;
+        push_pose(alloc, text, header, frame, y, task, detail, stretch)?;
     }
     Ok(())
 }
@@ -300,24 +290,22 @@ pub(crate) fn push_task_row(
     header: &Header,
     frame: &Frame,
     y: u64,
-    run_looks: &RunLooks,
+    looks: &[Look],
     detail: Detail,
     task: u32,
     states: &[Stretch<RowState>],
 ) -> Result<(), AllocError>
     requires y { y < 2 ^ 40 }
-    requires few { frame.now.first + length run_looks.now.looks ≤ 2 ^ 32 }
-    requires states { states.now ≡ row_stretches frame.now.first run_looks.now.looks task }
+    requires few { frame.now.first + length looks.now ≤ 2 ^ 32 }
+    requires states { states.now ≡ row_stretches frame.now.first looks.now task }
     ensures { OnOk result
         (string_bytes text.new
-        ≡ string_bytes text.old ++ task_row header.now frame.now y run_looks.now detail task) }
+        ≡ string_bytes text.old ++ task_row header.now frame.now y looks.now detail task) }
 {
-    let looks = run_looks.looks.as_slice();
-    let made = run_looks.made.as_slice();
     let stretches = TaskStretches::of_states(alloc, detail, frame.first, looks, task, states)?;
     push_task_name(alloc, text, header, y, task, stretches.terms.as_slice())?;
     let poses = stretches.poses.as_slice();
-    push_poses(alloc, text, header, frame, y, task, made, detail, poses)?;
+    push_poses(alloc, text, header, frame, y, task, detail, poses)?;
     let priorities = stretches.priorities.as_slice();
     push_inheritances(alloc, text, header, frame, y, task, priorities)?;
     push_offs(

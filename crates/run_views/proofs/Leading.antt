@@ -12,13 +12,13 @@ use Rattle.run_views.specs.declared.change.CoreChange.TheVariants.{Current, Pend
 use Rattle.run_views.specs.declared.change.MutexChange.TheVariants.{Holder}
 use Rattle.run_views.specs.declared.change.NoteChange.{NoteChange}
 use Rattle.run_views.specs.declared.change.NoteChange.TheVariants.{Value, State}
-use Rattle.run_views.specs.declared.change.TaskChange.TheVariants.{Stands, InUse, Base, Mask, Preempt, InCall, Note}
+use Rattle.run_views.specs.declared.change.TaskChange.TheVariants.{Stands, InUse, Base, Mask, Preempt, Call, Note}
 use Rattle.run_views.specs.declared.look.Look.{Look}
 use Rattle.run_views.specs.declared.look.TaskStatus.{TaskStatus}
-use Rattle.run_views.specs.Changes.{applied, are_same_numbers, are_same_standings, changes, changes_each, core_after, core_changes, further_after}
+use Rattle.run_views.specs.Changes.{applied, are_same_causes, are_same_numbers, are_same_standings, changes, changes_each, core_after, core_changes, further_after}
 use Rattle.run_views.specs.Changes.{further_changes, HasSameShape, holder_after, item_changed, look_after, mutex_changes, note_after, note_changes, task_after}
 use Rattle.run_views.specs.Changes.{task_changes, unless}
-use Rattle.run_views.proofs.Tests.{Tells, bools_decided, holds_decided, numbers_decided, standings_decided, states_decided}
+use Rattle.run_views.proofs.Tests.{Tells, bools_decided, causes_decided, holds_decided, numbers_decided, standings_decided, states_decided}
 
 -- the changes, made one after another, lead from the one to the other
 record Leads {X C : Type 0} (after : C → X → X) (from : X) (changes : List C) (to : X) : Type 0 where
@@ -59,7 +59,7 @@ task_leads old new =
     (set nat_eq Decides-eqb (λ n. record three { mask = n }) old.mask new.mask (Mask old.mask new.mask) refl))
     (set are_same_bools bools_decided (λ b. record four { preempt = b }) old.preempt new.preempt (Preempt new.preempt) refl))
     (both (both
-    (set are_same_bools bools_decided (λ b. record five { in_call = b }) old.in_call new.in_call (InCall new.in_call) refl)
+    (set (are_same_options are_same_causes) causes_decided (λ c. record five { cause = c }) old.cause new.cause (Call old.cause new.cause) refl)
     (set nat_eq Decides-eqb (λ n. record six { value = n }) old.value new.value (Note (Value old.value new.value)) refl))
     (set are_same_states states_decided (λ s. record new { state = s }) old.state new.state (Note (State old.state new.state)) refl))
   where
@@ -79,7 +79,7 @@ task_leads old new =
     five = record four { preempt = new.preempt }
 
     six : TaskStatus
-    six = record five { in_call = new.in_call }
+    six = record five { cause = new.cause }
 
 note_leads : (old new : Notification) → Leads note_after old (note_changes old new) new
 note_leads old new =

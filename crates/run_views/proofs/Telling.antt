@@ -15,12 +15,12 @@ use Rattle.run_views.specs.declared.change.MutexChange.TheVariants.{Holder}
 use Rattle.run_views.specs.declared.change.NoteChange.{NoteChange}
 use Rattle.run_views.specs.declared.change.NoteChange.TheVariants.{Value, State}
 use Rattle.run_views.specs.declared.change.TaskChange.{TaskChange}
-use Rattle.run_views.specs.declared.change.TaskChange.TheVariants.{Stands, InUse, Base, Mask, Preempt, InCall, Note}
+use Rattle.run_views.specs.declared.change.TaskChange.TheVariants.{Stands, InUse, Base, Mask, Preempt, Call, Note}
 use Rattle.run_views.specs.declared.look.Look.{Look}
 use Rattle.run_views.specs.declared.look.TaskStatus.{TaskStatus}
-use Rattle.run_views.specs.Changes.{are_same_numbers, are_same_standings, changes, changes_each, core_changes, further_changes, mutex_changes, note_changes}
+use Rattle.run_views.specs.Changes.{are_same_causes, are_same_numbers, are_same_standings, changes, changes_each, core_changes, further_changes, mutex_changes, note_changes}
 use Rattle.run_views.specs.Changes.{task_changes, TellsOf, TellsOfCore, TellsOfItem, TellsOfMutex, TellsOfNote, TellsOfTask, unless}
-use Rattle.run_views.proofs.Tests.{Tells, bools_decided, holds_decided, numbers_decided, standings_decided, states_decided}
+use Rattle.run_views.proofs.Tests.{Tells, bools_decided, causes_decided, holds_decided, numbers_decided, standings_decided, states_decided}
 
 joined : {X : Type 0} (P : X → Type 0) (xs ys : List X) → AllByRecursion P xs → AllByRecursion P ys → AllByRecursion P (xs ++ ys)
 joined P [] ys first second = second
@@ -54,7 +54,7 @@ task_printed old new =
     (one_printed P nat_eq Decides-eqb old.mask new.mask (Mask old.mask new.mask) (λ differ. (refl, refl, differ))))
     (one_printed P are_same_bools bools_decided old.preempt new.preempt (Preempt new.preempt) (λ differ. (refl, differ))))
     (joined P _ _ (joined P _ _
-    (one_printed P are_same_bools bools_decided old.in_call new.in_call (InCall new.in_call) (λ differ. (refl, differ)))
+    (one_printed P (are_same_options are_same_causes) causes_decided old.cause new.cause (Call old.cause new.cause) (λ differ. (refl, refl, differ)))
     (one_printed P nat_eq Decides-eqb old.value new.value (Note (Value old.value new.value)) (λ differ. (refl, refl, differ))))
     (one_printed P are_same_states states_decided old.state new.state (Note (State old.state new.state)) (λ differ. (refl, refl, differ))))
 

@@ -1,11 +1,12 @@
 -- The tests of what changed tell of any two values whether they are equal.
 use Rattle.std.proofs.Common.{◌≡◌, Bool, true, false, Some, None, refl, ap, sym, true≢false}
-use Rattle.std.specs.Prelude.{Decides}
+use Rattle.std.specs.Prelude.{Decides, nat_eq}
 use Rattle.std.proofs.lemmas.Bool.Decides.{Decides-eqb, Decides-and, Decides-like}
+use Rattle.bench_types.specs.declared.cause.Cause.TheVariants as cause
 use Rattle.bench_types.specs.declared.note.NoteState.TheVariants.{NotWaiting, Waiting, Received}
 use Rattle.bench_model.specs.SameTest.{are_same_bools, are_same_options, are_same_states, are_same_holds}
 use Rattle.run_views.specs.declared.look.Standing.TheVariants.{Ready, Blocked}
-use Rattle.run_views.specs.Changes.{are_same_numbers, are_same_standings}
+use Rattle.run_views.specs.Changes.{are_same_causes, are_same_numbers, are_same_standings}
 
 abbrev pub Tells : {X : Type 0} → (X → X → Bool) → Type 0
 Tells {X} same = (x y : X) → Decides (same x y) (x ≡ y)
@@ -34,6 +35,15 @@ holds_decided = options_decided are_same_holds (λ a b. Decides-like (are_same_h
     (λ h i. record { core = h.0 i; depth = h.1 i })
     (λ e. (λ i. (e i).core, λ i. (e i).depth))
     (Decides-and _ _ (Decides-eqb a.core b.core) (Decides-eqb a.depth b.depth)))
+
+one_cause : Tells are_same_causes
+one_cause cause.Delay cause.Delay = (λ e. refl, λ e. refl)
+one_cause cause.Notification cause.Notification = (λ e. refl, λ e. refl)
+one_cause (cause.Mutex mutex) (cause.Mutex other) = Decides-like (nat_eq mutex other) (λ e. ap cause.Mutex e) (λ e. cc e) (Decides-eqb mutex other)
+one_cause a b = apart (λ e. cc e)
+
+pub causes_decided : Tells (are_same_options are_same_causes)
+causes_decided = options_decided are_same_causes one_cause
 
 pub states_decided : Tells are_same_states
 states_decided NotWaiting NotWaiting = (λ e. refl, λ e. refl)

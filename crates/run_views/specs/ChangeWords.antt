@@ -14,7 +14,7 @@ use Rattle.run_views.specs.declared.change.MutexChange.TheVariants.{Holder}
 use Rattle.run_views.specs.declared.change.NoteChange.{NoteChange}
 use Rattle.run_views.specs.declared.change.NoteChange.TheVariants.{Value, State}
 use Rattle.run_views.specs.declared.change.TaskChange.{TaskChange}
-use Rattle.run_views.specs.declared.change.TaskChange.TheVariants.{Stands, InUse, Base, Mask, Preempt, InCall, Note}
+use Rattle.run_views.specs.declared.change.TaskChange.TheVariants.{Stands, InUse, Base, Mask, Preempt, Call, Note}
 use Rattle.run_views.specs.declared.look.Standing.{Standing}
 use Rattle.run_views.specs.declared.look.Standing.TheVariants.{Ready, Blocked}
 use Rattle.run_views.specs.StepWords.{index_text}
@@ -67,7 +67,8 @@ task_change header (InUse from to) = from_to (codes " priority in use") from to
 task_change header (Base from to) = from_to (codes " base priority") from to
 task_change header (Mask from to) = from_to (codes " mask") from to
 task_change header (Preempt now) = if now then codes " preemption on" else codes " preemption off"
-task_change header (InCall now) = if now then codes " call begun" else codes " call ended"
+task_change header (Call from None) = codes " call ended"
+task_change header (Call from (Some to)) = codes " call begun"
 task_change header (Note change) = note_change header 0 change
 
 abbrev pub holder_change : Header → Option ℕ → Option ℕ → List ℕ

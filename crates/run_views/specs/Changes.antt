@@ -1,6 +1,8 @@
 -- What changed from one look to another, and a look with changes made.
 use Rattle.std.specs.Prelude.{◌≡◌, ◌≢◌, ◌+◌, ◌<◌, ◌^◌, ℕ, zero, suc, All, List, [], ◌∷◌, ◌++◌, length, map, fold, Bool, true, false, ◌==◌, Option, Some}
 use Rattle.std.specs.Prelude.{if◌then◌else◌, slice_get}
+use Rattle.bench_types.specs.declared.cause.Cause.{Cause}
+use Rattle.bench_types.specs.declared.cause.Cause.TheVariants as cause
 use Rattle.bench_types.specs.declared.kernel_data.CoreLook.{CoreLook}
 use Rattle.bench_types.specs.declared.note.Notification.{Notification}
 use Rattle.bench_model.specs.SameTest.{are_same_bools, are_same_options, are_same_holds, are_same_states}
@@ -13,7 +15,7 @@ use Rattle.run_views.specs.declared.change.MutexChange.TheVariants.{Holder}
 use Rattle.run_views.specs.declared.change.NoteChange.{NoteChange}
 use Rattle.run_views.specs.declared.change.NoteChange.TheVariants.{Value, State}
 use Rattle.run_views.specs.declared.change.TaskChange.{TaskChange}
-use Rattle.run_views.specs.declared.change.TaskChange.TheVariants.{Stands, InUse, Base, Mask, Preempt, InCall, Note}
+use Rattle.run_views.specs.declared.change.TaskChange.TheVariants.{Stands, InUse, Base, Mask, Preempt, Call, Note}
 use Rattle.run_views.specs.declared.look.Look.{Look}
 use Rattle.run_views.specs.declared.look.Standing.{Standing}
 use Rattle.run_views.specs.declared.look.Standing.TheVariants.{Ready, Blocked}
@@ -26,6 +28,12 @@ abbrev pub are_same_standings : Standing → Standing → Bool
 are_same_standings Ready Ready = true
 are_same_standings (Blocked wake) (Blocked later) = are_same_numbers wake later
 are_same_standings a b = false
+
+abbrev pub are_same_causes : Cause → Cause → Bool
+are_same_causes cause.Delay cause.Delay = true
+are_same_causes cause.Notification cause.Notification = true
+are_same_causes (cause.Mutex mutex) (cause.Mutex other) = mutex == other
+are_same_causes a b = false
 
 -- ---- what changed
 
@@ -51,7 +59,7 @@ schedule_changes old new =
 -- of its call and its notification of index 0
 abbrev pub call_changes : TaskStatus → TaskStatus → List TaskChange
 call_changes old new =
-    unless (are_same_bools old.in_call new.in_call) (InCall new.in_call)
+    unless (are_same_options are_same_causes old.cause new.cause) (Call old.cause new.cause)
     ++ unless (old.value == new.value) (Note (Value old.value new.value))
     ++ unless (are_same_states old.state new.state) (Note (State old.state new.state))
 
@@ -105,7 +113,7 @@ task_after (InUse from to) task = record task { in_use = to }
 task_after (Base from to) task = record task { base = to }
 task_after (Mask from to) task = record task { mask = to }
 task_after (Preempt now) task = record task { preempt = now }
-task_after (InCall now) task = record task { in_call = now }
+task_after (Call from to) task = record task { cause = to }
 task_after (Note (Value from to)) task = record task { value = to }
 task_after (Note (State from to)) task = record task { state = to }
 
@@ -169,7 +177,7 @@ TellsOfTask (InUse from to) old new = Differs old.in_use new.in_use from to
 TellsOfTask (Base from to) old new = Differs old.base new.base from to
 TellsOfTask (Mask from to) old new = Differs old.mask new.mask from to
 TellsOfTask (Preempt now) old new = (new.preempt ≡ now) × (old.preempt ≢ now)
-TellsOfTask (InCall now) old new = (new.in_call ≡ now) × (old.in_call ≢ now)
+TellsOfTask (Call from to) old new = Differs old.cause new.cause from to
 TellsOfTask (Note (Value from to)) old new = Differs old.value new.value from to
 TellsOfTask (Note (State from to)) old new = Differs old.state new.state from to
 

@@ -1,12 +1,14 @@
 -- What can be seen of a table.
-use Rattle.std.specs.Prelude.{◌≡◌, ℕ, All, List, length, ◌+◌, ◌-◌, ◌%◌, ◌^◌, map, option_map, if◌then◌else◌}
+use Rattle.std.specs.Prelude.{◌≡◌, ℕ, All, List, length, ◌+◌, ◌-◌, ◌%◌, ◌^◌, map, Option, option_map, if◌then◌else◌}
+use Rattle.bench_types.specs.declared.cause.Cause.{Cause}
 use Rattle.bench_types.specs.declared.kernel_data.Settings.{Settings}
 use Rattle.bench_types.specs.declared.kernel_data.TaskLook.{TaskLook}
 use Rattle.bench_types.specs.declared.note.Notification.{Notification}
+use Rattle.bench_types.specs.Cause.{cause_of}
 use Rattle.list_orders.specs.Search.{numbers}
 use Rattle.bench_model.specs.Control.{core_at}
 use Rattle.bench_model.specs.Looks.{note_look, task_look}
-use Rattle.bench_model.specs.State.{holder_at}
+use Rattle.bench_model.specs.State.{call_at, holder_at}
 use Rattle.bench_model.specs.Table.{Table, tick_count}
 use Rattle.run_views.specs.declared.look.Look.{Look}
 use Rattle.run_views.specs.declared.look.Standing.{Standing}
@@ -19,20 +21,25 @@ standing_in tick look =
     if look.ready then Ready
     else Blocked (option_map (λ left. (tick + left) % 2 ^ 32) look.left)
 
-abbrev pub status_in : ℕ → TaskLook → TaskStatus
-status_in tick look = record {
+-- what the task's unfinished call waits for, if it has one
+abbrev pub cause_in : Table → ℕ → Option Cause
+cause_in table task = option_map cause_of (call_at table.calls task)
+
+abbrev pub status_in : ℕ → Option Cause → TaskLook → TaskStatus
+status_in tick cause look = record {
   standing = standing_in tick look;
   in_use = look.in_use;
   base = look.base;
   mask = look.mask;
   preempt = look.preempt;
-  in_call = look.in_call;
+  cause = cause;
   value = look.value;
   state = look.state;
 }
 
 abbrev pub status_of : Table → ℕ → TaskStatus
-status_of table task = status_in (tick_count table.orders) (task_look table task)
+status_of table task =
+    status_in (tick_count table.orders) (cause_in table task) (task_look table task)
 
 -- the notifications of an index, of all tasks
 abbrev pub notes_of : Table → ℕ → List Notification

@@ -3,9 +3,11 @@ ghost use Rattle.std.specs.Prelude.{◌≡◌, ◌==◌, ◌+◌, ◌++◌, ◌<
 ghost use Rattle.bench_model.specs.SameTest.{are_same_options, are_same_holds};
 ghost use Rattle.run_views.specs.Changes.{applied, changes, changes_each, core_changes, further_changes, mutex_changes, note_changes, schedule_changes, call_changes, task_changes, unless, HasSameShape, IsNumbered, TellsOf};
 
-use crate::same::{is_same_flag, is_same_hold, is_same_number, is_same_standing, is_same_state};
+use crate::same::{
+    is_same_cause, is_same_flag, is_same_hold, is_same_number, is_same_standing, is_same_state,
+};
 use crate::{Look, Standing, TaskStatus};
-use bench_types::{CoreLook, Hold, Items, NoteState, Notification};
+use bench_types::{Cause, CoreLook, Hold, Items, NoteState, Notification};
 use std::alloc::{AllocError, Global};
 
 /// One thing that a step changed.
@@ -56,17 +58,32 @@ pub enum CoreChange {
 #[derive(Clone, Copy, Debug, PartialEq, Eq)]
 pub enum TaskChange {
     /// Whether it is ready, and until when it waits.
-    Stands { from: Standing, to: Standing },
+    Stands {
+        from: Standing,
+        to: Standing,
+    },
     /// The priority in use.
-    InUse { from: u32, to: u32 },
+    InUse {
+        from: u32,
+        to: u32,
+    },
     /// The base priority.
-    Base { from: u32, to: u32 },
+    Base {
+        from: u32,
+        to: u32,
+    },
     /// The core affinity mask.
-    Mask { from: u32, to: u32 },
+    Mask {
+        from: u32,
+        to: u32,
+    },
     /// Whether a core may be asked to give it up for another task.
     Preempt(bool),
-    /// Whether it made a call that has not returned.
-    InCall(bool),
+    /// What its call that has not returned waits for, where there is one.
+    Call {
+        from: Option<Cause>,
+        to: Option<Cause>,
+    },
     /// Its notification of index 0.
     Note(NoteChange),
 }
@@ -273,13 +290,11 @@ fn push_call(
         (changes.new.items
         ≡ changes.old.items ++ map (Change.Task task) (call_changes old new)) }
 {
-    let in_call = TaskChange::InCall(new.in_call);
-    push_task_change(
-        changes,
-        task,
-        is_same_flag(old.in_call, new.in_call),
-        in_call,
-    )?;
+    let call = TaskChange::Call {
+        from: old.cause,
+        to: new.cause,
+    };
+    push_task_change(changes, task, is_same_cause(old.cause, new.cause), call)?;
     let value = TaskChange::Note(NoteChange::Value {
         from: old.value,
         to: new.value,

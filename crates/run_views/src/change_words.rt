@@ -145,8 +145,8 @@ fn push_task_change(
         TaskChange::Mask { from, to } => push_from_to(text, " mask", from, to),
         TaskChange::Preempt(true) => text.push_str(" preemption on"),
         TaskChange::Preempt(false) => text.push_str(" preemption off"),
-        TaskChange::InCall(true) => text.push_str(" call begun"),
-        TaskChange::InCall(false) => text.push_str(" call ended"),
+        TaskChange::Call { to: Some(_), .. } => text.push_str(" call begun"),
+        TaskChange::Call { to: None, .. } => text.push_str(" call ended"),
         TaskChange::Note(change) => push_note_change(text, header, 0, change),
     }
 }

@@ -7,9 +7,9 @@ ghost use Rattle.bench_model.specs.Looks.{note_look};
 ghost use Rattle.bench_model.specs.State.{holder_at};
 ghost use Rattle.bench_model.specs.Table.{Table, tick_count};
 ghost use Rattle.run_views.specs.Changes.{IsNumbered};
-ghost use Rattle.run_views.specs.Looks.{further_of, look_of, notes_of, standing_in, status_in, status_of, HasShape};
+ghost use Rattle.run_views.specs.Looks.{cause_in, further_of, look_of, notes_of, standing_in, status_in, status_of, HasShape};
 
-use bench_types::{CoreLook, Hold, Items, NoteState, Notification, TaskLook};
+use bench_types::{Cause, CoreLook, Hold, Items, NoteState, Notification, TaskLook};
 use smp_kernel::Kernel;
 use std::alloc::{AllocError, Global};
 
@@ -34,8 +34,8 @@ pub struct TaskStatus {
     pub mask: u32,
     /// Whether a core may be asked to give it up for another task (`xPreemptionDisable` is false).
     pub preempt: bool,
-    /// Whether it made a call that has not returned.
-    pub in_call: bool,
+    /// What the call waits for that it made and that has not returned, if there is one.
+    pub cause: Option<Cause>,
     /// The value of its notification of index 0 (`ulNotifiedValue[0]`).
     pub value: u32,
     /// The state of that notification (`ucNotifyState[0]`).
@@ -104,8 +104,19 @@ fn standing_in(tick: u32, look: TaskLook) -> Standing
     }
 }
 
-fn status_in(tick: u32, look: TaskLook) -> TaskStatus
-    ensures { result ≡ status_in tick look }
+// What the task's unfinished call waits for, if it has one.
+fn cause_in(kernel: &Kernel, task: u32) -> Option<Cause>
+    requires { task < kernel.now.settings.tasks }
+    ensures { (table : Table) → StandsFor kernel.now table → result ≡ cause_in table task }
+{
+    match kernel.unfinished(task) {
+        Some(call) => Some(call.cause()),
+        None => None,
+    }
+}
+
+fn status_in(tick: u32, cause: Option<Cause>, look: TaskLook) -> TaskStatus
+    ensures { result ≡ status_in tick cause look }
 {
     TaskStatus {
         standing: standing_in(tick, look),
@@ -113,7 +124,7 @@ fn status_in(tick: u32, look: TaskLook) -> TaskStatus
         base: look.base,
         mask: look.mask,
         preempt: look.preempt,
-        in_call: look.in_call,
+        cause,
         value: look.value,
         state: look.state,
     }
@@ -123,7 +134,7 @@ fn status_of(kernel: &Kernel, task: u32) -> TaskStatus
     requires { task < kernel.now.settings.tasks }
     ensures { (table : Table) → StandsFor kernel.now table → result ≡ status_of table task }
 {
-    status_in(kernel.tick(), kernel.look(task))
+    status_in(kernel.tick(), cause_in(kernel, task), kernel.look(task))
 }
 
 fn cores_of(alloc: Global, kernel: &Kernel) -> Result<Vec<CoreLook>, AllocError>

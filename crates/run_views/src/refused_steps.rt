@@ -9,7 +9,8 @@ use bench_types::{CheckedSession, Reply, Step};
 use smp_kernel::{Kernel, Meter};
 use std::alloc::{AllocError, Global};
 
-fn is_refusal(reply: Reply) -> bool
+/// Whether the reply says that the step is refused.
+pub fn is_refusal(reply: Reply) -> bool
     ensures { result ≡ is_refusal reply }
 {
     matches!(reply, Reply::Refused(_))

@@ -1,10 +1,10 @@
 //! Whether two values are the same.
 ghost use Rattle.std.specs.Prelude.{◌≡◌};
 ghost use Rattle.bench_model.specs.SameTest.{are_same_bools, are_same_options, are_same_holds, are_same_states};
-ghost use Rattle.run_views.specs.Changes.{are_same_numbers, are_same_standings};
+ghost use Rattle.run_views.specs.Changes.{are_same_causes, are_same_numbers, are_same_standings};
 
 use crate::Standing;
-use bench_types::{Hold, NoteState};
+use bench_types::{Cause, Hold, NoteState};
 
 pub(crate) fn is_same_flag(flag: bool, other: bool) -> bool
     ensures { result ≡ are_same_bools flag other }
@@ -18,6 +18,19 @@ pub(crate) fn is_same_number(number: Option<u32>, other: Option<u32>) -> bool
     match (number, other) {
         (None, None) => true,
         (Some(number), Some(other)) => number == other,
+        _ => false,
+    }
+}
+
+/// Whether the two are the same cause of a wait, or none.
+pub fn is_same_cause(cause: Option<Cause>, other: Option<Cause>) -> bool
+    ensures { result ≡ are_same_options are_same_causes cause other }
+{
+    match (cause, other) {
+        (None, None)
+        | (Some(Cause::Delay), Some(Cause::Delay))
+        | (Some(Cause::Notification), Some(Cause::Notification)) => true,
+        (Some(Cause::Mutex(mutex)), Some(Cause::Mutex(other))) => mutex == other,
         _ => false,
     }
 }

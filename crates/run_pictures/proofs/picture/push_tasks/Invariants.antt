@@ -6,4 +6,4 @@ use Rattle.run_pictures.proofs.picture.push_tasks.Given as goal
 
 abbrev pub invariant-loop-user : goal.invariant-loop-user
 invariant-loop-user l = string_bytes l.text ≡ string_bytes l.initial.text ++ flat_map
-    (λ user. task_row l.header l.frame (l.y + TASK_ROW * user) l.run_looks l.detail (l.header.config.cores + user)) (numbers l.user)
+    (λ user. task_row l.header l.frame (l.y + TASK_ROW * user) l.looks l.detail (l.header.config.cores + user)) (numbers l.user)

@@ -5,7 +5,7 @@ use Rattle.std.specs.Prelude.{All, fold, not, slice_set, option_map, if◌then�
 use Rattle.std.specs.Option.{option_map_or}
 use Rattle.std.proofs.lemmas.Bool.{cases_eq}
 use Rattle.std.proofs.lemmas.Bool.Decides.{nat_tests}
-use Rattle.std.proofs.lemmas.List.{get_or-set_same, get_or-set_other, length-set}
+use Rattle.std.proofs.lemmas.List.{get_or-set_same, get_or-set_other, length-set, take_all}
 use Rattle.std.proofs.lemmas.List.Elements.{All-head, All-take}
 use Rattle.std.proofs.Math.ListN.{get_or-eq_default}
 use Rattle.list_orders.specs.Search.{numbers}
@@ -23,6 +23,7 @@ use Rattle.bench_types.specs.declared.step.Call.{Call}
 use Rattle.bench_types.specs.declared.step.Call.TheVariants.{Yield, Delay, DelayUntil, Finish, PrioritySet, AffinitySet, PreemptOff, PreemptOn, Notify}
 use Rattle.bench_types.specs.declared.step.Call.TheVariants.{NotifyWait, NotifyTake, StateClear, ValueClear, MutexTake, MutexGive, HoldOpen, HoldClose}
 use Rattle.bench_types.specs.declared.step.Step.{Step}
+use Rattle.bench_types.specs.declared.step.Step.TheVariants.{Tick, Switch, Interrupt}
 use Rattle.bench_types.specs.declared.step.Step.TheVariants as steps
 use Rattle.bench_types.specs.declared.step.Unfinished.{Unfinished}
 use Rattle.bench_types.specs.declared.step.Unfinished.TheVariants.{Made, Take}
@@ -56,10 +57,11 @@ use Rattle.step_laws.proofs.Steps.{after_sound}
 use Rattle.step_laws.proofs.Undisturbed.{IsUndisturbed, affinity_undisturbed, bits_undisturbed, completed_undisturbed, forgotten_undisturbed, give_undisturbed}
 use Rattle.step_laws.proofs.Undisturbed.{inherited_undisturbed, notes_undisturbed, notify_undisturbed, off_undisturbed, on_undisturbed, priority_undisturbed}
 use Rattle.step_laws.proofs.Undisturbed.{taken_undisturbed, ticked_undisturbed, undisturbed, yielded_undisturbed}
+use Rattle.run_views.proofs.States.{next_state}
 use Rattle.run_pictures.specs.declared.stance.Stance.TheVariants.{Blocked}
 use Rattle.run_pictures.specs.Stances.{stance_on}
-use Rattle.run_pictures.specs.WaitLaws.{WaitsAreUnfinished}
-use Rattle.run_pictures.proofs.Seen.{checked_at_start, kept_settings, stance_seen}
+use Rattle.run_pictures.specs.WaitLaws.{BlockedCallsStay, WaitsAreUnfinished}
+use Rattle.run_pictures.proofs.Seen.{checked_at_start, kept_settings, sound_state, stance_seen}
 
 -- each task that is in no ready list has an unfinished call
 abbrev AreInCall : Table → Type 0
@@ -80,23 +82,35 @@ blocked_before : (a b : Bool) → (a ≡ true → b ≡ true) → b ≡ false �
 blocked_before true b keeps is = absurd (true≢false (sym (keeps refl) ∙ is))
 blocked_before false b keeps is = refl
 
-calm_so : (table later : Table) → IsCalm table later → AreInCall table → AreInCall later
-calm_so table later calm are i is =
-    let was = are i (blocked_before (is_ready i table.orders) (is_ready i later.orders) (calm.ready i) is) in
-    (was.0, ap (λ calls. call_at calls i) calm.calls ∙ was.1)
+-- blocked tasks are in calls after it where they were before it, and a task that was blocked has the same call
+record IsFair (table later : Table) : Type 0 where
+  in_call : AreInCall table → AreInCall later
+  stays : (i : ℕ) → is_ready i table.orders ≡ false → call_at later.calls i ≡ call_at table.calls i
 
-but_so : (task : ℕ) (table later : Table) → IsCalmBut task table later → AreInCall table → AreInCall later
-but_so task table later calm are i is = elim (cases_eq i task) [
-  | inl same ↦ own same calm.own
-  | inr other ↦
-      let was = are i (blocked_before (is_ready i table.orders) (is_ready i later.orders) (calm.ready i other) is) in
-      (was.0, calm.calls i other ∙ was.1)
-]
+calm_fair : (table later : Table) → IsCalm table later → IsFair table later
+calm_fair table later calm = record {
+  in_call = λ are i is.
+      let was = are i (blocked_before (is_ready i table.orders) (is_ready i later.orders) (calm.ready i) is) in
+      (was.0, ap (λ calls. call_at calls i) calm.calls ∙ was.1);
+  stays = λ i is. ap (λ calls. call_at calls i) calm.calls;
+}
+
+but_fair : (task : ℕ) (table later : Table) → is_ready task table.orders ≡ true → IsCalmBut task table later → IsFair table later
+but_fair task table later ready calm = record {
+  in_call = λ are i is. elim (cases_eq i task) [
+    | inl same ↦ own i is same calm.own
+    | inr other ↦
+        let was = are i (blocked_before (is_ready i table.orders) (is_ready i later.orders) (calm.ready i other) is) in
+        (was.0, calm.calls i other ∙ was.1)
+  ];
+  stays = λ i is. calm.calls i (λ same. true≢false (sym ready ∙ ap (λ j. is_ready j table.orders) (sym same) ∙ is));
+}
   where
-    own : i ≡ task → (is_ready task later.orders ≡ true) ⊎ ((call : Unfinished) × (call_at later.calls task ≡ Some call)) → (call : Unfinished) ×
+    own : (i : ℕ) → is_ready i later.orders ≡ false → i ≡ task →
+        (is_ready task later.orders ≡ true) ⊎ ((call : Unfinished) × (call_at later.calls task ≡ Some call)) → (call : Unfinished) ×
         (call_at later.calls i ≡ Some call)
-    own same (inl ready) = absurd (true≢false (sym ready ∙ ap (λ j. is_ready j later.orders) (sym same) ∙ is))
-    own same (inr has) = (has.0, ap (call_at later.calls) same ∙ has.1)
+    own i is same (inl ready) = absurd (true≢false (sym ready ∙ ap (λ j. is_ready j later.orders) (sym same) ∙ is))
+    own i is same (inr has) = (has.0, ap (call_at later.calls) same ∙ has.1)
 
 undisturbed_calm : (table later : Table) → IsUndisturbed table later → IsCalm table later
 undisturbed_calm table later kept = record { ready = kept.ready; calls = kept.calls }
@@ -290,24 +304,24 @@ module _ (core task : ℕ) (table : Table) (sound : IsConsistent table) (place :
 
 -- ---- steps
 
-performed_so : (step : Step) (table : Table) → IsSound table → IsCheckedStep table.settings step → StepFits table step → AreInCall table → AreInCall
+performed_fair : (step : Step) (table : Table) → IsSound table → IsCheckedStep table.settings step → StepFits table step → IsFair table
     (performed stamp_queues step table).1
 unfolding performed interrupted
-performed_so steps.Tick table sound checked fits are = calm_so table _ (undisturbed_calm table _ (ticked_undisturbed table)) are
-performed_so (steps.Switch core) table sound checked fits are = calm_so table _ (switch_calm core table) are
-performed_so (steps.Interrupt core note) table sound checked fits are = calm_so table _ (undisturbed_calm table _ (notify_undisturbed core note table
-    (omega (arith, sound.consistent.sized.rows, fits.1)))) are
-performed_so (steps.Call core task call) table sound checked fits are = but_so task table _
-    (called_but core task table sound.consistent fits call (checked_call table.settings core task call checked).0) are
+performed_fair Tick table sound checked fits = calm_fair table _ (undisturbed_calm table _ (ticked_undisturbed table))
+performed_fair (Switch core) table sound checked fits = calm_fair table _ (switch_calm core table)
+performed_fair (Interrupt core note) table sound checked fits = calm_fair table _ (undisturbed_calm table _ (notify_undisturbed core note table
+    (omega (arith, sound.consistent.sized.rows, fits.1))))
+performed_fair (steps.Call core task call) table sound checked fits = but_fair task table _ fits.3
+    (called_but core task table sound.consistent fits call (checked_call table.settings core task call checked).0)
 
-step_so : (step : Step) (table : Table) → IsSound table → IsCheckedStep table.settings step → AreInCall table → AreInCall (step_of step table).1
+step_fair : (step : Step) (table : Table) → IsSound table → IsCheckedStep table.settings step → IsFair table (step_of step table).1
 unfolding after
-step_so step table sound checked are = at (refusal stamp_queues step table) refl
+step_fair step table sound checked = at (refusal stamp_queues step table) refl
   where
-    at : (why : Option Refusal) → refusal stamp_queues step table ≡ why → AreInCall
+    at : (why : Option Refusal) → refusal stamp_queues step table ≡ why → IsFair table
         (option_map_or {U = Reply × Table} (λ why. (reply.Refused why, table)) why (performed stamp_queues step table)).1
-    at None free = performed_so step table sound checked (in_place step table sound checked.passes free) are
-    at (Some why) refuses = are
+    at None free = performed_fair step table sound checked (in_place step table sound checked.passes free)
+    at (Some why) refuses = record { in_call = λ are. are; stays = λ i is. refl }
 
 -- ---- a session
 
@@ -315,7 +329,8 @@ along : (steps : List Step) (table : Table) → IsSound table → All (IsChecked
 along [] table sound all are = are
 along (step ∷ steps) table sound all are =
     let checked = All-head (IsCheckedStep table.settings) step steps all in
-    along steps (step_of step table).1 (after_sound step table sound checked) (checked_rest table step steps sound all) (step_so step table sound checked are)
+    along steps (step_of step table).1 (after_sound step table sound checked) (checked_rest table step steps sound all)
+    ((step_fair step table sound checked).in_call are)
 
 abbrev AreReady : List TaskRow → Type 0
 AreReady rows = (i : ℕ) → stands_ready (get_or rows i (ready_row 0)).standing ≡ true
@@ -332,7 +347,7 @@ all_ready (row ∷ rows) more first second (suc i) = all_ready rows more (λ k. 
 
 started_so : (cores : List ℕ) (table : Table) → AreInCall table → AreInCall (fold (λ kernel core. after_switch stamp_queues core kernel) table cores)
 started_so [] table are = are
-started_so (core ∷ cores) table are = started_so cores (after_switch stamp_queues core table) (calm_so table _ (switch_calm core table) are)
+started_so (core ∷ cores) table are = started_so cores (after_switch stamp_queues core table) ((calm_fair table _ (switch_calm core table)).in_call are)
 
 start_so : (header : Header) → AreInCall (start header)
 unfolding started unstarted first_stamps
@@ -364,3 +379,18 @@ waits_are_unfinished header steps place task is checked few blocked =
       wake = option_map (λ left. (tick_count table.orders + left) % 2 ^ 32) (ticks_left task table.orders);
       told_so = stance_seen table task low ∙ waits (is_ready task table.orders) _ _ (call_at table.calls task) has.0 blocked has.1;
     }
+
+past_end : (header : Header) (steps : List Step) (place : ℕ) → length steps ≤ place → state_at header steps (suc place) ≡ state_at header steps place
+unfolding state_at
+past_end header steps place beyond =
+    ap (state_after (start header)) (take_all (suc place) steps (omega (arith, beyond)) ∙ sym (take_all place steps beyond))
+
+pub blocked_calls_stay : BlockedCallsStay
+blocked_calls_stay header steps place task is checked blocked = elim (few_or place (length steps)) [
+  | inl early ↦
+      let step = get_or steps place Tick in
+      let fits = subst (λ (settings : Settings). IsCheckedStep settings step) (sym (kept_settings header steps place is checked)) (checked place Tick early) in
+      ap (λ (table : Table). call_at table.calls task) (next_state header steps place Tick early)
+      ∙ (step_fair step (state_at header steps place) (sound_state header steps place is checked) fits).stays task blocked
+  | inr beyond ↦ ap (λ (table : Table). call_at table.calls task) (past_end header steps place beyond)
+]

@@ -1,5 +1,5 @@
 -- A blocked task is told to wait for what its unfinished call waits for.
-use Rattle.std.specs.Prelude.{◌≡◌, ◌<◌, ℕ, ◌+◌, List, All, length, false, Option, Some}
+use Rattle.std.specs.Prelude.{◌≡◌, ◌<◌, ℕ, suc, ◌+◌, List, All, length, false, Option, Some}
 use Rattle.bench_types.specs.declared.header.Header.{Header}
 use Rattle.bench_types.specs.declared.step.Step.{Step}
 use Rattle.bench_types.specs.declared.step.Unfinished.{Unfinished}
@@ -30,3 +30,12 @@ WaitsAreUnfinished =
     → let table = state_at header steps place in
     is_ready task table.orders ≡ false
     → WaitsInCall table task (stance_in task (look_of table))
+
+-- and has the same unfinished call at the next place
+abbrev pub BlockedCallsStay : Type 0
+BlockedCallsStay =
+    (header : Header) (steps : List Step) (place task : ℕ)
+    → IsCheckedHeader header → All (IsCheckedStep (settings_of header)) steps
+    → is_ready task (state_at header steps place).orders ≡ false
+    → call_at (state_at header steps (suc place)).calls task
+    ≡ call_at (state_at header steps place).calls task

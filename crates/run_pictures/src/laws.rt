@@ -4,7 +4,7 @@ ghost use Rattle.run_pictures.specs.BarTexts.{BarsAreDrawn};
 ghost use Rattle.run_pictures.specs.ColumnLaws.{PicturesBeginAtLesser};
 ghost use Rattle.run_pictures.specs.HindranceLaws.{HindrancesAreSo};
 ghost use Rattle.run_pictures.specs.LegendLaws.{LegendIsOfRun, LegendIsOfRuns};
-ghost use Rattle.run_pictures.specs.WaitLaws.{WaitsAreUnfinished};
+ghost use Rattle.run_pictures.specs.WaitLaws.{BlockedCallsStay, WaitsAreUnfinished};
 
 /// A ready task that is on no core is hindered by something at each core, and is told what: it is
 /// so, and nothing else is.
@@ -34,7 +34,8 @@ pub fn law_of_legends()
 {}
 
 /// At each place of a checked session a blocked task has an unfinished call, and is told to wait for
-/// what that call waits for.
+/// what that call waits for. So it is until it is ready: the call is the same at the next place.
 pub fn law_of_waits()
-    ensures { WaitsAreUnfinished }
+    ensures told { WaitsAreUnfinished }
+    ensures stays { BlockedCallsStay }
 {}

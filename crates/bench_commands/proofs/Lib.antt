@@ -1,7 +1,9 @@
 mod CommandLine
 mod CommandLines
+mod EditsMade
 mod EditLines
 mod Labelled
+mod Opened
 mod Recordings
 pub mod RefusedTexts
 mod Replays

@@ -27,7 +27,7 @@ use Rattle.program_io.specs.Twice.{twice_note, twice_note_as_read, warned}
 use Rattle.bench_commands.specs.declared.execution.Mode.{Mode}
 use Rattle.bench_commands.specs.Answer.{IsPrintedAnswer, Output, bench_notes, bench_output, notes_of, output_of, output_of_bench, refused, span_of}
 use Rattle.bench_commands.specs.Answer.{store_text, printed_with}
-use Rattle.document_stores.proofs.Opened.{few_steps, opens}
+use Rattle.bench_commands.proofs.Opened.{few_steps, opens}
 
 -- what is told of a text that was not read
 pub refused_printed : {E : Type 0} (mode : Mode) (text : Bench → List ℕ) (input : List ℕ) (fault : TextFault) (result : Result Printed E) →

@@ -19,7 +19,7 @@ use Rattle.bench_commands.specs.Answer.{tallies_text, trial_text, trials_text}
 use Rattle.bench_commands.specs.Lines.{answer_text, edit_line}
 use Rattle.program_io.specs.Refusal.{spaced}
 use Rattle.bench_commands.specs.TrialLaws.{PartsAreWhole, IndexIsPrinted}
-use Rattle.document_stores.proofs.EditsMade.{accepted_answer, accepted_printed, refused_answer}
+use Rattle.bench_commands.proofs.EditsMade.{accepted_answer, accepted_printed, refused_answer}
 
 abbrev Tried : Type 0
 Tried = Result (Outcome × List TaskTally) StoreFault

@@ -17,7 +17,9 @@ use crate::execution::Mode;
 use crate::output::{edited_replay, unedited_replay};
 use crate::trials::trial_lines;
 use bench_types::MAX_INPUT;
-use program_io::{Output, explained, too_long, twice_note, twice_note_of_refused, warned};
+use program_io::{
+    Output, explained, too_long, too_many_steps, twice_note, twice_note_of_refused, warned,
+};
 use session_edits::{refused_edits, refused_trials};
 use session_store::{NoResults, OpenRefusal, Store};
 use session_text::{Bench, Noted, TextFault, read_bench_noted};
@@ -39,13 +41,17 @@ pub(crate) fn refused_text(
     warned(explained(alloc, input, fault)?.on_output(), line)
 }
 
-// What is told where no store was opened, which is a refusal only for J2.
+// What is told where the store of a document that was read was not opened: it has too many steps,
+// or else memory was refused.
 fn not_opened(alloc: Global, why: OpenRefusal) -> Result<Output, AllocError>
     ensures why { OnOk result (why ≡ TooLong) }
     ensures line { IfOk result
         (λ printed. printed ≡ refused_with (refusal_line (codes "J2") []) too_many_steps_line) }
 {
-    Ok(document_stores::not_opened(alloc, why)?.on_output())
+    match why {
+        OpenRefusal::TooLong => Ok(too_many_steps(alloc)?.on_output()),
+        _ => Err(AllocError),
+    }
 }
 
 // What is told of a replay of a bench document that was read. No edits are made.

@@ -12,6 +12,7 @@ mod output;
 mod program;
 mod recording;
 mod shown_row;
+mod store_edit;
 mod trials;
 
 pub use command::{DEFAULT_SPAN, Request, request_of};

@@ -8,7 +8,7 @@ use smp_kernel::Meter;
 use std::alloc::{AllocError, Global};
 
 /// Makes an edit, and tells what it led to. One that is refused changes nothing.
-pub fn answer_to_edit<K: KeptResults>(
+pub(crate) fn answer_to_edit<K: KeptResults>(
     alloc: Global,
     meter: &mut Meter,
     store: &mut Store<K>,

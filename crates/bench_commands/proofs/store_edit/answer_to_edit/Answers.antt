@@ -1,6 +1,6 @@
 use Rattle.std.proofs.Common.{rules}
-use Rattle.document_stores.proofs.EditsMade.{accepted_after, accepted_answer, accepted_printed, refused_after, refused_answer}
-use Rattle.document_stores.proofs.edit.answer_to_edit.Goals as goal
+use Rattle.bench_commands.proofs.EditsMade.{accepted_after, accepted_answer, accepted_printed, refused_after, refused_answer}
+use Rattle.bench_commands.proofs.store_edit.answer_to_edit.Goals as goal
 
 pub returns-in-Ok-clause-answer : goal.returns-in-Ok-clause-answer
 returns-in-Ok-clause-answer g c =

@@ -1,2 +1,0 @@
-pub mod EditsMade
-pub mod Opened

@@ -1,24 +1,22 @@
 -- What is told of two settled runs.
-use Rattle.std.proofs.Common.{◌≡◌, ℕ, ◌≤◌, List, length, Result, Ok, Err, filter, inl, inr, ap, sym, subst, ◌∙◌, arith}
+use Rattle.std.proofs.Common.{◌≡◌, ◌++◌, ℕ, List, filter, flat_map, Result, Ok, Err, true, inl, inr, ap, ap₂, sym, ◌∙◌, append_assoc, arith}
 use Rattle.std.specs.Result.{IsErrAnd}
 use Rattle.bench_types.specs.declared.edit.Edit.{Edit}
-use Rattle.bench_types.specs.declared.step.Step.{Step}
-use Rattle.bench_types.specs.Limits.{max_steps}
+use Rattle.bench_types.specs.declared.header.Header.{Header}
 use Rattle.bench_types.specs.Session.{Session}
 use Rattle.bench_model.specs.Edits.{after_edits}
 use Rattle.session_edits.specs.Refused.{refused_places}
+use Rattle.session_runs.specs.Run.{IsRunOf, RunView}
 use Rattle.settled_runs.specs.declared.waiting_call.WaitingCall.{WaitingCall}
-use Rattle.settled_runs.specs.Settled.{IsSettled}
-use Rattle.settled_runs.specs.SettleLaws.{comes_from_outside}
+use Rattle.settled_runs.specs.Runs.{SettledRun}
 use Rattle.settled_runs.proofs.Settlings.{settling_keeps_events}
 use Rattle.settling.specs.declared.run.SettleFault.{SettleFault}
 use Rattle.run_comparisons.specs.declared.rows.Row.{Row}
-use Rattle.run_comparisons.specs.Rows.{rows_of}
 use Rattle.run_comparisons.specs.declared.settled.SettledPair.{SettledPair}
-use Rattle.run_comparisons.specs.Settled.{settled_text, with_steps, IsComparisonTooLong, IsSettledComparison, IsSettledPair}
-use Rattle.settled_runs.specs.Runs.{SettledRun}
-use Rattle.run_comparisons.specs.Shared.{shared_among, shared_events, AreEventsOf}
-use Rattle.run_comparisons.specs.SideBySide.{first_places, AreSideBySide}
+use Rattle.run_comparisons.specs.Comparison.{differences_text, fared_text, rows_text}
+use Rattle.run_comparisons.specs.RowWords.{differs, row_line}
+use Rattle.run_comparisons.specs.Settled.{left_lines, settled_text, with_steps, IsComparisonTooLong, IsSettledComparison, IsSettledPair}
+use Rattle.run_comparisons.specs.Shared.{AreEventsOf}
 
 -- the fault that is handed on is the one that was told
 pub fault_printed : {T : Type 0} (result : Result T SettleFault) (fault : SettleFault) → IsErrAnd result (λ printed. printed ≡ fault)
@@ -27,63 +25,57 @@ fault_printed (Ok value) fault printed is = absurd printed
 fault_printed (Err other) fault printed {U} is = ap Err (sym printed ∙ cc is)
 
 -- the events of the steps of a session are those of its settled run
-pub events_kept : (session : Session) (steps run : List Step) (left : List WaitingCall) → steps ≡ session.steps → IsSettled session.header session.steps run
-    left → AreEventsOf steps run
-events_kept session steps run left are settled = ap (filter comes_from_outside) are ∙ settling_keeps_events session.header session.steps run left settled
+pub events_kept : (session : Session) (run : RunView) → IsRunOf true session run → AreEventsOf session.steps run.session.steps
+events_kept session run is = settling_keeps_events session.header session.steps run.session.steps run.left is.1
 
--- both runs and their rows
-pub pair_settled : (session : Session) (edits : List Edit) (edited : Session) (rows : List Row) (steps others : List Step) (pair : SettledPair)
-    → edited ≡ after_edits session edits → rows ≡ rows_of session edits → steps ≡ session.steps → IsSettled session.header session.steps pair.before.run.items
-    pair.before.left.items → others ≡ edited.steps
-    → IsSettled edited.header edited.steps pair.after.run.items pair.after.left.items → length pair.before.run.items ≤ max_steps → length pair.after.run.items ≤
-    max_steps
-    → AreSideBySide pair.before.run.items pair.after.run.items (shared_among steps others pair.before.run.items pair.after.run.items rows) first_places
-    pair.rows.items → pair.refused.items ≡ refused_places session edits → IsSettledPair session edits pair
-pair_settled session edits edited rows steps others pair is_edited are_rows are_steps settled are_others settled_too few few_too aligned not_made =
-    let run = pair.before.run.items in
-    let later = pair.after.run.items in
-    let shared : shared_among steps others run later rows ≡ shared_events session edits run later =
-    ap (λ (one : List Step). shared_among one others run later rows) are_steps
-    ∙ ap (λ (one : List Step). shared_among session.steps one run later rows) (are_others ∙ ap (λ (one : Session). one.steps) is_edited)
-    ∙ ap (shared_among session.steps (after_edits session edits).steps run later) are_rows in
-    record {
-      before = settled;
-      after = subst (λ (one : Session). IsSettled one.header one.steps later pair.after.left.items) is_edited settled_too;
-      few_before = few;
-      few_after = few_too;
-      rows = subst (λ events. AreSideBySide run later events first_places pair.rows.items) shared aligned;
-      refused = not_made;
-    }
+-- the run as one of its session
+abbrev pub settled_run : (session : Session) (run : RunView) → IsRunOf true session run → SettledRun session
+settled_run session run is = record { run = run.session.steps; left = run.left; settled = is.1 }
 
--- either run, as the settled run of its session
-abbrev pub run_before : (session : Session) (edits : List Edit) (pair : SettledPair) → IsSettledPair session edits pair → SettledRun session
-run_before session edits pair settled = record { run = pair.before.run.items; left = pair.before.left.items; settled = settled.before }
+-- its session is the one that was settled, with other steps
+pub own_steps : (session : Session) (run : RunView) → IsRunOf true session run → run.session ≡ with_steps session run.session.steps
+own_steps session run is =
+    let put : Header → Session = λ header. record { header = header; steps = run.session.steps } in
+    ap put is.0
 
-abbrev pub run_after : (session : Session) (edits : List Edit) (pair : SettledPair) → IsSettledPair session edits pair → SettledRun (after_edits session edits)
-run_after session edits pair settled = record { run = pair.after.run.items; left = pair.after.left.items; settled = settled.after }
+-- rows and where they differ, by two readers
+pub rows_told : (before after one other : Session) (refused : List ℕ) (rows differing : List Row) (start lines text : List ℕ) → one ≡ before → other ≡ after
+    → lines ≡ start ++ flat_map (row_line one other) rows → differing ≡ filter (differs one other) rows → text ≡ lines ++ differences_text refused differing
+    → text ≡ start ++ rows_text before after refused rows
+rows_told before after one other refused rows differing start lines text is is_too told are was =
+    was ∙ ap₂ (λ (some : List ℕ) (list : List Row). some ++ differences_text refused list) told are
+    ∙ append_assoc start (flat_map (row_line one other) rows) (differences_text refused (filter (differs one other) rows))
+    ∙ ap₂ (λ (b a : Session). start ++ rows_text b a refused rows) is is_too
 
--- the text of them
-pub comparison_printed : (session : Session) (edits : List Edit) (edited : Session) (pair : SettledPair) (text : List ℕ) → edited ≡ after_edits session edits →
-    IsSettledPair session edits pair
-    → text ≡ settled_text (with_steps session pair.before.run.items) (with_steps edited pair.after.run.items) pair.refused.items pair.rows.items
-    pair.before.left.items pair.after.left.items → IsSettledComparison session edits text
-comparison_printed session edits edited pair text is_edited settled printed = (
-  run_before session edits pair settled,
-  run_after session edits pair settled,
-  pair.rows.items,
-  settled.rows,
-  printed
-      ∙ ap (λ (one : Session). settled_text (with_steps session pair.before.run.items) (with_steps one pair.after.run.items) pair.refused.items pair.rows.items
-      pair.before.left.items pair.after.left.items) is_edited
-      ∙ ap (λ (places : List ℕ). settled_text (with_steps session pair.before.run.items) (with_steps (after_edits session edits) pair.after.run.items) places
-      pair.rows.items pair.before.left.items pair.after.left.items) settled.refused,
-)
+settled_told : (before after : Session) (refused : List ℕ) (rows : List Row) (left rest : List WaitingCall) (text : List ℕ)
+    → text ≡ rows_text before after refused rows ++ fared_text before after ++ left_lines before.header after.header left rest
+    → text ≡ settled_text before after refused rows left rest
+unfolding settled_text
+settled_told before after refused rows left rest text told = told
+
+-- the text of both runs
+pub comparison_printed : (session : Session) (edits : List Edit) (pair : SettledPair) (text : List ℕ) → IsSettledPair session edits pair
+    → text ≡ rows_text pair.before.session pair.after.session (refused_places session edits) pair.rows.items
+    ++ fared_text pair.before.session pair.after.session
+    ++ left_lines pair.before.session.header pair.after.session.header pair.before.left pair.after.left
+    → IsSettledComparison session edits text
+comparison_printed session edits pair text settled printed =
+    let edited = after_edits session edits in
+    let told : Session → Session → List ℕ = λ before after. settled_text before after (refused_places session edits) pair.rows.items pair.before.left
+    pair.after.left in (
+      settled_run session pair.before settled.before,
+      settled_run edited pair.after settled.after,
+      pair.rows.items,
+      settled.rows,
+      settled_told pair.before.session pair.after.session (refused_places session edits) pair.rows.items pair.before.left pair.after.left text printed
+          ∙ ap₂ told (own_steps session pair.before settled.before) (own_steps edited pair.after settled.after),
+    )
 
 -- neither run is too long
 pub neither_too_long : (session : Session) (edits : List Edit) (pair : SettledPair) → IsSettledPair session edits pair → ¬ IsComparisonTooLong session edits
 neither_too_long session edits pair settled (inl long) =
-    let more = long (run_before session edits pair settled) in
+    let more = long (settled_run session pair.before settled.before) in
     omega (arith, more, settled.few_before)
 neither_too_long session edits pair settled (inr long) =
-    let more = long (run_after session edits pair settled) in
+    let more = long (settled_run (after_edits session edits) pair.after settled.after) in
     omega (arith, more, settled.few_after)

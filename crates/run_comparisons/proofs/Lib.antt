@@ -11,7 +11,6 @@ mod Moved
 mod NoDifference
 pub mod OneText
 mod Outcomes
-mod Places
 mod Ranges
 pub mod RowsCounted
 mod RefusalsFound

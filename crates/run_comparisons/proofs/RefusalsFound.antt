@@ -1,105 +1,132 @@
 -- What is refused in a run after edits.
-use Rattle.std.proofs.Common.{◌≡◌, ℕ, ◌≤◌, ◌<◌, Bool, true, false, not, List, [], ◌∷◌, length, Result, Ok, Err, IfOk, refl, ap, sym, subst, ◌∙◌, arith, inl}
+use Rattle.std.proofs.Common.{◌≡◌, ℕ, ◌+◌, ◌≤◌, ◌<◌, Bool, true, false, List, [], ◌∷◌, length, Option, Some, None, Result, Ok, Err, IfOk, refl, ap, sym, subst, ◌∙◌, arith, inl}
 use Rattle.std.proofs.Common.{inr}
-use Rattle.std.specs.Prelude.{◌↔◌, ◌==◌, IsTrue}
+use Rattle.std.specs.Prelude.{◌↔◌, ◌==◌, IsTrue, option_map}
+use Rattle.std.specs.Option.{option_map_or}
+use Rattle.std.proofs.lemmas.Bool.{cases_lt}
 use Rattle.std.proofs.lemmas.Bool.Decides.{nat_tests}
+use Rattle.std.proofs.lemmas.Option.{slice_get_past}
 use Rattle.bench_types.specs.declared.edit.Edit.{Edit}
 use Rattle.bench_types.specs.declared.header.Header.{Header}
+use Rattle.bench_types.specs.declared.reply.Refusal.{Refusal}
+use Rattle.bench_types.specs.declared.reply.Reply.{Reply}
+use Rattle.bench_types.specs.declared.reply.Reply.TheVariants.{Done, Blocked, Flag, Value, Waited, Until, Isr, Refused}
 use Rattle.bench_types.specs.declared.step.Step.{Step}
 use Rattle.bench_types.specs.Limits.{max_steps}
-use Rattle.bench_types.specs.Session.{Session, IsSession}
+use Rattle.bench_types.specs.Session.{Session}
 use Rattle.bench_model.specs.Edits.{after_edits}
+use Rattle.bench_model.specs.Session.{reply_at, state_at, step_of}
 use Rattle.session_edits.specs.declared.refused.RefusedEdit.{RefusedEdit}
-use Rattle.session_edits.specs.Refused.{places_of, refused_edits, HasRefusedEdit}
-use Rattle.run_views.specs.RefusedSteps.{HasRefusedStep}
-use Rattle.settled_runs.specs.declared.waiting_call.WaitingCall.{WaitingCall}
-use Rattle.settled_runs.specs.Settled.{IsSettled}
+use Rattle.session_edits.specs.Refused.{refused_edits, HasRefusedEdit}
+use Rattle.session_runs.specs.Run.{IsRunOf, RunView}
+use Rattle.run_views.specs.RefusedSteps.{is_refusal, HasRefusedStep}
+use Rattle.settled_runs.specs.Runs.{IsSettledTooLong}
 use Rattle.settled_runs.proofs.Settlings.{settled_run_is_one}
 use Rattle.run_comparisons.specs.Refusals.{HasRefusal, HasRefusedRunStep, HasRefusedSettledStep}
 
--- a fact of a bool that a call gave
-if_found : {E P Q : Type 0} (r : Result Bool E) → (P → Q) → (Q → P) → IfOk r (λ found. IsTrue found ↔ P) → IfOk r (λ found. IsTrue found ↔ Q)
-if_found (Ok found) there back printed = (λ is. there (printed.0 is), λ some. printed.1 (back some))
-if_found (Err why) there back printed = tt
+-- ---- one step
 
--- a step of the one settled run
-pub of_settled_run : {E : Type 0} (session : Session) (steps run : List Step) (left : List WaitingCall) (r : Result Bool E) → IsSettled session.header
-    session.steps run left → length run ≤ max_steps → steps ≡ run
-    → IfOk r (λ found. IsTrue found ↔ HasRefusedStep session.header steps) → IfOk r (λ found. IsTrue found ↔ HasRefusedSettledStep session)
-of_settled_run session steps run left r settled few are printed =
-    if_found r
-    (λ (some : HasRefusedStep session.header run). (record { run = run; left = left; settled = settled }, few, some))
-    (λ (some : HasRefusedSettledStep session). subst (λ (one : List Step). HasRefusedStep session.header one)
-    (settled_run_is_one session.header session.steps some.0.run run some.0.left left some.0.settled settled).0 some.2)
-    (subst (λ (one : List Step). IfOk r (λ found. IsTrue found ↔ HasRefusedStep session.header one)) are printed)
+-- whether the step at the place is refused
+abbrev pub refused_at : Session → ℕ → Bool
+refused_at session place = option_map_or is_refusal (reply_at session.header session.steps place) false
 
--- a settled run that is too long is not looked at
-pub of_long_run : (session : Session) → ((run : List Step) (left : List WaitingCall) → IsSettled session.header session.steps run left → max_steps < length run)
-    → IsTrue false ↔ HasRefusedSettledStep session
-of_long_run session long = (
-  λ is. absurd (cc is),
-  λ some. absurd (let more = long some.0.run some.0.left some.0.settled in let few = some.1 in omega
-      (arith, more, few)),
+-- no step before the place is refused
+abbrev pub NoneBefore : Session → ℕ → Type 0
+NoneBefore session place = (early : ℕ) → early < place → refused_at session early ≡ false
+
+reason : (reply : Reply) → is_refusal reply ≡ true → (why : Refusal) × (reply ≡ Refused why)
+reason Done is = absurd (cc is)
+reason Blocked is = absurd (cc is)
+reason (Flag flag) is = absurd (cc is)
+reason (Value value) is = absurd (cc is)
+reason (Waited ok value) is = absurd (cc is)
+reason (Until delayed wake) is = absurd (cc is)
+reason (Isr pass pend) is = absurd (cc is)
+reason (Refused why) is = (why, refl)
+
+reason_at : (reply : Option Reply) → option_map_or is_refusal reply false ≡ true → (why : Refusal) × (reply ≡ Some (Refused why))
+reason_at None is = absurd (cc is)
+reason_at (Some reply) is = let why = reason reply is in (why.0, ap Some why.1)
+
+-- a step is refused
+pub one_is : (session : Session) (place : ℕ) (found : Bool) → found ≡ refused_at session place → found ≡ true → IsTrue true ↔ HasRefusedStep session.header
+    session.steps
+one_is session place found is holds =
+    let why = reason_at (reply_at session.header session.steps place) (sym is ∙ holds) in
+    (λ i. (place, why.0, why.1), λ some. refl)
+
+-- the next step is not refused
+pub passed_by : (session : Session) (place : ℕ) (found : Bool) → NoneBefore session place → found ≡ refused_at session place → found ≡ false → NoneBefore session
+    (place + 1)
+passed_by session place found none is fails early before = elim (cases_lt early place) [
+  | inl earlier ↦ none early earlier
+  | inr later ↦
+      let here : early ≡ place = omega (arith, later, before) in
+      ap (refused_at session) here ∙ sym is ∙ fails
+]
+
+-- there is no reply past the last step
+past_last : (header : Header) (steps : List Step) (place : ℕ) → length steps ≤ place → reply_at header steps place ≡ None
+unfolding reply_at
+past_last header steps place past = ap (option_map (λ (step : Step). (step_of step (state_at header steps place)).0)) (slice_get_past steps place past)
+
+-- no step is refused
+pub none_is : (session : Session) (place : ℕ) → NoneBefore session place → length session.steps ≤ place → IsTrue false ↔ HasRefusedStep session.header
+    session.steps
+none_is session place none past = (
+  λ i. absurd (cc i),
+  λ some. absurd (elim (cases_lt some.0 place) [
+    | inl early ↦
+        let holds : refused_at session some.0 ≡ true = ap (λ (reply : Option Reply). option_map_or is_refusal reply false) some.2 in
+        let fails = none some.0 early in
+        cc (holds, fails)
+    | inr late ↦
+        let not = past_last session.header session.steps some.0 (omega (arith, late, past)) in
+        let is = some.2 in
+        cc (not, is)
+  ]),
 )
 
--- the session of a header and steps
-pub of_steps : {E : Type 0} (header : Header) (steps : List Step) (session : Session) (settled : Bool) (r : Result Bool E) → header ≡ session.header → steps ≡
-    session.steps
-    → IfOk r (λ found. IsTrue found ↔ HasRefusedRunStep settled (record { header = header; steps = steps })) → IfOk r
-    (λ found. IsTrue found ↔ HasRefusedRunStep settled session)
-of_steps header steps session settled r is_header are_steps printed =
-    let put : Header → List Step → Session = λ header steps. record { header = header; steps = steps } in
-    subst (λ (one : Session). IfOk r (λ found. IsTrue found ↔ HasRefusedRunStep settled one))
-    (ap (λ (one : Header). put one steps) is_header ∙ ap (put session.header) are_steps) printed
+-- ---- a run
 
-no_places : (refused : List RefusedEdit) → places_of refused ≡ [] → refused ≡ []
-no_places [] none = refl
-no_places (one ∷ refused) none = absurd (cc none)
+-- a step of the one settled run
+pub of_settled_run : (session : Session) (run : RunView) (found : Bool) → IsRunOf true session run → length run.session.steps ≤ max_steps
+    → (IsTrue found ↔ HasRefusedStep run.session.header run.session.steps) → IsTrue found ↔ HasRefusedSettledStep session
+of_settled_run session run found is few printed =
+    let own = subst (λ (header : Header). IsTrue found ↔ HasRefusedStep header run.session.steps) is.0 printed in (
+      λ i. (record { run = run.session.steps; left = run.left; settled = is.1 }, few, own.0 i),
+      λ some. own.1
+          (subst (λ (steps : List Step). HasRefusedStep session.header steps)
+          (settled_run_is_one session.header session.steps some.0.run run.session.steps some.0.left run.left some.0.settled is.1).0 some.2),
+    )
 
--- there are places of refused edits
-pub of_places : (session : Session) (edits : List Edit) (places : List ℕ) (empty : Bool) → places ≡ places_of (refused_edits session edits) → empty ≡
-    (length places == 0) → IsTrue (not empty) ↔ HasRefusedEdit session edits
-of_places session edits places empty are is = at places empty are is
-  where
-    at : (list : List ℕ) (b : Bool) → list ≡ places_of (refused_edits session edits) → b ≡ (length list == 0) → IsTrue (not b) ↔ HasRefusedEdit session edits
-    at [] true are is = (λ yes. absurd (cc yes), λ some. absurd (some (no_places (refused_edits session edits) (sym are))))
-    at [] false are is = absurd (cc is)
-    at (place ∷ list) true are is = absurd (let none : length (place ∷ list) ≡ 0 = grind (arith, nat_tests, is) in omega (arith, none))
-    at (place ∷ list) false are is = (λ yes none. absurd (let e = ap places_of none in cc (are, e)), λ some. refl)
+-- a settled run that is too long is not looked at
+pub of_long_run : (session : Session) → IsSettledTooLong session → IsTrue false ↔ HasRefusedSettledStep session
+of_long_run session long = (
+  λ is. absurd (cc is),
+  λ some. absurd (let more = long some.0 in let few = some.1 in omega (arith, more, few)),
+)
+
+-- ---- edits and a run
 
 -- an edit is refused
-pub of_edit : (settled : Bool) (session : Session) (edits : List Edit) (found : Bool) → (IsTrue found ↔ HasRefusedEdit session edits) → found ≡ true → IsTrue
-    true ↔ HasRefusal settled session edits
-of_edit settled session edits found printed is = (λ yes. inl (printed.0 is), λ some. refl)
+pub of_edit : (settled : Bool) (session : Session) (edits : List Edit) → HasRefusedEdit session edits → IsTrue true ↔ HasRefusal settled session edits
+of_edit settled session edits some = (λ i. inl some, λ all. refl)
+
+no_edit : (session : Session) (edits : List Edit) (list : List RefusedEdit) → list ≡ refused_edits session edits → (length list == 0) ≡ true → ¬ HasRefusedEdit
+    session edits
+no_edit session edits [] are none some = some (sym are)
+no_edit session edits (one ∷ list) are none some = let e : length (one ∷ list) ≡ 0 = grind (arith, nat_tests, none) in omega (arith, e)
 
 -- no edit is refused
-pub of_run : {E : Type 0} (settled : Bool) (session edited : Session) (edits : List Edit) (found : Bool) (r : Result Bool E) →
-    (IsTrue found ↔ HasRefusedEdit session edits) → found ≡ false → edited ≡ after_edits session edits
+pub of_run : {E : Type 0} (settled : Bool) (session edited : Session) (edits : List Edit) (list : List RefusedEdit) (r : Result Bool E) → list ≡ refused_edits
+    session edits → (length list == 0) ≡ true → edited ≡ after_edits session edits
     → IfOk r (λ step. IsTrue step ↔ HasRefusedRunStep settled edited) → IfOk r (λ step. IsTrue step ↔ HasRefusal settled session edits)
-of_run settled session edited edits found r printed is leads of_step =
-    if_found r inr back (subst (λ (one : Session). IfOk r (λ step. IsTrue step ↔ HasRefusedRunStep settled one)) leads of_step)
+of_run settled session edited edits list (Err why) are none leads of_step = tt
+of_run settled session edited edits list (Ok step) are none leads of_step =
+    let own = subst (λ (one : Session). IsTrue step ↔ HasRefusedRunStep settled one) leads of_step in
+    (λ i. inr (own.0 i), back own.1)
   where
-    back : HasRefusal settled session edits → HasRefusedRunStep settled (after_edits session edits)
-    back (inl edit) = absurd (let yes = printed.1 edit in cc (yes, is))
-    back (inr step) = step
-
--- the run is a session of its header
-pub run_of_session : (header : Header) (steps run : List Step) → steps ≡ run → IsSession (record { header = header; steps = run }) → IsSession
-    (record { header = header; steps = steps })
-run_of_session header steps run are is = subst (λ (one : List Step). IsSession (record { header = header; steps = one })) (sym are) is
-
--- a step of the run as it stands, or of the settled run
-pub settled_printed : {E : Type 0} (header : Header) (steps : List Step) (session : Session) (settled : Bool) (r : Result Bool E) → settled ≡ true → header ≡
-    session.header → steps ≡ session.steps
-    → IfOk r (λ found. IsTrue found ↔ HasRefusedSettledStep (record { header = header; steps = steps })) → IfOk r
-    (λ found. IsTrue found ↔ HasRefusedRunStep settled session)
-settled_printed header steps session settled r is is_header are_steps printed =
-    of_steps header steps session settled r is_header are_steps
-    (subst (λ (b : Bool). IfOk r (λ found. IsTrue found ↔ HasRefusedRunStep b (record { header = header; steps = steps }))) (sym is) printed)
-
-pub plain_printed : {E : Type 0} (header : Header) (steps : List Step) (session : Session) (settled : Bool) (r : Result Bool E) → settled ≡ false → header ≡
-    session.header → steps ≡ session.steps
-    → IfOk r (λ found. IsTrue found ↔ HasRefusedStep header steps) → IfOk r (λ found. IsTrue found ↔ HasRefusedRunStep settled session)
-plain_printed header steps session settled r is is_header are_steps printed =
-    of_steps header steps session settled r is_header are_steps
-    (subst (λ (b : Bool). IfOk r (λ found. IsTrue found ↔ HasRefusedRunStep b (record { header = header; steps = steps }))) (sym is) printed)
+    back : (HasRefusedRunStep settled (after_edits session edits) → IsTrue step) → HasRefusal settled session edits → IsTrue step
+    back found (inl edit) = absurd (no_edit session edits list are none edit)
+    back found (inr refused) = found refused

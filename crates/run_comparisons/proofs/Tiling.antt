@@ -3,18 +3,16 @@ use Rattle.std.proofs.Common.{◌≡◌, ℕ, zero, suc, ◌+◌, ◌-◌, ◌�
 use Rattle.std.proofs.Common.{sym, subst, ◌∙◌, append_assoc, add-one, arith}
 use Rattle.std.specs.List.{range_with_len}
 use Rattle.std.proofs.lemmas.Grind.{flat_map-append}
-use Rattle.std.proofs.lemmas.List.FromFn.{length-map-range_with_len}
 use Rattle.bench_types.specs.declared.edit.Edit.{Edit}
 use Rattle.bench_types.specs.declared.edit.Edit.TheVariants.{Insert, Remove, Replace, ChangeTask}
 use Rattle.bench_types.specs.declared.edit.EditFault.{EditFault}
 use Rattle.bench_types.specs.Session.{Session}
-use Rattle.bench_model.specs.Edits.{accepted, after_edit, after_edits}
+use Rattle.bench_model.specs.Edits.{accepted, after_edit}
 use Rattle.run_comparisons.specs.declared.rows.Row.TheVariants.{Both, Removed}
 use Rattle.session_edits.specs.Origins.{Origin, all_kept, origins_after, origins_made, origins_of}
 use Rattle.run_comparisons.specs.Rows.{removed, rows_from}
 use Rattle.run_comparisons.specs.RowLaws.{EachAfter, EachBefore, place_after, place_before}
-use Rattle.session_edits.proofs.Moving.{among, made_is, made_not, still_many}
-use Rattle.run_comparisons.proofs.Aligned.{session_is, session_not}
+use Rattle.session_edits.proofs.Moving.{kept_many, made_is, made_not, origins_many}
 
 -- ---- after the edits
 
@@ -33,31 +31,11 @@ rows_after count next place (Some before ∷ origins) =
     (none_after (range_with_len next (before - next))))
     ∙ ap (λ list. place ∷ list) (rows_after count (suc before) (suc place) origins ∙ ap (λ from. range_with_len from (length origins)) (sym (add-one place)))
 
-many_made : (session : Session) (edit : Edit) (origins : List Origin) → length origins ≡ length session.steps → length (origins_made session edit origins) ≡
-    length (after_edit session edit).steps
-many_made session edit origins many = at (accepted session edit) refl
-  where
-    at : (check : Result (Unit {0}) EditFault) → accepted session edit ≡ check → length (origins_made session edit origins) ≡ length
-        (after_edit session edit).steps
-    at (Ok done) accepts =
-        ap (λ (list : List Origin). length list) (made_is session edit origins accepts)
-        ∙ still_many session edit origins many (among session edit (length origins) accepts many)
-        ∙ sym (ap (λ (s : Session). length s.steps) (session_is session edit accepts))
-    at (Err why) refuses =
-        ap (λ (list : List Origin). length list) (made_not session edit origins why refuses) ∙ many
-        ∙ sym (ap (λ (s : Session). length s.steps) (session_not session edit why refuses))
-
-many_origins : (session : Session) (edits : List Edit) (origins : List Origin) → length origins ≡ length session.steps → length
-    (origins_of session edits origins) ≡ length (after_edits session edits).steps
-many_origins session [] origins many = many
-many_origins session (edit ∷ edits) origins many = many_origins (after_edit session edit) edits (origins_made session edit origins)
-    (many_made session edit origins many)
-
 pub each_after : EachAfter
 each_after session edits =
     let count = length session.steps in
     rows_after count 0 0 (origins_of session edits (all_kept count))
-    ∙ ap (λ n. range_with_len 0 n) (many_origins session edits (all_kept count) (length-map-range_with_len (λ (n : ℕ). Some n) 0 count))
+    ∙ ap (λ n. range_with_len 0 n) (origins_many session edits (all_kept count) (kept_many count))
 
 -- ---- before them
 

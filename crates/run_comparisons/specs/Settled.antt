@@ -1,5 +1,5 @@
 -- The settled run of a session beside the settled run of the session after edits of it.
-use Rattle.std.specs.Prelude.{◌≡◌, ◌<◌, ◌≤◌, ◌⊎◌, ℕ, List, [], ◌∷◌, ◌++◌, codes, length}
+use Rattle.std.specs.Prelude.{◌≡◌, ◌≤◌, ◌⊎◌, ℕ, List, [], ◌∷◌, ◌++◌, codes, length, true}
 use Rattle.bench_types.specs.declared.edit.Edit.{Edit}
 use Rattle.bench_types.specs.declared.header.Header.{Header}
 use Rattle.bench_types.specs.declared.step.Step.{Step}
@@ -9,7 +9,7 @@ use Rattle.bench_model.specs.Edits.{after_edits}
 use Rattle.session_edits.specs.Refused.{refused_places}
 use Rattle.settled_runs.specs.declared.waiting_call.WaitingCall.{WaitingCall}
 use Rattle.settled_runs.specs.Runs.{IsSettledTooLong, SettledRun}
-use Rattle.settled_runs.specs.Settled.{IsSettled}
+use Rattle.session_runs.specs.Run.{IsRunOf}
 use Rattle.settling.specs.Notes.{left_text}
 use Rattle.run_comparisons.specs.declared.rows.Row.{Row}
 use Rattle.run_comparisons.specs.declared.settled.SettledPair.{SettledPair}
@@ -39,18 +39,15 @@ settled_text before after refused rows left rest =
     rows_text before after refused rows ++ fared_text before after
     ++ left_lines before.header after.header left rest
 
--- two settled runs, of a session and of the session after edits of it, their rows, and the places
--- of the edits that are refused; neither run has more steps than a session may have
+-- two settled runs, of a session and of the session after edits of it, and their rows; neither run
+-- has more steps than a session may have
 pub record IsSettledPair (session : Session) (edits : List Edit) (pair : SettledPair) : Type 0 where
-  pub before : IsSettled session.header session.steps pair.before.run.items
-      pair.before.left.items
-  pub after : IsSettled (after_edits session edits).header (after_edits session edits).steps
-      pair.after.run.items pair.after.left.items
-  pub few_before : length pair.before.run.items ≤ max_steps
-  pub few_after : length pair.after.run.items ≤ max_steps
-  pub rows : AreSettledRows session edits pair.before.run.items pair.after.run.items
+  pub before : IsRunOf true session pair.before
+  pub after : IsRunOf true (after_edits session edits) pair.after
+  pub few_before : length pair.before.session.steps ≤ max_steps
+  pub few_after : length pair.after.session.steps ≤ max_steps
+  pub rows : AreSettledRows session edits pair.before.session.steps pair.after.session.steps
       pair.rows.items
-  pub refused : pair.refused.items ≡ refused_places session edits
 
 -- The text tells of a settled run of the session and of one of the session after the edits, which
 -- are made one after another. Those that are refused are passed over.

@@ -1,65 +1,52 @@
 //! Both runs, row by row, and how the tasks fared.
 ghost use Rattle.std.specs.Prelude.{◌≡◌, ◌++◌, IfOk, OnOk, filter, flat_map, string_bytes};
-ghost use Rattle.bench_model.specs.Edits.{after_edits};
 ghost use Rattle.session_edits.specs.Refused.{refused_places};
 ghost use Rattle.run_comparisons.specs.Comparison.{compare_text, differences_text, ends_text, fared_text, first_text, further_text, last_text, no_difference_text, not_made_line, not_made_text, places_text, rows_text};
 ghost use Rattle.run_comparisons.specs.RowWords.{differs, row_line};
 ghost use Rattle.run_comparisons.specs.Rows.{rows_of};
 
 use crate::gains::push_gains;
-use crate::making::make_edits;
 use crate::row_words::{push_place, push_row};
 use crate::rows::{Row, push_rows};
-use bench_types::Edit;
-use session_edits::all_kept;
-use session_store::Store;
+use crate::run_reader::RunReader;
+use session_edits::EditedSession;
+use session_runs::Run;
 use smp_kernel::Meter;
 use std::alloc::{AllocError, Global};
 
-/// The rows of a session before edits and after them.
-#[derive(Drop)]
-pub(crate) struct EditedRows {
-    pub(crate) rows: Vec<Row>,
-    /// The places of the edits that were refused.
-    pub(crate) refused: Vec<usize>,
+/// The rows of the session before the edits and after them.
+pub(crate) fn rows_of(alloc: Global, edited: &EditedSession) -> Result<Vec<Row>, AllocError>
+    ensures { IfOk result
+        (λ rows. rows.items ≡ rows_of edited.now.session edited.now.edits) }
+{
+    let count = edited.session().steps().len() as u32;
+    let mut rows = Vec::with_capacity(alloc, edited.edited().steps().len())?;
+    push_rows(&mut rows, count, edited.origins())?;
+    Ok(rows)
 }
 
-/// Makes the edits, and gives the rows of the session before them and after them.
-pub(crate) fn rows_of(
-    alloc: Global,
-    meter: &mut Meter,
-    store: &mut Store,
-    edits: &[Edit],
-) -> Result<EditedRows, AllocError>
-    ensures rows { IfOk result
-        (λ made. made.rows.items ≡ rows_of store.old.session edits.now) }
-    ensures refused { IfOk result
-        (λ made. made.refused.items ≡ refused_places store.old.session edits.now) }
-    ensures session { OnOk result (store.new.session ≡ after_edits store.old.session edits.now) }
+// The places of the edits that are refused.
+fn refused_places(alloc: Global, edited: &EditedSession) -> Result<Vec<usize>, AllocError>
+    ensures { IfOk result
+        (λ places. places.items ≡ refused_places edited.now.session edited.now.edits) }
 {
-    let count = store.len();
-    let mut origins = all_kept(alloc, count)?;
-    let refused = make_edits(alloc, meter, store, &mut origins, edits)?;
-    let mut rows = Vec::with_capacity(alloc, store.len() as usize)?;
-    push_rows(&mut rows, count, origins.as_slice())?;
-    Ok(EditedRows { rows, refused })
+    let refused = edited.refused();
+    refused.iter().map(|one| one.index).collect(alloc)
 }
 
 // Writes the rows, and gives those in which the runs differ.
 fn push_lines(
     alloc: Global,
     text: &mut String,
-    before: &Store,
-    after: &Store,
+    before: &mut RunReader<'_>,
+    after: &mut RunReader<'_>,
     rows: &[Row],
 ) -> Result<Vec<Row>, AllocError>
     ensures lines { OnOk result
         (string_bytes text.new
-        ≡ string_bytes text.old
-        ++ flat_map (row_line before.now.session after.now.session) rows.now) }
+        ≡ string_bytes text.old ++ flat_map (row_line before.old after.old) rows.now) }
     ensures differing { IfOk result
-        (λ differing. differing.items
-        ≡ filter (differs before.now.session after.now.session) rows.now) }
+        (λ differing. differing.items ≡ filter (differs before.old after.old) rows.now) }
 {
     let mut differing = Vec::new(alloc);
     for row in rows {
@@ -163,13 +150,13 @@ fn push_differences(text: &mut String, refused: &[usize], rows: &[Row]) -> Resul
     }
 }
 
-/// Writes the rows, and where the runs differ first and last. Where they do not, the edits that
-/// were refused are told.
-pub(crate) fn push_rows_text(
+// Writes the rows, and where the runs differ first and last. Where they do not, the edits that
+// were refused are told.
+fn push_rows_text(
     alloc: Global,
     text: &mut String,
-    before: &Store,
-    after: &Store,
+    before: &Run,
+    after: &Run,
     refused: &[usize],
     rows: &[Row],
 ) -> Result<(), AllocError>
@@ -178,47 +165,60 @@ pub(crate) fn push_rows_text(
         ≡ string_bytes text.old
         ++ rows_text before.now.session after.now.session refused.now rows.now) }
 {
-    let differing = push_lines(alloc, text, before, after, rows)?;
+    let mut earlier = RunReader::of(alloc, before)?;
+    let mut later = RunReader::of(alloc, after)?;
+    let differing = push_lines(alloc, text, &mut earlier, &mut later, rows)?;
     push_differences(text, refused, differing.as_slice())
 }
 
-/// Writes what each task gained and lost.
-pub(crate) fn push_fared(
-    alloc: Global,
-    text: &mut String,
-    before: &Store,
-    after: &Store,
-) -> Result<(), AllocError>
+// Writes what each task gained and lost.
+fn push_fared(alloc: Global, text: &mut String, before: &Run, after: &Run) -> Result<(), AllocError>
     ensures { OnOk result
         (string_bytes text.new
         ≡ string_bytes text.old ++ fared_text before.now.session after.now.session) }
 {
-    let earlier = before.tallies(alloc)?;
-    let later = after.tallies(alloc)?;
-    push_gains(alloc, text, before.header(), &earlier, &later)
+    let header = before.session().header();
+    push_gains(alloc, text, header, before.tallies(), after.tallies())
+}
+
+/// Writes what is told of two runs by their rows: the rows, and what each task gained and lost. The
+/// edits that were refused stand at these places.
+pub(crate) fn push_compared(
+    alloc: Global,
+    text: &mut String,
+    edited: &EditedSession,
+    before: &Run,
+    after: &Run,
+    rows: &[Row],
+) -> Result<(), AllocError>
+    ensures { OnOk result
+        (string_bytes text.new
+        ≡ string_bytes text.old
+        ++ rows_text before.now.session after.now.session
+        (refused_places edited.now.session edited.now.edits) rows.now
+        ++ fared_text before.now.session after.now.session) }
+{
+    let refused = refused_places(alloc, edited)?;
+    push_rows_text(alloc, text, before, after, refused.as_slice(), rows)?;
+    push_fared(alloc, text, before, after)
 }
 
 /// The run of the session before the edits beside the run after them: a line for each step of
-/// either, where they differ first and last, and what each task gained and lost.
-///
-/// Both stores hold the session; the edits are made in the second. Those that are refused are
-/// passed over.
+/// either, where they differ first and last, and what each task gained and lost. Edits that are
+/// refused are passed over. Each run is made once.
 #[tactic(auto, unfolding(crate::specs::Comparison::compare_text))]
 pub fn compare(
     alloc: Global,
     meter: &mut Meter,
-    before: &Store,
-    after: &mut Store,
-    edits: &[Edit],
+    edited: &EditedSession,
 ) -> Result<String, AllocError>
-    requires { after.old.session ≡ before.now.session }
     ensures { IfOk result
-        (λ text. string_bytes text ≡ compare_text before.now.session edits.now) }
+        (λ text. string_bytes text ≡ compare_text edited.now.session edited.now.edits) }
 {
-    let made = rows_of(alloc, meter, after, edits)?;
-    let (refused, rows) = (made.refused.as_slice(), made.rows.as_slice());
+    let before = Run::of_session(alloc, edited.session().copy(alloc)?, meter)?;
+    let after = Run::of_session(alloc, edited.edited().copy(alloc)?, meter)?;
+    let rows = rows_of(alloc, edited)?;
     let mut text = String::new(alloc);
-    push_rows_text(alloc, &mut text, before, after, refused, rows)?;
-    push_fared(alloc, &mut text, before, after)?;
+    push_compared(alloc, &mut text, edited, &before, &after, rows.as_slice())?;
     Ok(text)
 }

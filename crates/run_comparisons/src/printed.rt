@@ -1,11 +1,10 @@
 //! What a run tells of one step.
 ghost use Rattle.std.specs.Prelude.{◌≡◌, ◌++◌, IfOk, OnOk, string_bytes};
 ghost use Rattle.run_views.specs.StepWords.{step_text};
-ghost use Rattle.run_comparisons.specs.Printed.{no_step, outcome_text, printed_at, printed_of, printed_reply, task_part, tasks_part};
+ghost use Rattle.run_comparisons.specs.Printed.{no_step, outcome_text, printed_of, printed_reply, task_part, tasks_part};
 
 use bench_types::{Header, Reply, Step};
 use run_views::{push_reply, push_step};
-use session_store::Store;
 use std::alloc::{AllocError, Global};
 use std::marker::Model;
 
@@ -86,7 +85,8 @@ fn words_of(alloc: Global, header: &Header, step: Step) -> Result<String, AllocE
     Ok(text)
 }
 
-fn printed_of(
+/// What is told of a step, its reply and the tasks that run after it, core 0 first.
+pub(crate) fn printed_of(
     alloc: Global,
     header: &Header,
     step: Step,
@@ -100,32 +100,12 @@ fn printed_of(
     Ok(Printed { words, outcome })
 }
 
-fn no_step(alloc: Global) -> Printed
+/// What is told where there is no step.
+pub(crate) fn no_step(alloc: Global) -> Printed
     ensures { result ≡ no_step }
 {
     Printed {
         words: String::new(alloc),
         outcome: String::new(alloc),
-    }
-}
-
-impl Printed {
-    /// What the run of the store tells of its step at the place; nothing past the last.
-    pub(crate) fn at(alloc: Global, store: &Store, place: u32) -> Result<Printed, AllocError>
-        ensures { IfOk result (λ printed. printed ≡ printed_at store.now.session place) }
-    {
-        if place >= store.len() {
-            return Ok(no_step(alloc));
-        }
-        let Some(step) = store.step(place) else {
-            return Ok(no_step(alloc));
-        };
-        let Some(reply) = store.reply(place) else {
-            return Ok(no_step(alloc));
-        };
-        let Some(tasks) = store.row(alloc, place + 1)? else {
-            return Ok(no_step(alloc));
-        };
-        printed_of(alloc, store.header(), step, reply, &tasks)
     }
 }

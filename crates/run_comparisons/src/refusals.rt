@@ -1,35 +1,46 @@
 //! Whether an edit is refused, or a step of the run after the edits.
-ghost use Rattle.std.specs.Prelude.{◌≡◌, ◌≢◌, ◌↔◌, [], IfOk, IsTrue, OnOk};
-ghost use Rattle.bench_types.specs.Session.{IsSession};
-ghost use Rattle.bench_model.specs.Edits.{after_edits};
-ghost use Rattle.session_edits.specs.Refused.{HasRefusedEdit};
-ghost use Rattle.run_views.specs.RefusedSteps.{HasRefusedStep};
+ghost use Rattle.std.specs.Prelude.{◌≡◌, ◌↔◌, false, IfOk, IsTrue};
+ghost use Rattle.std.specs.Option.{option_map_or};
+ghost use Rattle.run_views.specs.RefusedSteps.{is_refusal, HasRefusedStep};
 ghost use Rattle.run_comparisons.specs.Refusals.{HasRefusal, HasRefusedRunStep, HasRefusedSettledStep};
 
-use crate::making::make_edits;
-use crate::steps::steps_of;
-use bench_types::{Edit, Header, Step};
+use bench_types::{CheckedSession, Reply};
 use run_views::has_refused_step;
-use session_edits::all_kept;
-use session_store::Store;
+use session_edits::EditedSession;
+use session_runs::Run;
 use settling::{SettleFault, settle};
 use smp_kernel::Meter;
 use std::alloc::{AllocError, Global};
 
-// Whether the kernel refuses a step of the settled run.
+// There is a reply, and it says that the step is refused.
+fn is_refused(reply: Option<Reply>) -> bool
+    ensures { result ≡ option_map_or is_refusal reply false }
+{
+    matches!(reply, Some(Reply::Refused(_)))
+}
+
+// Whether the kernel refused a step of the run that is made already.
+fn was_step_refused(run: &Run) -> bool
+    ensures { IsTrue result ↔ HasRefusedStep run.now.session.header run.now.session.steps }
+{
+    for place in 0..run.session().steps().len() as u32 {
+        if is_refused(run.reply(place)) {
+            return true;
+        }
+    }
+    false
+}
+
+// Whether it refuses a step of the settled run.
 fn has_refused_settled_step(
     alloc: Global,
     meter: &mut Meter,
-    header: &Header,
-    steps: &[Step],
+    session: &CheckedSession,
 ) -> Result<bool, AllocError>
-    requires { IsSession (record { header = header.now; steps = steps.now }) }
-    ensures { IfOk result
-        (λ found. IsTrue found
-        ↔ HasRefusedSettledStep (record { header = header.now; steps = steps.now })) }
+    ensures { IfOk result (λ found. IsTrue found ↔ HasRefusedSettledStep session.now) }
 {
-    match settle(alloc, header, steps, meter) {
-        Ok(settled) => has_refused_step(alloc, meter, header, settled.run.as_slice()),
+    match settle(alloc, session, meter) {
+        Ok(run) => Ok(was_step_refused(&run)),
         Err(SettleFault::TooManySteps) => Ok(false),
         Err(SettleFault::NoMemory) => Err(AllocError),
     }
@@ -39,50 +50,31 @@ fn has_refused_settled_step(
 fn has_refused_run_step(
     alloc: Global,
     meter: &mut Meter,
-    store: &Store,
+    session: &CheckedSession,
     settled: bool,
 ) -> Result<bool, AllocError>
-    ensures { IfOk result (λ found. IsTrue found ↔ HasRefusedRunStep settled store.now.session) }
+    ensures { IfOk result (λ found. IsTrue found ↔ HasRefusedRunStep settled session.now) }
 {
-    let steps = steps_of(alloc, store)?;
-    let header = store.header();
     if settled {
-        return has_refused_settled_step(alloc, meter, header, steps.as_slice());
+        return has_refused_settled_step(alloc, meter, session);
     }
-    has_refused_step(alloc, meter, header, steps.as_slice())
+    has_refused_step(alloc, meter, session)
 }
 
-// Makes the edits, and says whether one of them is refused.
-fn make_and_find_refused(
-    alloc: Global,
-    meter: &mut Meter,
-    store: &mut Store,
-    edits: &[Edit],
-) -> Result<bool, AllocError>
-    ensures refused { IfOk result
-        (λ found. IsTrue found ↔ HasRefusedEdit store.old.session edits.now) }
-    ensures session { OnOk result (store.new.session ≡ after_edits store.old.session edits.now) }
-{
-    let mut origins = all_kept(alloc, store.len())?;
-    let refused = make_edits(alloc, meter, store, &mut origins, edits)?;
-    Ok(!refused.is_empty())
-}
-
-/// Whether an edit of the session of the store is refused, or a step of the run after the edits: of
-/// the session as they leave it, or with `settled` of its settled run. One that has more steps than
-/// a session may have is not looked at. The store keeps the edits.
+/// Whether an edit of the session is refused, or a step of the run after the edits: of the session
+/// as they leave it, or with `settled` of its settled run. One that has more steps than a session
+/// may have is not looked at.
 pub fn has_refusal(
     alloc: Global,
     meter: &mut Meter,
-    store: &mut Store,
-    edits: &[Edit],
+    edited: &EditedSession,
     settled: bool,
 ) -> Result<bool, AllocError>
     ensures { IfOk result
-        (λ found. IsTrue found ↔ HasRefusal settled store.old.session edits.now) }
+        (λ found. IsTrue found ↔ HasRefusal settled edited.now.session edited.now.edits) }
 {
-    if make_and_find_refused(alloc, meter, store, edits)? {
+    if !edited.refused().is_empty() {
         return Ok(true);
     }
-    has_refused_run_step(alloc, meter, store, settled)
+    has_refused_run_step(alloc, meter, edited.edited(), settled)
 }

@@ -4,7 +4,7 @@ ghost use Rattle.run_comparisons.specs.RowWords.{alone_line, are_same, both_line
 
 use crate::printed::Printed;
 use crate::rows::Row;
-use session_store::Store;
+use crate::run_reader::RunReader;
 use std::alloc::{AllocError, Global};
 
 /// Writes a place after a space, and a dash where there is none.
@@ -119,32 +119,32 @@ fn push_alone_line(
 pub(crate) fn push_row(
     alloc: Global,
     text: &mut String,
-    before: &Store,
-    after: &Store,
+    before: &mut RunReader<'_>,
+    after: &mut RunReader<'_>,
     row: Row,
 ) -> Result<bool, AllocError>
     ensures line { OnOk result
-        (string_bytes text.new
-        ≡ string_bytes text.old ++ row_line before.now.session after.now.session row) }
-    ensures differ { IfOk result
-        (λ differ. differ ≡ differs before.now.session after.now.session row) }
+        (string_bytes text.new ≡ string_bytes text.old ++ row_line before.old after.old row) }
+    ensures differ { IfOk result (λ differ. differ ≡ differs before.old after.old row) }
+    ensures before { before.new ≡ before.old }
+    ensures after { after.new ≡ after.old }
 {
     match row {
         Row::Both {
             before: old,
             after: new,
         } => {
-            let earlier = Printed::at(alloc, before, old)?;
-            let later = Printed::at(alloc, after, new)?;
+            let earlier = before.printed_at(alloc, old)?;
+            let later = after.printed_at(alloc, new)?;
             push_both_line(text, old, new, &earlier, &later)
         }
         Row::Removed(old) => {
-            let printed = Printed::at(alloc, before, old)?;
+            let printed = before.printed_at(alloc, old)?;
             push_alone_line(text, "-", Some(old), None, &printed)?;
             Ok(true)
         }
         Row::Inserted(new) => {
-            let printed = Printed::at(alloc, after, new)?;
+            let printed = after.printed_at(alloc, new)?;
             push_alone_line(text, "+", None, Some(new), &printed)?;
             Ok(true)
         }

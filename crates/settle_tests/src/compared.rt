@@ -1,13 +1,15 @@
 //! The settled run of a session beside the settled run after edits. A program that was written
 //! apart from this one made the runs, the tasks on the cores and what each task gained.
-ghost use Rattle.std.specs.Prelude.{◌≡◌, IfOk};
+ghost use Rattle.std.specs.Prelude.{All, IsTrue};
+ghost use Rattle.bench_types.specs.Edit.{IsCheckedEdit};
 
-use crate::settled::{TICK, call};
+use crate::settled::{TICK, call, session_of};
 use bench_samples::three_tasks;
 use bench_types::{Call, Edit, Header, Step};
 use run_comparisons::{Side, columns_of, compare, compare_settled, settle_both};
-use session_store::Store;
+use session_edits::EditedSession;
 use smp_kernel::Meter;
+use std::alloc::Global;
 use std::process::Abort;
 use std::test::Fail;
 
@@ -80,21 +82,59 @@ no step differs
 task A top +1
 ";
 
-fn opened(rt: &HostRuntime, header: &Header, steps: &[Step]) -> Result<Store, Fail>
-    ensures { IfOk result
-        (λ store. store.session ≡ record { header = header.now; steps = steps.now }) }
+fn is_checked(header: &Header, edit: &Edit) -> bool
+    ensures { IsTrue result → IsCheckedEdit header.now edit.now }
 {
-    let header = header.copy(rt.alloc())?;
-    let steps = Vec::from_slice(rt.alloc(), steps)?;
-    Ok(Store::open(rt.alloc(), header, steps, 64, &mut Meter::new(rt))?)
+    edit.check(header).is_ok()
 }
 
-fn compared(rt: &HostRuntime, steps: &[Step], edits: &[Edit]) -> Result<String, Fail> {
-    let header = three_tasks(rt.alloc(), false)?;
-    let before = opened(rt, &header, steps)?;
-    let mut after = opened(rt, &header, steps)?;
-    let mut meter = Meter::new(rt);
-    Ok(compare_settled(rt.alloc(), &mut meter, &before, &mut after, edits)?)
+// Whether each edit fits the header.
+fn are_checked(header: &Header, edits: &[Edit]) -> bool
+    ensures { IsTrue result → All (IsCheckedEdit header.now) edits.now }
+{
+    edits.iter().all(|edit| is_checked(header, edit))
+}
+
+// Each edit fits the header, or the test fails.
+fn need_checked(rt: &impl Abort, header: &Header, edits: &[Edit])
+    ensures { All (IsCheckedEdit header.now) edits.now }
+{
+    assert!(rt; are_checked(header, edits));
+}
+
+// The session of these steps of A, B and C, and edits of it.
+fn edited_of(
+    rt: &impl Abort,
+    alloc: Global,
+    steps: &[Step],
+    edits: &[Edit],
+) -> Result<EditedSession, Fail> {
+    let header = three_tasks(alloc, false)?;
+    let session = session_of(rt, header, Vec::from_slice(alloc, steps)?)?;
+    need_checked(rt, session.header(), edits);
+    Ok(EditedSession::make(alloc, session, Vec::from_slice(alloc, edits)?)?)
+}
+
+fn compared(
+    rt: &impl Abort,
+    host: &HostRuntime,
+    steps: &[Step],
+    edits: &[Edit],
+) -> Result<String, Fail> {
+    let alloc = host.alloc();
+    let edited = edited_of(rt, alloc, steps, edits)?;
+    let pair = settle_both(alloc, &mut Meter::new(host), &edited)?;
+    Ok(compare_settled(alloc, &edited, &pair)?)
+}
+
+fn compared_plainly(
+    rt: &impl Abort,
+    host: &HostRuntime,
+    steps: &[Step],
+    edits: &[Edit],
+) -> Result<String, Fail> {
+    let edited = edited_of(rt, host.alloc(), steps, edits)?;
+    Ok(compare(host.alloc(), &mut Meter::new(host), &edited)?)
 }
 
 fn assert_text(rt: &impl Abort, text: &str, wanted: &str) {
@@ -129,8 +169,12 @@ fn edits() -> [Edit; 3] {
 
 #[test]
 fn settled_runs_side_by_side(rt: HostRuntime) -> Result<(), Fail> {
-    assert_text(&rt, compared(&rt, &session(), &edits())?.as_str(), COMPARED);
-    assert_text(&rt, compared(&rt, &session(), &[])?.as_str(), UNEDITED);
+    assert_text(
+        &rt,
+        compared(&rt, &rt, &session(), &edits())?.as_str(),
+        COMPARED,
+    );
+    assert_text(&rt, compared(&rt, &rt, &session(), &[])?.as_str(), UNEDITED);
     Ok(())
 }
 
@@ -153,29 +197,21 @@ fn edits_past(steps: u32) -> [Edit; 3] {
 
 #[test]
 fn refused_edits_are_printed(rt: HostRuntime) -> Result<(), Fail> {
-    let settled = compared(&rt, &session(), &edits_past(5))?;
+    let settled = compared(&rt, &rt, &session(), &edits_past(5))?;
     assert_text(&rt, settled.as_str(), REFUSED);
-    let header = three_tasks(rt.alloc(), false)?;
-    let before = opened(&rt, &header, &[TICK])?;
-    let mut after = opened(&rt, &header, &[TICK])?;
-    let mut meter = Meter::new(&rt);
-    let plain = compare(rt.alloc(), &mut meter, &before, &mut after, &edits_past(1))?;
+    let plain = compared_plainly(&rt, &rt, &[TICK], &edits_past(1))?;
     assert_text(&rt, plain.as_str(), REFUSED_TICK);
     Ok(())
 }
 
 #[test]
 fn gains_are_printed_where_no_step_differs(rt: HostRuntime) -> Result<(), Fail> {
-    let header = three_tasks(rt.alloc(), false)?;
-    let before = opened(&rt, &header, &[TICK])?;
-    let mut after = opened(&rt, &header, &[TICK])?;
     let edit = Edit::ChangeTask {
         task: 2,
         priority: 3,
         mask: 3,
     };
-    let mut meter = Meter::new(&rt);
-    let text = compare(rt.alloc(), &mut meter, &before, &mut after, &[edit])?;
+    let text = compared_plainly(&rt, &rt, &[TICK], &[edit])?;
     assert_text(&rt, text.as_str(), GAINED);
     Ok(())
 }
@@ -184,11 +220,8 @@ fn gains_are_printed_where_no_step_differs(rt: HostRuntime) -> Result<(), Fail> 
 #[test]
 fn settled_runs_in_columns(rt: HostRuntime) -> Result<(), Fail> {
     let alloc = rt.alloc();
-    let header = three_tasks(alloc, false)?;
-    let steps = session();
-    let before = opened(&rt, &header, &steps)?;
-    let mut after = opened(&rt, &header, &steps)?;
-    let pair = settle_both(alloc, &mut Meter::new(&rt), &before, &mut after, &edits())?;
+    let edited = edited_of(&rt, alloc, &session(), &edits())?;
+    let pair = settle_both(alloc, &mut Meter::new(&rt), &edited)?;
     let rows = pair.rows.as_slice();
     assert!(rt; rows.len() < 100);
     let columns = columns_of(alloc, Side::Before, rows)?;

@@ -5,6 +5,8 @@ use Rattle.run_comparisons.proofs.comparison.push_lines.Given as goal
 
 abbrev pub invariant-loop-row : goal.invariant-loop-row
 invariant-loop-row l = record {
-  lines : string_bytes l.text ≡ string_bytes l.fn.text ++ flat_map (row_line l.before.session l.after.session) (take l.row-index l.rows);
-  differing : l.differing.items ≡ filter (differs l.before.session l.after.session) (take l.row-index l.rows);
+  lines : string_bytes l.text ≡ string_bytes l.fn.text ++ flat_map (row_line l.fn.before l.fn.after) (take l.row-index l.rows);
+  differing : l.differing.items ≡ filter (differs l.fn.before l.fn.after) (take l.row-index l.rows);
+  before : l.before ≡ l.fn.before;
+  after : l.after ≡ l.fn.after;
 }

@@ -1,10 +1,10 @@
-use Rattle.std.proofs.Common.{rules, ◌≡◌, false}
+use Rattle.std.proofs.Common.{rules, ◌≡◌, length, true}
+use Rattle.std.specs.Prelude.{◌==◌}
 use Rattle.run_comparisons.proofs.RefusalsFound.{of_run}
 use Rattle.run_comparisons.proofs.refusals.has_refusal.Goals as goal
 
 pub returns : goal.returns
 returns c =
-    let is : c.in_ok-make_and_find_refused.field-0 ≡ false = search rules in
-    of_run c.args.settled c.args.store.now.session c.make_and_find_refused.new.store.session c.args.edits.now c.in_ok-make_and_find_refused.field-0
-    c.has_refused_run_step.result
-    c.in_ok-make_and_find_refused.ensures.refused is c.in_ok-make_and_find_refused.ensures.session c.has_refused_run_step.ensures
+    let none : (length c.refused.result.now == 0) ≡ true = search rules in
+    of_run c.args.settled c.args.edited.now.session c.edited.result.now c.args.edited.now.edits c.refused.result.now c.has_refused_run_step.result
+    c.refused.ensures none c.edited.ensures c.has_refused_run_step.ensures

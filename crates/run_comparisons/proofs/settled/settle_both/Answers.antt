@@ -1,34 +1,39 @@
-use Rattle.std.proofs.Common.{ap, subst, ◌∙◌, inr}
+use Rattle.std.proofs.Common.{subst, inl, inr, true}
 use Rattle.bench_types.specs.Session.{Session}
 use Rattle.bench_model.specs.Edits.{after_edits}
-use Rattle.session_edits.specs.Refused.{refused_places}
-use Rattle.run_comparisons.specs.Rows.{rows_of}
+use Rattle.session_runs.specs.Run.{IsRunOf}
 use Rattle.settled_runs.specs.Runs.{IsSettledTooLong}
-use Rattle.run_comparisons.proofs.Compared.{events_kept, fault_printed, pair_settled}
+use Rattle.run_comparisons.proofs.Compared.{events_kept, fault_printed, neither_too_long}
 use Rattle.run_comparisons.proofs.settled.settle_both.Goals as goal
 
-pub returns-in_err-later-clause-long : goal.returns-in_err-later-clause-long
-returns-in_err-later-clause-long c = λ long.
-    let edited = c.in_ok-made.ensures.session ∙ ap (λ (session : Session). after_edits session c.args.edits.now) c.requires in
-    let printed = fault_printed c.from_residual-in_err-later.result c.in_err-later.field-0.0 c.from_residual-in_err-later.ensures.1 long in
-    inr (subst IsSettledTooLong edited (c.in_err-later.ensures.long printed))
+pub returns-in_err-before-clause-long : goal.returns-in_err-before-clause-long
+returns-in_err-before-clause-long c = λ long.
+    let printed = fault_printed c.from_residual.result c.in_err-before.field-0.0 c.from_residual.ensures.1 long in
+    inl (subst IsSettledTooLong c.session.ensures (c.in_err-before.ensures.long printed))
+
+pub returns-in_err-after-clause-long : goal.returns-in_err-after-clause-long
+returns-in_err-after-clause-long c = λ long.
+    let printed = fault_printed c.from_residual-in_err-after.result c.in_err-after.field-0.0 c.from_residual-in_err-after.ensures.1 long in
+    inr (subst IsSettledTooLong c.edited.ensures (c.in_err-after.ensures.long printed))
 
 pub settled_rows-requires-clause-events : goal.settled_rows-requires-clause-events
 settled_rows-requires-clause-events c =
-    events_kept c.args.before.now.session c.in_ok-settled.settled.steps.items c.in_ok-settled.settled.settled.run.items
-    c.in_ok-settled.settled.settled.left.items c.in_ok-settled.ensures.steps c.in_ok-settled.ensures.settled
+    events_kept c.args.edited.now.session c.in_ok-before.before
+    (subst (λ (session : Session). IsRunOf true session c.in_ok-before.before) c.session.ensures c.in_ok-before.ensures.run)
 
 pub settled_rows-requires-clause-edited : goal.settled_rows-requires-clause-edited
 settled_rows-requires-clause-edited c =
-    events_kept c.rows_of.new.store.session c.in_ok-later.later.steps.items c.in_ok-later.later.settled.run.items c.in_ok-later.later.settled.left.items
-    c.in_ok-later.ensures.steps c.in_ok-later.ensures.settled
+    events_kept (after_edits c.args.edited.now.session c.args.edited.now.edits) c.in_ok-after.after
+    (subst (λ (session : Session). IsRunOf true session c.in_ok-after.after) c.edited.ensures c.in_ok-after.ensures.run)
 
-pub returns-clause-pair : goal.returns-clause-pair
-returns-clause-pair c =
-    let edited = c.in_ok-made.ensures.session ∙ ap (λ (session : Session). after_edits session c.args.edits.now) c.requires in
-    let rows = c.as_slice.ensures.value ∙ c.in_ok-made.ensures.rows ∙ ap (λ (session : Session). rows_of session c.args.edits.now) c.requires in
-    pair_settled c.args.before.now.session c.args.edits.now c.rows_of.new.store.session c.as_slice.result.now c.in_ok-settled.settled.steps.items
-    c.in_ok-later.later.steps.items _
-    edited rows c.in_ok-settled.ensures.steps c.in_ok-settled.ensures.settled c.in_ok-later.ensures.steps c.in_ok-later.ensures.settled
-    c.in_ok-settled.ensures.room c.in_ok-later.ensures.room c.in_ok-rows.ensures
-    (c.in_ok-made.ensures.refused ∙ ap (λ (session : Session). refused_places session c.args.edits.now) c.requires)
+pub returns-clause-room : goal.returns-clause-room
+returns-clause-room c =
+    neither_too_long c.args.edited.now.session c.args.edited.now.edits
+    (record { before = c.in_ok-before.before; after = c.in_ok-after.after; rows = c.in_ok-rows.rows })
+    (record {
+      before = subst (λ (session : Session). IsRunOf true session c.in_ok-before.before) c.session.ensures c.in_ok-before.ensures.run;
+      after = subst (λ (session : Session). IsRunOf true session c.in_ok-after.after) c.edited.ensures c.in_ok-after.ensures.run;
+      few_before = c.in_ok-before.ensures.room;
+      few_after = c.in_ok-after.ensures.room;
+      rows = c.in_ok-rows.ensures;
+    })

@@ -113,8 +113,8 @@ pub record AreOpened (places : Places) (header : Header) (steps : List Step) (ta
   pub first : All (λ stretch. stretch.value.hindrances
       ≡ hindrances_of (state_at header steps stretch.first) task) stretches
 
--- the stretches that are drawn tile what the replay has at the places that are shown, and a mutex has
--- a row where a task holds it at one of these
+-- the stretches that are drawn tile what the replay has at the places that are shown, and a mutex
+-- has a row where a task holds it at one of these
 pub record IsTiled (places : Places) (header : Header) (steps : List Step) : Type 0 where
   pub cores : (core : ℕ) → core < header.config.cores
       → Tiles places.from (currents_of places header steps core)

@@ -33,8 +33,9 @@ pub fn law_of_legends()
     ensures both { LegendIsOfRuns }
 {}
 
-/// At each place of a checked session a blocked task has an unfinished call, and is told to wait for
-/// what that call waits for. So it is until it is ready: the call is the same at the next place.
+/// At each place of a checked session a blocked task has an unfinished call, and is told to wait
+/// for what that call waits for. So it is until it is ready: the call is the same at the next
+/// place.
 pub fn law_of_waits()
     ensures told { WaitsAreUnfinished }
     ensures stays { BlockedCallsStay }

@@ -2,7 +2,6 @@ mod BothPrinted
 mod CommandLine
 mod CommandLines
 mod ComparedParts
-mod EditsKept
 mod StrictOutputs
 mod LastSign
 mod MemoryRefused

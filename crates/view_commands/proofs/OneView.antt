@@ -67,24 +67,33 @@ printed_of_runs extent header edited run later rows left rest =
     noted (picture_of_runs extent (record { header = header; steps = run; columns = columns_before extent.axis run later rows })
     (record { header = edited; steps = later; columns = columns_after extent.axis run later rows })) (left_lines header edited left rest)
 
+told_of_pair : (extent : Extent) (session : Session) (edits : List Edit) (printed : Printed) (one : IsPrintedOfPair extent session edits printed) → printed ≡
+    printed_of_runs extent session.header (after_edits session edits).header one.pair.before.session.steps one.pair.after.session.steps one.pair.rows.items
+    one.pair.before.left one.pair.after.left
+told_of_pair extent session edits printed one =
+    one.is_printed
+    ∙ ap₂ (λ (header edited : Header). printed_of_runs extent header edited one.pair.before.session.steps one.pair.after.session.steps one.pair.rows.items
+    one.pair.before.left one.pair.after.left) one.settled.before.0 one.settled.after.0
+
 one_of_pairs : (extent : Extent) (session : Session) (edits : List Edit) (printed other : Printed) → IsPrintedOfPair extent session edits printed →
     IsPrintedOfPair extent session edits other → printed ≡ other
 one_of_pairs extent session edits printed other one two =
     let edited = after_edits session edits in
-    let first = settled_run_is_one session.header session.steps one.pair.before.run.items two.pair.before.run.items one.pair.before.left.items
-    two.pair.before.left.items one.settled.before two.settled.before in
-    let second = settled_run_is_one edited.header edited.steps one.pair.after.run.items two.pair.after.run.items one.pair.after.left.items
-    two.pair.after.left.items one.settled.after two.settled.after in
-    let aligned = subst (λ (run : List Step). AreSettledRows session edits one.pair.before.run.items run two.pair.rows.items) (sym second.0)
-    (subst (λ (run : List Step). AreSettledRows session edits run two.pair.after.run.items two.pair.rows.items) (sym first.0) two.settled.rows) in
-    let rows = one_list one.pair.before.run.items one.pair.after.run.items (shared_events session edits one.pair.before.run.items one.pair.after.run.items)
-    first_places one.pair.rows.items two.pair.rows.items one.settled.rows aligned in
-    let of_runs = printed_of_runs extent session.header edited.header in
-    one.is_printed
-    ∙ ap₂ (λ (run later : List Step). of_runs run later one.pair.rows.items one.pair.before.left.items one.pair.after.left.items) first.0 second.0
-    ∙ ap (λ (shown : List Row). of_runs two.pair.before.run.items two.pair.after.run.items shown one.pair.before.left.items one.pair.after.left.items) rows
-    ∙ ap₂ (λ (left rest : List WaitingCall). of_runs two.pair.before.run.items two.pair.after.run.items two.pair.rows.items left rest) first.1 second.1
-    ∙ sym two.is_printed
+    let told : List Step → List Step → List Row → List WaitingCall → List WaitingCall → Printed = printed_of_runs extent session.header edited.header in
+    let first = settled_run_is_one session.header session.steps one.pair.before.session.steps two.pair.before.session.steps one.pair.before.left
+    two.pair.before.left one.settled.before.1 two.settled.before.1 in
+    let second = settled_run_is_one edited.header edited.steps one.pair.after.session.steps two.pair.after.session.steps one.pair.after.left
+    two.pair.after.left one.settled.after.1 two.settled.after.1 in
+    let aligned = subst (λ (run : List Step). AreSettledRows session edits one.pair.before.session.steps run two.pair.rows.items) (sym second.0)
+    (subst (λ (run : List Step). AreSettledRows session edits run two.pair.after.session.steps two.pair.rows.items) (sym first.0) two.settled.rows) in
+    let rows = one_list one.pair.before.session.steps one.pair.after.session.steps
+    (shared_events session edits one.pair.before.session.steps one.pair.after.session.steps) first_places one.pair.rows.items two.pair.rows.items one.settled.rows
+    aligned in
+    told_of_pair extent session edits printed one
+    ∙ ap₂ (λ (run later : List Step). told run later one.pair.rows.items one.pair.before.left one.pair.after.left) first.0 second.0
+    ∙ ap (λ (shown : List Row). told two.pair.before.session.steps two.pair.after.session.steps shown one.pair.before.left one.pair.after.left) rows
+    ∙ ap₂ (λ (left rest : List WaitingCall). told two.pair.before.session.steps two.pair.after.session.steps two.pair.rows.items left rest) first.1 second.1
+    ∙ sym (told_of_pair extent session edits other two)
 
 one_of_pictures : (extent : Extent) (session : Session) (edits : List Edit) (printed other : Printed) → IsPrintedOfPictures extent session edits printed →
     IsPrintedOfPictures extent session edits other → printed ≡ other

@@ -1,11 +1,8 @@
 -- What a job tells, judged.
 use Rattle.std.proofs.Common.{◌≡◌, ℕ, List, Bool, true, false, Result, Ok, Err, IfOk, ap, refl, sym, subst, ◌∙◌, inl, inr}
-use Rattle.std.specs.Prelude.{◌↔◌, All, IsTrue}
+use Rattle.std.specs.Prelude.{◌↔◌, IsTrue}
 use Rattle.bench_types.specs.declared.edit.Edit.{Edit}
-use Rattle.bench_types.specs.declared.header.Header.{Header}
-use Rattle.bench_types.specs.Edit.{IsCheckedEdit}
 use Rattle.bench_types.specs.Session.{Session}
-use Rattle.bench_model.specs.Meeting.{CheckpointedSession}
 use Rattle.session_edits.specs.Notes.{edit_notes}
 use Rattle.run_comparisons.specs.Refusals.{HasRefusal}
 use Rattle.view_commands.specs.declared.request.Job.{Job}
@@ -16,34 +13,25 @@ use Rattle.program_io.specs.Outputs.{Printed}
 use Rattle.program_io.specs.Twice.{warned}
 use Rattle.view_commands.specs.Strict.{is_settled, IsJudged, IsRefusing, IsStrict}
 
--- the edits of a document were checked under the header of its store
-pub checked_kept : (header : Header) (kept : CheckpointedSession) (checked edits : List Edit) → kept.session.header ≡ header → edits ≡ checked → All
-    (IsCheckedEdit header) checked → All (IsCheckedEdit kept.session.header) edits
-checked_kept header kept checked edits is are all =
-    subst (λ (one : Header). All (IsCheckedEdit one) edits) (sym is) (subst (λ (some : List Edit). All (IsCheckedEdit header) some) (sym are) all)
-
 -- what is told, as the command tells it
 abbrev pub Judges : Job → Session → List Edit → Printed → Type 0
 Judges job session edits judged = (alone : Printed) × IsPrinted job.command session edits alone × IsJudged job.strict (IsRefusing job.command session edits)
     alone judged
 
-pub judged_loosely : {E : Type 0} (job : Job) (session : Session) (edits : List Edit) (r : Result Printed E) → job.strict ≡ false → IfOk r
-    (λ printed. IsPrinted job.command session edits printed) → IfOk r (Judges job session edits)
-judged_loosely job session edits (Ok printed) loose is = (
+pub judged_loosely : (job : Job) (session : Session) (edits : List Edit) (printed : Printed) → job.strict ≡ false → IsPrinted job.command session edits printed
+    → Judges job session edits printed
+judged_loosely job session edits printed loose is = (
   printed,
   is,
-  subst
-      (λ (strict : Bool). IsJudged strict (IsRefusing job.command session edits) printed printed) (sym loose) (λ i. printed),
+  subst (λ (strict : Bool). IsJudged strict (IsRefusing job.command session edits) printed printed) (sym loose) refl,
 )
-judged_loosely job session edits (Err why) loose is = tt
 
-pub judged_so : {E : Type 0} (job : Job) (session twin : Session) (edits : List Edit) (settled : Bool) (alone : Printed) (r : Result Printed E) → job.strict ≡
-    true → IsPrinted job.command session edits alone → twin ≡ session → settled ≡ is_settled job.command
-    → IfOk r (λ judged. IsStrict (HasRefusal settled twin edits) alone.status alone judged) → IfOk r (Judges job session edits)
-judged_so job session twin edits settled alone (Err why) strict is same settles judges = tt
-judged_so job session twin edits settled alone (Ok judged) strict is same settles judges =
-    let by_session = subst (λ (one : Session). IsStrict (HasRefusal settled one edits) alone.status alone judged) same judges in
-    let by_command = subst (λ (b : Bool). IsStrict (HasRefusal b session edits) alone.status alone judged) settles by_session in
+pub judged_so : {E : Type 0} (job : Job) (session : Session) (edits : List Edit) (settled : Bool) (alone : Printed) (r : Result Printed E) → job.strict ≡
+    true → IsPrinted job.command session edits alone → settled ≡ is_settled job.command
+    → IfOk r (λ judged. IsStrict (HasRefusal settled session edits) alone.status alone judged) → IfOk r (Judges job session edits)
+judged_so job session edits settled alone (Err why) strict is settles judges = tt
+judged_so job session edits settled alone (Ok judged) strict is settles judges =
+    let by_command = subst (λ (b : Bool). IsStrict (HasRefusal b session edits) alone.status alone judged) settles judges in
     (alone, is, subst (λ (b : Bool). IsJudged b (IsRefusing job.command session edits) alone judged) (sym strict) by_command)
 
 -- a status that was fine fails where something is refused

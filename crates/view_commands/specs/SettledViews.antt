@@ -1,5 +1,5 @@
 -- What is told of the settled run of a session and of edits of it.
-use Rattle.std.specs.Prelude.{◌≡◌, ◌⊎◌, ◌<◌, ◌≤◌, ℕ, ◌+◌, ◌^◌, List, [], ◌∷◌, ◌++◌, ◌==◌, length, codes, decimal, nat_lt, if◌then◌else◌}
+use Rattle.std.specs.Prelude.{◌≡◌, ◌⊎◌, ℕ, List, [], ◌∷◌, ◌++◌, ◌==◌, length, codes, decimal, nat_lt, if◌then◌else◌}
 use Rattle.bench_types.specs.declared.edit.Edit.{Edit}
 use Rattle.bench_types.specs.declared.header.Header.{Header}
 use Rattle.bench_types.specs.declared.step.Step.{Step}
@@ -12,7 +12,7 @@ use Rattle.settling.specs.Notes.{left_text}
 use Rattle.run_pictures.specs.declared.frame.Axis.{Axis}
 use Rattle.run_pictures.specs.declared.frame.Axis.TheVariants as by
 use Rattle.run_pictures.specs.declared.picture.Extent.{Extent}
-use Rattle.run_pictures.specs.Drawn.{Drawn, IsDrawable}
+use Rattle.run_pictures.specs.Drawn.{Drawn}
 use Rattle.run_pictures.specs.TickColumns.{tick_columns}
 use Rattle.run_comparisons.specs.declared.columns.Side.TheVariants.{Before, After}
 use Rattle.run_comparisons.specs.declared.rows.Row.{Row}
@@ -78,36 +78,28 @@ abbrev pub columns_after : Axis → List Step → List Step → List Row → Lis
 columns_after by.Places before after rows = columns_of After rows
 columns_after by.Ticks before after rows = tick_columns before after after
 
-abbrev pub drawn_before : Axis → Header → SettledPair → Drawn
-drawn_before axis header pair = record {
-  header = header;
-  steps = pair.before.run.items;
-  columns = columns_before axis pair.before.run.items pair.after.run.items pair.rows.items;
+abbrev pub drawn_before : Axis → SettledPair → Drawn
+drawn_before axis pair = record {
+  header = pair.before.session.header;
+  steps = pair.before.session.steps;
+  columns = columns_before axis pair.before.session.steps pair.after.session.steps pair.rows.items;
 }
 
-abbrev pub drawn_after : Axis → Header → SettledPair → Drawn
-drawn_after axis header pair = record {
-  header = header;
-  steps = pair.after.run.items;
-  columns = columns_after axis pair.before.run.items pair.after.run.items pair.rows.items;
+abbrev pub drawn_after : Axis → SettledPair → Drawn
+drawn_after axis pair = record {
+  header = pair.after.session.header;
+  steps = pair.after.session.steps;
+  columns = columns_after axis pair.before.session.steps pair.after.session.steps pair.rows.items;
 }
 
-abbrev pub picture_of_pair : Extent → Header → Header → SettledPair → Printed
-picture_of_pair extent header edited pair =
-    picture_of_runs extent (drawn_before extent.axis header pair)
-    (drawn_after extent.axis edited pair)
+abbrev pub picture_of_pair : Extent → SettledPair → Printed
+picture_of_pair extent pair =
+    picture_of_runs extent (drawn_before extent.axis pair) (drawn_after extent.axis pair)
 
 -- the calls of either run that were not made
-abbrev pub pair_note : Header → Header → SettledPair → List ℕ
-pair_note header edited pair = left_lines header edited pair.before.left.items pair.after.left.items
-
--- the pair can be drawn
-pub record IsDrawnPair (axis : Axis) (header edited : Header) (pair : SettledPair) : Type 0 where
-  pub before : IsDrawable (drawn_before axis header pair)
-  pub after : IsDrawable (drawn_after axis edited pair)
-  pub few : length pair.rows.items + 1 < 2 ^ 32
-  pub few_before : length pair.before.run.items ≤ max_steps
-  pub few_after : length pair.after.run.items ≤ max_steps
+abbrev pub pair_note : SettledPair → List ℕ
+pair_note pair =
+    left_lines pair.before.session.header pair.after.session.header pair.before.left pair.after.left
 
 -- told is a picture of both settled runs
 pub record IsPrintedOfPair (extent : Extent) (session : Session) (edits : List Edit)
@@ -115,9 +107,7 @@ pub record IsPrintedOfPair (extent : Extent) (session : Session) (edits : List E
     Type 0 where
   pub pair : SettledPair
   pub settled : IsSettledPair session edits pair
-  pub is_printed : printed
-      ≡ noted (picture_of_pair extent session.header (after_edits session edits).header pair)
-      (pair_note session.header (after_edits session edits).header pair)
+  pub is_printed : printed ≡ noted (picture_of_pair extent pair) (pair_note pair)
 
 -- what is told of both; J2 where one of them has more steps than a session may have
 abbrev pub IsPrintedOfPictures : Extent → Session → List Edit → Printed → Type 0

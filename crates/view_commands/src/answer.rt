@@ -1,7 +1,5 @@
 //! What is told of an input.
-ghost use Rattle.std.specs.Prelude.{◌≡◌, All, IfOk, OnOk, string_bytes};
-ghost use Rattle.bench_types.specs.Edit.{IsCheckedEdit};
-ghost use Rattle.session_store.specs.declared.fault.OpenRefusal.TheVariants.{TooLong};
+ghost use Rattle.std.specs.Prelude.{◌≡◌, IfOk, string_bytes};
 ghost use Rattle.session_text.specs.Bench.{IsCheckedBench, bench_text};
 ghost use Rattle.program_io.specs.Refusal.{IsPrintedFault};
 ghost use Rattle.view_commands.specs.Commands.{IsDone, IsPrinted, IsPrintedOfBench, IsPrintedOfText, IsView, ViewIsOne, too_many_steps};
@@ -12,17 +10,18 @@ ghost use Rattle.view_commands.specs.Strict.{IsJudged, IsRefusing};
 
 use crate::advice::printed_advice;
 use crate::checks::printed_check;
-use crate::edited::{second, shown};
+use crate::edited::shown;
 use crate::pages::printed_page;
 use crate::reports::printed_report;
 use crate::request::{Command, Job};
 use crate::settled::printed_settled;
 use crate::strict::judged_strictly;
-use bench_types::{Edit, MAX_INPUT, MAX_SPAN};
-use program_io::{Output, explained, too_long, twice_note, twice_note_of_refused, warned};
+use bench_types::{CheckedSession, MAX_INPUT};
+use program_io::{
+    Output, explained, too_long, too_many_steps, twice_note, twice_note_of_refused, warned,
+};
 use ranked_changes::Progress;
-use session_edits::refused_edits;
-use session_store::{OpenRefusal, Store};
+use session_edits::EditedSession;
 use session_text::{Bench, Noted, TextFault, read_bench_noted};
 use smp_kernel::Meter;
 use std::alloc::{AllocError, Global};
@@ -37,70 +36,53 @@ fn refused_text(alloc: Global, input: &[u8], fault: TextFault) -> Result<Output,
     warned(explained(alloc, input, fault)?.on_error(alloc)?, line)
 }
 
-// What is told after these lines where no store was opened, which is a refusal only for J2.
-fn not_opened(alloc: Global, lines: String, why: OpenRefusal) -> Result<Output, AllocError>
-    ensures why { OnOk result (why ≡ TooLong) }
-    ensures line { IfOk result (λ printed. printed ≡ warned (string_bytes lines) too_many_steps) }
-{
-    let refused = document_stores::not_opened(alloc, why)?.on_error(alloc)?;
-    warned(refused, lines)
-}
-
 // What the command tells of the session and its edits.
-fn printed_of_store<T: Threads + Sync, P: Progress>(
+fn printed_of_command<T: Threads + Sync, P: Progress>(
     rt: &T,
     host: &HostRuntime,
     progress: &mut P,
     alloc: Global,
     meter: &mut Meter,
-    store: &mut Store,
-    edits: &[Edit],
+    edited: &EditedSession,
     command: &Command,
 ) -> Result<Output, AllocError>
-    ensures { IfOk result (λ printed. IsPrinted command.now store.old.session edits.now printed) }
+    ensures { IfOk result
+        (λ printed. IsPrinted command.now edited.now.session edited.now.edits printed) }
 {
     match command {
-        Command::Plain(view) => shown(alloc, meter, store, edits, view),
-        Command::Settled(view) => printed_settled(alloc, meter, store, edits, view),
-        Command::Report(view) => printed_report(alloc, meter, store, edits, *view),
-        Command::Check(view) => printed_check(alloc, meter, store, edits, view),
-        Command::Page(view) => printed_page(alloc, meter, store, edits, *view),
+        Command::Plain(view) => shown(alloc, meter, edited, view),
+        Command::Settled(view) => printed_settled(alloc, meter, edited, view),
+        Command::Report(view) => printed_report(alloc, meter, edited, *view),
+        Command::Check(view) => printed_check(alloc, meter, edited, view),
+        Command::Page(view) => printed_page(alloc, meter, edited, *view),
         Command::Advise(question) => {
-            printed_advice(rt, host, alloc, meter, progress, store, edits, question)
+            printed_advice(rt, host, alloc, meter, progress, edited, question)
         }
     }
 }
 
 // The same, judged where refusals count.
-fn judged_of_store<T: Threads + Sync, P: Progress>(
+fn judged_of_job<T: Threads + Sync, P: Progress>(
     rt: &T,
     host: &HostRuntime,
     progress: &mut P,
     alloc: Global,
     meter: &mut Meter,
-    store: &mut Store,
-    edits: &[Edit],
+    edited: &EditedSession,
     job: &Job,
 ) -> Result<Output, AllocError>
     ensures { IfOk result
-        (λ judged. (alone : Printed) × IsPrinted job.now.command store.old.session edits.now alone
-        × IsJudged job.now.strict (IsRefusing job.now.command store.old.session edits.now) alone
-        judged) }
+        (λ judged. (alone : Printed)
+        × IsPrinted job.now.command edited.now.session edited.now.edits alone
+        × IsJudged job.now.strict
+        (IsRefusing job.now.command edited.now.session edited.now.edits) alone judged) }
 {
     let command = &job.command;
+    let printed = printed_of_command(rt, host, progress, alloc, meter, edited, command)?;
     if !job.strict {
-        return printed_of_store(rt, host, progress, alloc, meter, store, edits, command);
+        return Ok(printed);
     }
-    let mut twin = second(alloc, meter, store)?;
-    let printed = printed_of_store(rt, host, progress, alloc, meter, store, edits, command)?;
-    judged_strictly(
-        alloc,
-        meter,
-        &mut twin,
-        edits,
-        command.is_settled(),
-        printed,
-    )
+    judged_strictly(alloc, meter, edited, command.is_settled(), printed)
 }
 
 // What the job tells of the session and its edits.
@@ -109,21 +91,28 @@ fn printed_of_job<T: Threads + Sync, P: Progress>(
     host: &HostRuntime,
     progress: &mut P,
     alloc: Global,
-    meter: &mut Meter,
-    store: &mut Store,
-    edits: &[Edit],
+    edited: &EditedSession,
     job: &Job,
 ) -> Result<Output, AllocError>
-    requires { All (IsCheckedEdit store.old.session.header) edits.now }
-    ensures { IfOk result (λ printed. IsDone job.now store.old.session edits.now printed) }
+    ensures { IfOk result
+        (λ printed. IsDone job.now edited.now.session edited.now.edits printed) }
 {
-    let lines = refused_edits(alloc, store.len(), edits)?;
-    let judged = judged_of_store(rt, host, progress, alloc, meter, store, edits, job)?;
+    let lines = edited.notes(alloc)?;
+    let mut meter = Meter::new(host);
+    let judged = judged_of_job(rt, host, progress, alloc, &mut meter, edited, job)?;
     warned(judged, lines)
 }
 
+// What is told after these lines of a session that is too long.
+fn refused_length(alloc: Global, lines: String) -> Result<Output, AllocError>
+    ensures { IfOk result (λ printed. printed ≡ warned (string_bytes lines) too_many_steps) }
+{
+    let refused = too_many_steps(alloc)?.on_error(alloc)?;
+    warned(refused, lines)
+}
+
 // What is told of a document that was read, after these lines. Texts may have any number of steps,
-// so J2 is found here. As few checkpoints are kept as there can be, since each edit is made once.
+// so J2 is found here.
 fn printed_of_bench<T: Threads + Sync, P: Progress>(
     rt: &T,
     host: &HostRuntime,
@@ -141,22 +130,13 @@ fn printed_of_bench<T: Threads + Sync, P: Progress>(
         steps,
         edits,
     } = bench;
-    let mut meter = Meter::new(host);
-    match Store::open(alloc, header, steps.into_vec(), MAX_SPAN, &mut meter) {
-        Ok(mut store) => {
-            let printed = printed_of_job(
-                rt,
-                host,
-                progress,
-                alloc,
-                &mut meter,
-                &mut store,
-                edits.as_slice(),
-                job,
-            )?;
+    match CheckedSession::new(header, steps.into_vec()) {
+        Some(session) => {
+            let edited = EditedSession::make(alloc, session, edits.into_vec())?;
+            let printed = printed_of_job(rt, host, progress, alloc, &edited, job)?;
             warned(printed, lines)
         }
-        Err(fault) => not_opened(alloc, lines, fault.why),
+        None => refused_length(alloc, lines),
     }
 }
 

@@ -1,17 +1,12 @@
 //! What is told of the limits of a run.
-ghost use Rattle.std.specs.Prelude.{◌≡◌, ◌≤◌, IfOk, length, string_bytes};
-ghost use Rattle.bench_types.specs.Limits.{max_steps};
-ghost use Rattle.bench_types.specs.Session.{IsSession};
-ghost use Rattle.view_commands.specs.CheckViews.{IsCheckOf, IsCheckView, printed_of_check};
+ghost use Rattle.std.specs.Prelude.{◌≡◌, IfOk, string_bytes};
+ghost use Rattle.view_commands.specs.CheckViews.{IsCheckView, printed_of_check};
 
-use crate::edited::make_edits;
 use crate::request::CheckView;
 use crate::settled::not_settled;
-use bench_types::{Edit, Header, Step};
 use program_io::{Output, OutputStatus};
-use run_comparisons::steps_of;
+use session_edits::EditedSession;
 use session_reports::{CheckStatus, Checked, check};
-use session_store::Store;
 use smp_kernel::Meter;
 use std::alloc::{AllocError, Global};
 
@@ -40,43 +35,19 @@ fn printed_of_check(alloc: Global, status: CheckStatus, text: String) -> Output
     }
 }
 
-fn check_of(
-    alloc: Global,
-    meter: &mut Meter,
-    header: &Header,
-    steps: &[Step],
-    view: &CheckView,
-) -> Result<Output, AllocError>
-    requires session { IsSession (record { header = header.now; steps = steps.now }) }
-    requires few { length steps.now ≤ max_steps }
-    ensures { IfOk result
-        (λ printed. IsCheckOf view.now (record { header = header.now; steps = steps.now })
-        printed) }
-{
-    match check(
-        alloc,
-        meter,
-        header,
-        steps,
-        view.settled,
-        view.limits.as_slice(),
-    ) {
-        Ok(Checked { status, text }) => Ok(printed_of_check(alloc, status, text)),
-        Err(fault) => not_settled(alloc, fault),
-    }
-}
-
 /// Whether the run of the session with its edits made keeps the limits.
 pub(crate) fn printed_check(
     alloc: Global,
     meter: &mut Meter,
-    store: &mut Store,
-    edits: &[Edit],
+    edited: &EditedSession,
     view: &CheckView,
 ) -> Result<Output, AllocError>
-    ensures { IfOk result (λ printed. IsCheckView view.now store.old.session edits.now printed) }
+    ensures { IfOk result
+        (λ printed. IsCheckView view.now edited.now.session edited.now.edits printed) }
 {
-    make_edits(alloc, meter, store, edits)?;
-    let steps = steps_of(alloc, store)?;
-    check_of(alloc, meter, store.header(), steps.as_slice(), view)
+    let (session, limits) = (edited.edited(), view.limits.as_slice());
+    match check(alloc, meter, session, view.settled, limits) {
+        Ok(Checked { status, text }) => Ok(printed_of_check(alloc, status, text)),
+        Err(fault) => not_settled(alloc, fault),
+    }
 }

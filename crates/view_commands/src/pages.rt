@@ -1,21 +1,24 @@
 //! The page of a session's run, with the parts that other commands tell.
-ghost use Rattle.std.specs.Prelude.{◌≡◌, ◌++◌, ◌≤◌, IfOk, OnOk, length, option_map, string_bytes, true};
+ghost use Rattle.std.specs.Prelude.{◌≡◌, ◌<◌, ◌≤◌, ◌++◌, [], IfOk, OnOk, length, option_map, string_bytes, true, false};
 ghost use Rattle.bench_types.specs.Limits.{max_steps};
-ghost use Rattle.bench_types.specs.Session.{IsSession};
-ghost use Rattle.view_commands.specs.PageViews.{as_table, counts_text, made_page, page_of, run_word, title_text, with_comparison, with_report, AreDrawn, IsCompared, IsComparison, IsPage, IsPageOf, IsPictured};
-ghost use Rattle.view_commands.specs.ReportViews.{IsReported};
+ghost use Rattle.bench_types.specs.Session.{Session};
+ghost use Rattle.run_comparisons.specs.Settled.{IsComparisonTooLong, IsSettledPair};
+ghost use Rattle.session_runs.specs.Run.{IsRunOf};
+ghost use Rattle.view_commands.specs.PageViews.{counts_text, made_page, page_of, run_word, title_text, with_comparison, with_report, AreDrawn, IsCompared, IsPage};
 
-use crate::edited::{comparison_of, make_edits, picture_of, second};
-use crate::reports::printed_report;
-use crate::settled::{comparison_printed, not_settled, pictured};
+use crate::edited::picture_of;
+use crate::reports::{pair_reported, printed_report, run_reported};
+use crate::settled::{pair_compared, run_pictured, session_not_settled};
+use crate::settled_pictures::pair_pictured;
 use crate::{PageView, ReportView};
-use bench_types::{Edit, Header, Step};
+use bench_types::CheckedSession;
 use program_io::{Output, OutputStatus};
-use run_comparisons::steps_of;
+use run_comparisons::{SettledPair, compare, settle_both};
 use run_pages::{Parts, page};
 use run_views::trace_by_places;
+use session_edits::EditedSession;
 use session_reports::Form;
-use session_store::Store;
+use session_runs::Run;
 use settling::settle;
 use smp_kernel::Meter;
 use std::alloc::{AllocError, Global};
@@ -28,89 +31,80 @@ struct Drawn {
     report: Output,
 }
 
-// What `timeline` tells.
-fn picture_part(
-    alloc: Global,
-    meter: &mut Meter,
-    store: &Store,
-    edits: &[Edit],
-    view: PageView,
-) -> Result<Output, AllocError>
-    ensures { IfOk result
-        (λ printed. IsPictured view.settled view.extent store.now.session edits.now printed) }
-{
-    let mut twin = second(alloc, meter, store)?;
-    if view.settled {
-        return pictured(alloc, meter, &mut twin, edits, view.extent);
-    }
-    picture_of(alloc, meter, &mut twin, edits, view.extent)
-}
-
-// What `compare` tells.
-fn comparison_printed_of(
-    alloc: Global,
-    meter: &mut Meter,
-    store: &Store,
-    edits: &[Edit],
-    settled: bool,
-) -> Result<Output, AllocError>
-    ensures { IfOk result (λ printed. IsComparison settled store.now.session edits.now printed) }
-{
-    let mut twin = second(alloc, meter, store)?;
-    if settled {
-        return comparison_printed(alloc, meter, &mut twin, edits);
-    }
-    let text = comparison_of(alloc, meter, &mut twin, edits)?;
-    Ok(Output::fine(alloc, text))
-}
-
-// The same, where there are edits.
+// What `compare` tells, where there are edits.
 #[tactic(auto, using(crate::proofs::ComparedParts::compared_some))]
 fn comparison_part(
     alloc: Global,
     meter: &mut Meter,
-    store: &Store,
-    edits: &[Edit],
-    settled: bool,
+    edited: &EditedSession,
 ) -> Result<Option<Output>, AllocError>
-    ensures { IfOk result (λ printed. IsCompared settled store.now.session edits.now printed) }
+    ensures { IfOk result
+        (λ printed. IsCompared false edited.now.session edited.now.edits printed) }
 {
-    if edits.is_empty() {
+    if edited.edits().is_empty() {
         return Ok(None);
     }
-    let printed = comparison_printed_of(alloc, meter, store, edits, settled)?;
-    Ok(Some(printed))
+    let text = compare(alloc, meter, edited)?;
+    Ok(Some(Output::fine(alloc, text.into_bytes())))
 }
 
-// What `report` tells.
-fn report_part(
+// What the other commands tell of the session and its edits as they stand.
+fn plain_parts(
     alloc: Global,
     meter: &mut Meter,
-    store: &Store,
-    edits: &[Edit],
-    settled: bool,
-) -> Result<Output, AllocError>
-    ensures { IfOk result
-        (λ printed. IsReported (as_table settled) store.now.session edits.now printed) }
-{
-    let mut twin = second(alloc, meter, store)?;
-    let form = Form::Table;
-    printed_report(alloc, meter, &mut twin, edits, ReportView { settled, form })
-}
-
-fn drawn_of(
-    alloc: Global,
-    meter: &mut Meter,
-    store: &Store,
-    edits: &[Edit],
+    edited: &EditedSession,
     view: PageView,
 ) -> Result<Drawn, AllocError>
-    ensures { IfOk result (λ drawn. AreDrawn view store.now.session edits.now drawn) }
+    requires { view.settled ≡ false }
+    ensures { IfOk result
+        (λ drawn. AreDrawn view edited.now.session edited.now.edits drawn) }
+{
+    let (settled, form) = (view.settled, Form::Table);
+    Ok(Drawn {
+        picture: picture_of(alloc, meter, edited, view.extent)?,
+        comparison: comparison_part(alloc, meter, edited)?,
+        report: printed_report(alloc, meter, edited, ReportView { settled, form })?,
+    })
+}
+
+// What they tell of a settled run, where there are no edits.
+fn run_parts(
+    alloc: Global,
+    meter: &mut Meter,
+    run: &Run,
+    view: PageView,
+) -> Result<Drawn, AllocError>
+    requires { view.settled ≡ true }
+    ensures { IfOk result
+        (λ drawn. (session : Session) → IsRunOf true session run.now
+        → AreDrawn view session [] drawn) }
 {
     Ok(Drawn {
-        picture: picture_part(alloc, meter, store, edits, view)?,
-        comparison: comparison_part(alloc, meter, store, edits, view.settled)?,
-        report: report_part(alloc, meter, store, edits, view.settled)?,
+        picture: run_pictured(alloc, meter, run, view.extent)?,
+        comparison: None,
+        report: run_reported(alloc, meter, run, Form::Table)?,
+    })
+}
+
+// What they tell of two settled runs.
+fn pair_parts(
+    alloc: Global,
+    meter: &mut Meter,
+    edited: &EditedSession,
+    pair: &SettledPair,
+    view: PageView,
+) -> Result<Drawn, AllocError>
+    requires settled { view.settled ≡ true }
+    requires some { 0 < length edited.now.edits }
+    requires pair { IsSettledPair edited.now.session edited.now.edits pair.now }
+    requires room { ¬ IsComparisonTooLong edited.now.session edited.now.edits }
+    ensures { IfOk result
+        (λ drawn. AreDrawn view edited.now.session edited.now.edits drawn) }
+{
+    Ok(Drawn {
+        picture: pair_pictured(alloc, meter, edited, pair, view.extent)?,
+        comparison: Some(pair_compared(alloc, edited, pair)?),
+        report: pair_reported(alloc, meter, pair, Form::Table)?,
     })
 }
 
@@ -128,18 +122,13 @@ fn push_counts(text: &mut String, steps: usize, cores: u32, tasks: usize) -> Res
 }
 
 // The first line of a page.
-fn title_of(
-    alloc: Global,
-    settled: bool,
-    header: &Header,
-    steps: &[Step],
-) -> Result<String, AllocError>
-    ensures { IfOk result (λ text. string_bytes text
-        ≡ title_text settled (record { header = header.now; steps = steps.now })) }
+fn title_of(alloc: Global, settled: bool, session: &CheckedSession) -> Result<String, AllocError>
+    ensures { IfOk result (λ text. string_bytes text ≡ title_text settled session.now) }
 {
     let mut text = String::from_str(alloc, run_word(settled))?;
+    let header = session.header();
     let tasks = header.tasks.as_slice().len();
-    push_counts(&mut text, steps.len(), header.config.cores, tasks)?;
+    push_counts(&mut text, session.steps().len(), header.config.cores, tasks)?;
     Ok(text)
 }
 
@@ -147,25 +136,22 @@ fn title_of(
 fn made_page(
     alloc: Global,
     meter: &mut Meter,
-    header: &Header,
-    steps: &[Step],
+    session: &CheckedSession,
     view: PageView,
     picture: Output,
     comparison: Option<Vec<u8>>,
     report: Vec<u8>,
 ) -> Result<Output, AllocError>
-    requires session { IsSession (record { header = header.now; steps = steps.now }) }
-    requires few { length steps.now ≤ max_steps }
     ensures { IfOk result (λ printed. printed
         ≡ made_page view picture (option_map (λ words. words.items) comparison) report.items
-        (record { header = header.now; steps = steps.now })) }
+        session.now) }
 {
     let Output { text, note, .. } = picture;
     let parts = Parts {
-        title: title_of(alloc, view.settled, header, steps)?,
+        title: title_of(alloc, view.settled, session)?,
         picture: text,
         first: view.extent.places.from,
-        places: trace_by_places(alloc, meter, view.extent.places, header, steps)?,
+        places: trace_by_places(alloc, meter, view.extent.places, session)?,
         comparison,
         report,
     };
@@ -180,23 +166,20 @@ fn made_page(
 fn with_report(
     alloc: Global,
     meter: &mut Meter,
-    header: &Header,
-    steps: &[Step],
+    session: &CheckedSession,
     view: PageView,
     picture: Output,
     comparison: Option<Vec<u8>>,
     report: Output,
 ) -> Result<Output, AllocError>
-    requires session { IsSession (record { header = header.now; steps = steps.now }) }
-    requires few { length steps.now ≤ max_steps }
     ensures { IfOk result (λ printed. printed
         ≡ with_report view picture (option_map (λ words. words.items) comparison) report
-        (record { header = header.now; steps = steps.now })) }
+        session.now) }
 {
     match report.status {
         OutputStatus::Fine => {
             let text = report.text;
-            made_page(alloc, meter, header, steps, view, picture, comparison, text)
+            made_page(alloc, meter, session, view, picture, comparison, text)
         }
         OutputStatus::Failed | OutputStatus::Unknown => Ok(report),
     }
@@ -206,108 +189,123 @@ fn with_report(
 fn with_comparison(
     alloc: Global,
     meter: &mut Meter,
-    header: &Header,
-    steps: &[Step],
+    session: &CheckedSession,
     view: PageView,
     picture: Output,
     comparison: Option<Output>,
     report: Output,
 ) -> Result<Output, AllocError>
-    requires session { IsSession (record { header = header.now; steps = steps.now }) }
-    requires few { length steps.now ≤ max_steps }
     ensures { IfOk result (λ printed. printed
-        ≡ with_comparison view picture comparison report
-        (record { header = header.now; steps = steps.now })) }
+        ≡ with_comparison view picture comparison report session.now) }
 {
     let Some(printed) = comparison else {
-        return with_report(alloc, meter, header, steps, view, picture, None, report);
+        return with_report(alloc, meter, session, view, picture, None, report);
     };
     match printed.status {
         OutputStatus::Fine => {
             let text = Some(printed.text);
-            with_report(alloc, meter, header, steps, view, picture, text, report)
+            with_report(alloc, meter, session, view, picture, text, report)
         }
         OutputStatus::Failed | OutputStatus::Unknown => Ok(printed),
     }
 }
 
-// The same, unless the picture is refused.
+// The page of these parts and of the trace of the session's run as it stands; the first of the
+// parts that is refused is told in its place.
 fn page_of_run(
     alloc: Global,
     meter: &mut Meter,
-    header: &Header,
-    steps: &[Step],
+    session: &CheckedSession,
     view: PageView,
     drawn: Drawn,
 ) -> Result<Output, AllocError>
-    requires session { IsSession (record { header = header.now; steps = steps.now }) }
-    requires few { length steps.now ≤ max_steps }
-    ensures { IfOk result (λ printed. printed
-        ≡ page_of view drawn (record { header = header.now; steps = steps.now })) }
+    ensures page { IfOk result (λ printed. printed ≡ page_of view drawn session.now) }
+    ensures few { length session.now.steps ≤ max_steps }
 {
     let Drawn {
         picture,
         comparison,
         report,
     } = drawn;
+    let _steps = session.steps();
     match picture.status {
-        OutputStatus::Fine => with_comparison(
-            alloc, meter, header, steps, view, picture, comparison, report,
-        ),
+        OutputStatus::Fine => {
+            with_comparison(alloc, meter, session, view, picture, comparison, report)
+        }
         OutputStatus::Failed | OutputStatus::Unknown => Ok(picture),
     }
 }
 
-// With the trace of the settled run of these steps.
-fn page_of_settled(
+// The page of the run after the edits as it stands.
+fn plain_page(
     alloc: Global,
     meter: &mut Meter,
-    header: &Header,
-    steps: &[Step],
+    edited: &EditedSession,
     view: PageView,
-    drawn: Drawn,
 ) -> Result<Output, AllocError>
-    requires session { IsSession (record { header = header.now; steps = steps.now }) }
-    requires settled { view.settled ≡ true }
+    requires { view.settled ≡ false }
     ensures { IfOk result
-        (λ printed. IsPageOf view drawn (record { header = header.now; steps = steps.now })
-        printed) }
+        (λ printed. IsPage view edited.now.session edited.now.edits printed) }
 {
-    match settle(alloc, header, steps, meter) {
-        Ok(settled) => page_of_run(alloc, meter, header, settled.run.as_slice(), view, drawn),
-        Err(fault) => not_settled(alloc, fault),
+    let drawn = plain_parts(alloc, meter, edited, view)?;
+    page_of_run(alloc, meter, edited.edited(), view, drawn)
+}
+
+// The page of the settled run of a session without edits.
+fn run_page(
+    alloc: Global,
+    meter: &mut Meter,
+    session: &CheckedSession,
+    view: PageView,
+) -> Result<Output, AllocError>
+    requires { view.settled ≡ true }
+    ensures { IfOk result (λ printed. IsPage view session.now [] printed) }
+{
+    match settle(alloc, session, meter) {
+        Ok(run) => {
+            let drawn = run_parts(alloc, meter, &run, view)?;
+            page_of_run(alloc, meter, run.session(), view, drawn)
+        }
+        Err(fault) => session_not_settled(alloc, session, fault),
     }
 }
 
-// With the trace of the session as it stands.
-fn page_of_store(
+// The page of the settled run after the edits, with that before them.
+fn pair_page(
     alloc: Global,
     meter: &mut Meter,
-    store: &Store,
+    edited: &EditedSession,
     view: PageView,
-    drawn: Drawn,
 ) -> Result<Output, AllocError>
-    ensures { IfOk result (λ printed. IsPageOf view drawn store.now.session printed) }
+    requires settled { view.settled ≡ true }
+    requires some { 0 < length edited.now.edits }
+    ensures { IfOk result
+        (λ printed. IsPage view edited.now.session edited.now.edits printed) }
 {
-    let steps = steps_of(alloc, store)?;
-    let (header, steps) = (store.header(), steps.as_slice());
-    if view.settled {
-        return page_of_settled(alloc, meter, header, steps, view, drawn);
+    match settle_both(alloc, meter, edited) {
+        Ok(pair) => {
+            let drawn = pair_parts(alloc, meter, edited, &pair, view)?;
+            page_of_run(alloc, meter, pair.after.session(), view, drawn)
+        }
+        Err(fault) => session_not_settled(alloc, edited.edited(), fault),
     }
-    page_of_run(alloc, meter, header, steps, view, drawn)
 }
 
 /// The page of the session and its edits; those that are refused are passed over.
 pub(crate) fn printed_page(
     alloc: Global,
     meter: &mut Meter,
-    store: &mut Store,
-    edits: &[Edit],
+    edited: &EditedSession,
     view: PageView,
 ) -> Result<Output, AllocError>
-    ensures { IfOk result (λ printed. IsPage view store.old.session edits.now printed) }
+    ensures { IfOk result
+        (λ printed. IsPage view edited.now.session edited.now.edits printed) }
 {
-    let drawn = drawn_of(alloc, meter, store, edits, view)?;
-    make_edits(alloc, meter, store, edits)?;
-    page_of_store(alloc, meter, store, view, drawn)
+    if !view.settled {
+        return plain_page(alloc, meter, edited, view);
+    }
+    if edited.edits().is_empty() {
+        return run_page(alloc, meter, edited.session(), view);
+    }
+    pair_page(alloc, meter, edited, view)
 }

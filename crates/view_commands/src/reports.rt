@@ -1,119 +1,141 @@
 //! What is told of the numbers of runs.
-ghost use Rattle.std.specs.Prelude.{◌≡◌, ◌≤◌, [], IfOk, length};
-ghost use Rattle.bench_types.specs.Limits.{max_steps};
-ghost use Rattle.bench_types.specs.Session.{IsSession};
+ghost use Rattle.std.specs.Prelude.{◌≡◌, IfOk, true};
+ghost use Rattle.bench_model.specs.Edits.{after_edits};
+ghost use Rattle.session_reports.specs.Figures.{run_figures};
+ghost use Rattle.session_reports.specs.Reports.{run_text, runs_text};
+ghost use Rattle.program_io.specs.Outputs.{fine};
 ghost use Rattle.view_commands.specs.ReportViews.{IsReported, IsReportedAlone, IsReportedBeside};
 
 use crate::ReportView;
-use crate::edited::make_edits;
 use crate::settled::not_settled;
-use bench_types::{Edit, Header, Step};
+use bench_types::CheckedSession;
 use program_io::Output;
-use run_comparisons::steps_of;
-use session_reports::{report_of_run, report_of_runs};
-use session_store::Store;
+use run_comparisons::{SettledPair, settle_both};
+use session_edits::EditedSession;
+use session_reports::{Form, report_of_run, report_of_runs};
+use session_runs::Run;
+use settled_runs::WaitingCall;
+use settling::settle;
 use smp_kernel::Meter;
 use std::alloc::{AllocError, Global};
 
-// The report of one run.
-fn report_of(
+/// The report of a settled run.
+pub(crate) fn run_reported(
     alloc: Global,
     meter: &mut Meter,
-    header: &Header,
-    steps: &[Step],
-    view: ReportView,
+    run: &Run,
+    form: Form,
 ) -> Result<Output, AllocError>
-    requires session { IsSession (record { header = header.now; steps = steps.now }) }
-    requires few { length steps.now ≤ max_steps }
-    ensures { IfOk result
-        (λ printed. IsReportedAlone view (record { header = header.now; steps = steps.now })
-        printed) }
+    ensures { IfOk result (λ printed. printed
+        ≡ fine (run_text form true run.now.session.header
+        (run_figures run.now.session.header run.now.session.steps run.now.left))) }
 {
-    match report_of_run(alloc, meter, header, steps, view.settled, view.form) {
-        Ok(text) => Ok(Output::fine(alloc, text.into_bytes())),
+    let text = report_of_run(alloc, meter, run.session(), run.left(), true, form)?;
+    Ok(Output::fine(alloc, text.into_bytes()))
+}
+
+/// The report of both settled runs.
+pub(crate) fn pair_reported(
+    alloc: Global,
+    meter: &mut Meter,
+    pair: &SettledPair,
+    form: Form,
+) -> Result<Output, AllocError>
+    ensures { IfOk result (λ printed. printed
+        ≡ fine (runs_text form true pair.now.before.session.header
+        (run_figures pair.now.before.session.header pair.now.before.session.steps
+        pair.now.before.left)
+        (run_figures pair.now.after.session.header pair.now.after.session.steps
+        pair.now.after.left))) }
+{
+    let (before, left) = (pair.before.session(), pair.before.left());
+    let (after, rest) = (pair.after.session(), pair.after.left());
+    let text = report_of_runs(alloc, meter, before, left, after, rest, true, form)?;
+    Ok(Output::fine(alloc, text.into_bytes()))
+}
+
+// The report of the settled run of the session.
+fn settled_report(
+    alloc: Global,
+    meter: &mut Meter,
+    session: &CheckedSession,
+    form: Form,
+) -> Result<Output, AllocError>
+    ensures { IfOk result
+        (λ printed. IsReportedAlone (record { settled = true; form = form }) session.now printed) }
+{
+    match settle(alloc, session, meter) {
+        Ok(run) => run_reported(alloc, meter, &run, form),
         Err(fault) => not_settled(alloc, fault),
     }
 }
 
-fn report_printed(
+// The report of the session's run.
+fn report_alone(
     alloc: Global,
     meter: &mut Meter,
-    store: &Store,
+    session: &CheckedSession,
     view: ReportView,
 ) -> Result<Output, AllocError>
-    ensures { IfOk result (λ printed. IsReportedAlone view store.now.session printed) }
+    ensures { IfOk result (λ printed. IsReportedAlone view session.now printed) }
 {
-    let steps = steps_of(alloc, store)?;
-    report_of(alloc, meter, store.header(), steps.as_slice(), view)
+    if view.settled {
+        return settled_report(alloc, meter, session, view.form);
+    }
+    let none: [WaitingCall; 0] = [];
+    let text = report_of_run(alloc, meter, session, &none, false, view.form)?;
+    Ok(Output::fine(alloc, text.into_bytes()))
 }
 
-// The report of two runs.
-fn reports_of(
+// The report of the settled run of the session, and of that of the session after the edits.
+fn settled_reports(
     alloc: Global,
     meter: &mut Meter,
-    header: &Header,
-    steps: &[Step],
-    edited: &Header,
-    later: &[Step],
-    view: ReportView,
+    edited: &EditedSession,
+    form: Form,
 ) -> Result<Output, AllocError>
-    requires session { IsSession (record { header = header.now; steps = steps.now }) }
-    requires few { length steps.now ≤ max_steps }
-    requires edited_session { IsSession (record { header = edited.now; steps = later.now }) }
-    requires few_later { length later.now ≤ max_steps }
     ensures { IfOk result
-        (λ printed. IsReportedBeside view (record { header = header.now; steps = steps.now })
-        (record { header = edited.now; steps = later.now }) printed) }
+        (λ printed. IsReportedBeside (record { settled = true; form = form }) edited.now.session
+        (after_edits edited.now.session edited.now.edits) printed) }
 {
-    let (settled, form) = (view.settled, view.form);
-    match report_of_runs(alloc, meter, header, steps, edited, later, settled, form) {
-        Ok(text) => Ok(Output::fine(alloc, text.into_bytes())),
+    match settle_both(alloc, meter, edited) {
+        Ok(pair) => pair_reported(alloc, meter, &pair, form),
         Err(fault) => not_settled(alloc, fault),
     }
 }
 
-// That of a session of this header and these steps, and of the one that the store holds now.
-fn reports_printed(
+// The report of the session's run, and of that of the session after the edits.
+fn reports_beside(
     alloc: Global,
     meter: &mut Meter,
-    header: &Header,
-    steps: &[Step],
-    store: &Store,
+    edited: &EditedSession,
     view: ReportView,
 ) -> Result<Output, AllocError>
-    requires session { IsSession (record { header = header.now; steps = steps.now }) }
-    requires few { length steps.now ≤ max_steps }
     ensures { IfOk result
-        (λ printed. IsReportedBeside view (record { header = header.now; steps = steps.now })
-        store.now.session printed) }
+        (λ printed. IsReportedBeside view edited.now.session
+        (after_edits edited.now.session edited.now.edits) printed) }
 {
-    let later = steps_of(alloc, store)?;
-    reports_of(
-        alloc,
-        meter,
-        header,
-        steps,
-        store.header(),
-        later.as_slice(),
-        view,
-    )
+    if view.settled {
+        return settled_reports(alloc, meter, edited, view.form);
+    }
+    let none: [WaitingCall; 0] = [];
+    let (before, after) = (edited.session(), edited.edited());
+    let text = report_of_runs(alloc, meter, before, &none, after, &none, false, view.form)?;
+    Ok(Output::fine(alloc, text.into_bytes()))
 }
 
 /// The report of the session's run, and with edits that of the run after them beside it.
 pub(crate) fn printed_report(
     alloc: Global,
     meter: &mut Meter,
-    store: &mut Store,
-    edits: &[Edit],
+    edited: &EditedSession,
     view: ReportView,
 ) -> Result<Output, AllocError>
-    ensures { IfOk result (λ printed. IsReported view store.old.session edits.now printed) }
+    ensures { IfOk result
+        (λ printed. IsReported view edited.now.session edited.now.edits printed) }
 {
-    if edits.is_empty() {
-        return report_printed(alloc, meter, store, view);
+    if edited.edits().is_empty() {
+        return report_alone(alloc, meter, edited.session(), view);
     }
-    let header = store.header().copy(alloc)?;
-    let steps = steps_of(alloc, store)?;
-    make_edits(alloc, meter, store, edits)?;
-    reports_printed(alloc, meter, &header, steps.as_slice(), store, view)
+    reports_beside(alloc, meter, edited, view)
 }

@@ -1,24 +1,24 @@
 //! What is told of the settled run of a session and of edits of it.
-ghost use Rattle.std.specs.Prelude.{◌≡◌, ◌≤◌, [], IfOk, OnOk, length, string_bytes};
+ghost use Rattle.std.specs.Prelude.{◌≡◌, ◌≤◌, IfOk, OnOk, length};
 ghost use Rattle.bench_types.specs.Limits.{max_steps};
 ghost use Rattle.bench_types.specs.Session.{IsSession};
-ghost use Rattle.bench_model.specs.Edits.{after_edits};
+ghost use Rattle.run_comparisons.specs.Settled.{IsComparisonTooLong, IsSettledPair};
 ghost use Rattle.settling.specs.declared.run.SettleFault.TheVariants.{TooManySteps};
 ghost use Rattle.view_commands.specs.SettledViews.{IsSettledPicture, IsSettledView, IsPrintedOfBoth, IsPrintedOfSettled, note_of, too_long};
-ghost use Rattle.program_io.specs.Outputs.{noted};
+ghost use Rattle.program_io.specs.Outputs.{fine, noted};
 ghost use Rattle.view_commands.specs.Views.{document_of, picture_of_run, trace_output};
-ghost use Rattle.program_io.specs.Outputs.{fine};
 
-use crate::edited::{answer_output, document_output, make_edits, second, trace_output};
+use crate::edited::{document_output, picture_of_run, trace_output};
 use crate::settled_pictures::pictures_printed;
 use crate::{Selection, SettledView};
-use bench_types::{Edit, EditFault, Header, MAX_STEPS, Step};
+use bench_types::{CheckedSession, EditFault, Header, MAX_STEPS};
 use program_io::{Output, Refusal};
-use run_comparisons::{compare_settled, steps_of};
-use run_pictures::{Extent, timeline};
-use session_store::Store;
+use run_comparisons::{SettledPair, compare_settled, settle_both};
+use run_pictures::Extent;
+use session_edits::EditedSession;
+use session_runs::Run;
 use settled_runs::WaitingCall;
-use settling::{SettleFault, Settled, push_left, settle};
+use settling::{SettleFault, push_left, settle};
 use smp_kernel::Meter;
 use std::alloc::{AllocError, Global};
 
@@ -36,16 +36,13 @@ fn note_of(alloc: Global, header: &Header, left: &[WaitingCall]) -> Result<Vec<u
     Ok(note.into_bytes())
 }
 
-// What is shown, and the calls that were not made, unless it is a refusal.
-fn with_left(
-    alloc: Global,
-    header: &Header,
-    left: &[WaitingCall],
-    shown: Output,
-) -> Result<Output, AllocError>
-    ensures { IfOk result (λ printed. printed ≡ noted shown (note_of header.now left.now)) }
+/// What is shown of the run, and the calls that were not made, unless it is a refusal.
+pub(crate) fn with_left(alloc: Global, run: &Run, shown: Output) -> Result<Output, AllocError>
+    ensures noted { IfOk result
+        (λ printed. printed ≡ noted shown (note_of run.now.session.header run.now.left)) }
+    ensures few { length run.now.session.steps ≤ max_steps }
 {
-    let note = note_of(alloc, header, left)?;
+    let note = note_of(alloc, run.session().header(), run.left())?;
     Ok(shown.noted(note))
 }
 
@@ -69,186 +66,133 @@ pub(crate) fn not_settled(alloc: Global, fault: SettleFault) -> Result<Output, A
     }
 }
 
-fn trace_of_run(
+/// The same of a session, which was checked.
+pub(crate) fn session_not_settled(
     alloc: Global,
-    meter: &mut Meter,
-    header: &Header,
-    settled: &Settled,
-    selection: &Selection,
+    session: &CheckedSession,
+    fault: SettleFault,
 ) -> Result<Output, AllocError>
-    requires session { IsSession (record {
-      header = header.now;
-      steps = settled.now.run.items;
-    }) }
-    requires few { length settled.now.run.items ≤ max_steps }
-    ensures { IfOk result
-        (λ printed. printed
-        ≡ noted
-        (trace_output selection.now
-        (record { header = header.now; steps = settled.now.run.items }))
-        (note_of header.now settled.now.left.items)) }
+    ensures why { OnOk result (fault ≡ TooManySteps) }
+    ensures line { IfOk result (λ printed. printed ≡ too_long) }
+    ensures checked { IsSession session.now }
 {
-    let run = settled.run.as_slice();
-    let shown = trace_output(alloc, meter, header, run, selection)?;
-    with_left(alloc, header, settled.left.as_slice(), shown)
+    let _header = session.header();
+    not_settled(alloc, fault)
 }
 
-fn document_of_run(alloc: Global, header: &Header, settled: &Settled) -> Result<Output, AllocError>
-    requires { IsSession (record { header = header.now; steps = settled.now.run.items }) }
-    ensures { IfOk result
-        (λ printed. printed
-        ≡ noted
-        (fine (document_of (record { header = header.now; steps = settled.now.run.items })))
-        (note_of header.now settled.now.left.items)) }
-{
-    let shown = document_output(alloc, header, settled.run.as_slice())?;
-    with_left(alloc, header, settled.left.as_slice(), shown)
-}
-
-fn settled_trace(
-    alloc: Global,
-    meter: &mut Meter,
-    header: &Header,
-    steps: &[Step],
-    selection: &Selection,
-) -> Result<Output, AllocError>
-    requires { IsSession (record { header = header.now; steps = steps.now }) }
-    ensures { IfOk result
-        (λ printed. IsPrintedOfSettled (trace_output selection.now)
-        (record { header = header.now; steps = steps.now }) printed) }
-{
-    match settle(alloc, header, steps, meter) {
-        Ok(settled) => trace_of_run(alloc, meter, header, &settled, selection),
-        Err(fault) => not_settled(alloc, fault),
-    }
-}
-
-fn settled_document(
-    alloc: Global,
-    meter: &mut Meter,
-    header: &Header,
-    steps: &[Step],
-) -> Result<Output, AllocError>
-    requires { IsSession (record { header = header.now; steps = steps.now }) }
-    ensures { IfOk result
-        (λ printed. IsPrintedOfSettled (λ run. fine (document_of run))
-        (record { header = header.now; steps = steps.now }) printed) }
-{
-    match settle(alloc, header, steps, meter) {
-        Ok(settled) => document_of_run(alloc, header, &settled),
-        Err(fault) => not_settled(alloc, fault),
-    }
-}
-
-// The trace of the settled run of the session as it stands.
+// The trace of the settled run of the session.
 fn trace_printed(
     alloc: Global,
     meter: &mut Meter,
-    store: &Store,
+    session: &CheckedSession,
     selection: &Selection,
 ) -> Result<Output, AllocError>
     ensures { IfOk result
-        (λ printed. IsPrintedOfSettled (trace_output selection.now) store.now.session printed) }
+        (λ printed. IsPrintedOfSettled (trace_output selection.now) session.now printed) }
 {
-    let steps = steps_of(alloc, store)?;
-    settled_trace(alloc, meter, store.header(), steps.as_slice(), selection)
+    match settle(alloc, session, meter) {
+        Ok(run) => {
+            let shown = trace_output(alloc, meter, run.session(), selection)?;
+            with_left(alloc, &run, shown)
+        }
+        Err(fault) => session_not_settled(alloc, session, fault),
+    }
 }
 
 // That run as a document.
-fn document_printed(alloc: Global, meter: &mut Meter, store: &Store) -> Result<Output, AllocError>
-    ensures { IfOk result
-        (λ printed. IsPrintedOfSettled (λ run. fine (document_of run)) store.now.session printed) }
-{
-    let steps = steps_of(alloc, store)?;
-    settled_document(alloc, meter, store.header(), steps.as_slice())
-}
-
-/// The settled runs of the session and of the session after the edits, beside each other.
-pub(crate) fn comparison_printed(
+fn document_printed(
     alloc: Global,
     meter: &mut Meter,
-    store: &mut Store,
-    edits: &[Edit],
+    session: &CheckedSession,
 ) -> Result<Output, AllocError>
-    ensures { IfOk result (λ printed. IsPrintedOfBoth store.old.session edits.now printed) }
+    ensures { IfOk result
+        (λ printed. IsPrintedOfSettled (λ run. fine (document_of run)) session.now printed) }
 {
-    let before = second(alloc, meter, store)?;
-    match compare_settled(alloc, meter, &before, store, edits) {
-        Ok(text) => Ok(Output::fine(alloc, text.into_bytes())),
+    match settle(alloc, session, meter) {
+        Ok(run) => {
+            let shown = document_output(alloc, run.session())?;
+            with_left(alloc, &run, shown)
+        }
+        Err(fault) => session_not_settled(alloc, session, fault),
+    }
+}
+
+/// Both settled runs beside each other.
+pub(crate) fn pair_compared(
+    alloc: Global,
+    edited: &EditedSession,
+    pair: &SettledPair,
+) -> Result<Output, AllocError>
+    requires pair { IsSettledPair edited.now.session edited.now.edits pair.now }
+    requires room { ¬ IsComparisonTooLong edited.now.session edited.now.edits }
+    ensures { IfOk result
+        (λ printed. IsPrintedOfBoth edited.now.session edited.now.edits printed) }
+{
+    let text = compare_settled(alloc, edited, pair)?;
+    Ok(Output::fine(alloc, text.into_bytes()))
+}
+
+// The settled runs of the session and of the session after the edits, beside each other.
+fn comparison_printed(
+    alloc: Global,
+    meter: &mut Meter,
+    edited: &EditedSession,
+) -> Result<Output, AllocError>
+    ensures { IfOk result
+        (λ printed. IsPrintedOfBoth edited.now.session edited.now.edits printed) }
+{
+    match settle_both(alloc, meter, edited) {
+        Ok(pair) => pair_compared(alloc, edited, &pair),
         Err(fault) => not_settled(alloc, fault),
     }
 }
 
-fn picture_of_run(
+/// The picture of a settled run, and the calls that were not made.
+pub(crate) fn run_pictured(
     alloc: Global,
     meter: &mut Meter,
-    header: &Header,
-    settled: &Settled,
+    run: &Run,
     extent: Extent,
 ) -> Result<Output, AllocError>
-    requires session { IsSession (record {
-      header = header.now;
-      steps = settled.now.run.items;
-    }) }
-    requires few { length settled.now.run.items ≤ max_steps }
-    ensures { IfOk result
-        (λ printed. printed
-        ≡ noted
-        (picture_of_run extent
-        (record { header = header.now; steps = settled.now.run.items }))
-        (note_of header.now settled.now.left.items)) }
+    ensures shown { IfOk result (λ printed. printed
+        ≡ noted (picture_of_run extent run.now.session)
+        (note_of run.now.session.header run.now.left)) }
+    ensures few { OnOk result (length run.now.session.steps ≤ max_steps) }
 {
-    let answer = timeline(alloc, meter, extent, header, settled.run.as_slice())?;
-    let shown = answer_output(alloc, answer)?;
-    with_left(alloc, header, settled.left.as_slice(), shown)
+    let shown = picture_of_run(alloc, meter, run.session(), extent)?;
+    with_left(alloc, run, shown)
 }
 
-fn settled_picture(
-    alloc: Global,
-    meter: &mut Meter,
-    header: &Header,
-    steps: &[Step],
-    extent: Extent,
-) -> Result<Output, AllocError>
-    requires { IsSession (record { header = header.now; steps = steps.now }) }
-    ensures { IfOk result
-        (λ printed. IsPrintedOfSettled (picture_of_run extent)
-        (record { header = header.now; steps = steps.now }) printed) }
-{
-    match settle(alloc, header, steps, meter) {
-        Ok(settled) => picture_of_run(alloc, meter, header, &settled, extent),
-        Err(fault) => not_settled(alloc, fault),
-    }
-}
-
-// The picture of that run.
+// The picture of the settled run of the session.
 fn picture_printed(
     alloc: Global,
     meter: &mut Meter,
-    store: &Store,
+    session: &CheckedSession,
     extent: Extent,
 ) -> Result<Output, AllocError>
     ensures { IfOk result
-        (λ printed. IsPrintedOfSettled (picture_of_run extent) store.now.session printed) }
+        (λ printed. IsPrintedOfSettled (picture_of_run extent) session.now printed) }
 {
-    let steps = steps_of(alloc, store)?;
-    settled_picture(alloc, meter, store.header(), steps.as_slice(), extent)
+    match settle(alloc, session, meter) {
+        Ok(run) => run_pictured(alloc, meter, &run, extent),
+        Err(fault) => session_not_settled(alloc, session, fault),
+    }
 }
 
-/// The picture of the settled run, and with edits that of the settled run after them below it.
-pub(crate) fn pictured(
+// The picture of the settled run, and with edits that of the settled run after them below it.
+fn pictured(
     alloc: Global,
     meter: &mut Meter,
-    store: &mut Store,
-    edits: &[Edit],
+    edited: &EditedSession,
     extent: Extent,
 ) -> Result<Output, AllocError>
-    ensures { IfOk result (λ printed. IsSettledPicture extent store.old.session edits.now printed) }
+    ensures { IfOk result
+        (λ printed. IsSettledPicture extent edited.now.session edited.now.edits printed) }
 {
-    if edits.len() == 0 {
-        return picture_printed(alloc, meter, store, extent);
+    if edited.edits().len() == 0 {
+        return picture_printed(alloc, meter, edited.session(), extent);
     }
-    pictures_printed(alloc, meter, store, edits, extent)
+    pictures_printed(alloc, meter, edited, extent)
 }
 
 /// What the view tells of the session and its edits, settled; those that are refused are passed
@@ -256,23 +200,16 @@ pub(crate) fn pictured(
 pub(crate) fn printed_settled(
     alloc: Global,
     meter: &mut Meter,
-    store: &mut Store,
-    edits: &[Edit],
+    edited: &EditedSession,
     view: &SettledView,
 ) -> Result<Output, AllocError>
     ensures { IfOk result
-        (λ printed. IsSettledView view.now store.old.session edits.now printed) }
+        (λ printed. IsSettledView view.now edited.now.session edited.now.edits printed) }
 {
     match view {
-        SettledView::Trace(selection) => {
-            make_edits(alloc, meter, store, edits)?;
-            trace_printed(alloc, meter, store, selection)
-        }
-        SettledView::Session => {
-            make_edits(alloc, meter, store, edits)?;
-            document_printed(alloc, meter, store)
-        }
-        SettledView::Compare => comparison_printed(alloc, meter, store, edits),
-        SettledView::Timeline(extent) => pictured(alloc, meter, store, edits, *extent),
+        SettledView::Trace(selection) => { trace_printed(alloc, meter, edited.edited(), selection) }
+        SettledView::Session => document_printed(alloc, meter, edited.edited()),
+        SettledView::Compare => comparison_printed(alloc, meter, edited),
+        SettledView::Timeline(extent) => pictured(alloc, meter, edited, *extent),
     }
 }

@@ -3,10 +3,9 @@ ghost use Rattle.std.specs.Prelude.{◌≡◌, IfOk};
 ghost use Rattle.run_comparisons.specs.Refusals.{HasRefusal};
 ghost use Rattle.view_commands.specs.Strict.{IsStrict};
 
-use bench_types::Edit;
 use program_io::{Output, OutputStatus};
 use run_comparisons::has_refusal;
-use session_store::Store;
+use session_edits::EditedSession;
 use smp_kernel::Meter;
 use std::alloc::{AllocError, Global};
 
@@ -22,22 +21,21 @@ fn failed(output: Output) -> Output
 }
 
 /// What is told where refusals count: the status fails where it was fine and an edit of the session
-/// of the store is refused, or a step of the run after the edits.
+/// is refused, or a step of the run after the edits.
 pub(crate) fn judged_strictly(
     alloc: Global,
     meter: &mut Meter,
-    store: &mut Store,
-    edits: &[Edit],
+    edited: &EditedSession,
     settled: bool,
     output: Output,
 ) -> Result<Output, AllocError>
     ensures { IfOk result
-        (λ judged. IsStrict (HasRefusal settled store.old.session edits.now) output.status
+        (λ judged. IsStrict (HasRefusal settled edited.now.session edited.now.edits) output.status
         output judged) }
 {
     match output.status {
         OutputStatus::Fine => {
-            if has_refusal(alloc, meter, store, edits, settled)? {
+            if has_refusal(alloc, meter, edited, settled)? {
                 return Ok(failed(output));
             }
             Ok(output)

@@ -1,13 +1,12 @@
 //! Pages, and the traces that stand in them place by place.
 
-use crate::samples::{FIRST_RUN, NO_NINTH, SHARED_MUTEX};
+use crate::samples::{FIRST_RUN, NO_NINTH, SHARED_MUTEX, session_in};
 use base64::engine::general_purpose::STANDARD;
 use program_io::Counted;
 use ranked_changes::Silent;
 use run_pages::{Parts, page};
 use run_pictures::{Axis, Extent};
 use run_views::{Places, trace_by_places};
-use session_text::read_session;
 use sha2::{Digest, Sha256};
 use smp_kernel::Meter;
 use std::alloc::{AllocError, Global};
@@ -43,11 +42,10 @@ const SETTLED: &str = "<title>Settled run of 5 steps: cores 2, tasks 3</title>
 #[test]
 fn a_trace_by_places(rt: HostRuntime) -> Result<(), Fail> {
     let alloc = rt.alloc();
-    let (header, steps) = read_session(alloc, FIRST_RUN.as_bytes())?;
-    assert!(rt; steps.len() < 100);
+    let session = session_in(alloc, FIRST_RUN)?;
     let mut meter = Meter::new(&rt);
     let places = Places { from: 2, to: 3 };
-    let texts = trace_by_places(alloc, &mut meter, places, &header, steps.as_slice())?;
+    let texts = trace_by_places(alloc, &mut meter, places, &session)?;
     assert_eq!(rt; texts.len(), 2);
     assert_eq!(rt; texts[0].as_str(), SECOND);
     assert_eq!(rt; texts[1].as_str(), THIRD);

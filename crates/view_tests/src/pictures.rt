@@ -1,13 +1,12 @@
 //! Pictures.
 
-use crate::samples::{FIRST_RUN, HINDERED, WOKEN_AMONG_IDLE};
+use crate::samples::{FIRST_RUN, HINDERED, WOKEN_AMONG_IDLE, session_in};
 use bench_types::Step;
 use run_pictures::{
-    Axis, Extent, Run, law_of_bars, law_of_first_columns, law_of_hindrances, law_of_legends,
+    Axis, Extent, PlacedRun, law_of_bars, law_of_first_columns, law_of_hindrances, law_of_legends,
     law_of_waits, tick_columns, timeline, timelines,
 };
 use run_views::Places;
-use session_text::read_session;
 use smp_kernel::Meter;
 use std::process::Abort;
 use std::test::Fail;
@@ -125,10 +124,9 @@ const ALL: Extent = Extent {
 #[test]
 fn a_picture_of_a_run(rt: HostRuntime) -> Result<(), Fail> {
     let alloc = rt.alloc();
-    let (header, steps) = read_session(alloc, FIRST_RUN.as_bytes())?;
-    assert!(rt; steps.len() < 100);
+    let session = session_in(alloc, FIRST_RUN)?;
     let mut meter = Meter::new(&rt);
-    match timeline(alloc, &mut meter, ALL, &header, steps.as_slice())? {
+    match timeline(alloc, &mut meter, ALL, &session)? {
         Ok(picture) => {
             expect_printed(&rt, picture.as_str(), PRINTED);
             expect_printed(&rt, picture.as_str(), LAID_OUT);
@@ -143,10 +141,9 @@ fn a_picture_of_a_run(rt: HostRuntime) -> Result<(), Fail> {
 #[test]
 fn a_picture_of_what_is_in_the_way(rt: HostRuntime) -> Result<(), Fail> {
     let alloc = rt.alloc();
-    let (header, steps) = read_session(alloc, HINDERED.as_bytes())?;
-    assert!(rt; steps.len() < 100);
+    let session = session_in(alloc, HINDERED)?;
     let mut meter = Meter::new(&rt);
-    match timeline(alloc, &mut meter, ALL, &header, steps.as_slice())? {
+    match timeline(alloc, &mut meter, ALL, &session)? {
         Ok(picture) => {
             expect_each(&rt, picture.as_str(), &IN_THE_WAY);
             expect_each(&rt, picture.as_str(), &BESIDE);
@@ -163,10 +160,9 @@ fn a_picture_of_what_is_in_the_way(rt: HostRuntime) -> Result<(), Fail> {
 #[test]
 fn an_idle_task_is_lower_than_priority_0(rt: HostRuntime) -> Result<(), Fail> {
     let alloc = rt.alloc();
-    let (header, steps) = read_session(alloc, WOKEN_AMONG_IDLE.as_bytes())?;
-    assert!(rt; steps.len() < 100);
+    let session = session_in(alloc, WOKEN_AMONG_IDLE)?;
     let mut meter = Meter::new(&rt);
-    match timeline(alloc, &mut meter, ALL, &header, steps.as_slice())? {
+    match timeline(alloc, &mut meter, ALL, &session)? {
         Ok(picture) => expect_each(&rt, picture.as_str(), &AMONG_IDLE),
         Err(_) => panic!(rt; "too long"),
     }
@@ -176,15 +172,13 @@ fn an_idle_task_is_lower_than_priority_0(rt: HostRuntime) -> Result<(), Fail> {
 #[test]
 fn a_picture_of_two_runs_in_columns(rt: HostRuntime) -> Result<(), Fail> {
     let alloc = rt.alloc();
-    let (header, steps) = read_session(alloc, FIRST_RUN.as_bytes())?;
-    assert!(rt; steps.len() < 100);
+    let session = session_in(alloc, FIRST_RUN)?;
     let mut meter = Meter::new(&rt);
-    let before = Run {
-        header: &header,
-        steps: steps.as_slice(),
+    let before = PlacedRun {
+        session: &session,
         columns: &[0, 2, 3, 4, 5, 6, 7],
     };
-    let after = Run {
+    let after = PlacedRun {
         columns: &[],
         ..before
     };
@@ -215,13 +209,11 @@ fn ticks_of_two_runs_line_up(rt: HostRuntime) -> Result<(), Fail> {
 #[test]
 fn a_picture_by_ticks(rt: HostRuntime) -> Result<(), Fail> {
     let alloc = rt.alloc();
-    let (header, steps) = read_session(alloc, FIRST_RUN.as_bytes())?;
-    assert!(rt; steps.len() < 100);
+    let session = session_in(alloc, FIRST_RUN)?;
     let mut meter = Meter::new(&rt);
-    let columns = tick_columns(alloc, steps.as_slice(), steps.as_slice())?;
-    let run = Run {
-        header: &header,
-        steps: steps.as_slice(),
+    let columns = tick_columns(alloc, session.steps(), session.steps())?;
+    let run = PlacedRun {
+        session: &session,
         columns: columns.before.as_slice(),
     };
     let extent = Extent {

@@ -1,5 +1,19 @@
 //! Sessions of tests.
 
+use bench_types::CheckedSession;
+use session_text::read_session;
+use std::alloc::Global;
+use std::test::Fail;
+
+/// The session of the document.
+pub(crate) fn session_in(alloc: Global, document: &str) -> Result<CheckedSession, Fail> {
+    let (header, steps) = read_session(alloc, document.as_bytes())?;
+    match CheckedSession::new(header, steps) {
+        Some(session) => Ok(session),
+        None => Err(Fail::from("more steps than a session may have")),
+    }
+}
+
 /// A, of priority 2, delays itself on core 0 for two ticks; B and C are of priority 1.
 pub const FIRST_RUN: &str = "{\"format\": 1, \"cores\": 2, \"priorities\": 5, \"slicing\": false, \
     \"tick\": 0, \"mutexes\": 0, \"tasks\": [{\"name\": \"A\", \"priority\": 2, \"mask\": 3}, \

@@ -1,9 +1,8 @@
 //! The text of a trace.
 
-use crate::samples::{FIRST_RUN, TWO_NOTES};
+use crate::samples::{FIRST_RUN, TWO_NOTES, session_in};
 use bench_types::Items;
 use run_views::{Interest, Places, trace};
-use session_text::read_session;
 use smp_kernel::Meter;
 use std::process::Abort;
 use std::test::Fail;
@@ -66,14 +65,14 @@ place 5, tick 0; core 0 A; core 1 B
 
 #[test]
 fn a_whole_run(rt: HostRuntime) -> Result<(), Fail> {
-    let text = trace_of(&rt, &rt, FIRST_RUN, 0, u32::MAX)?;
+    let text = trace_of(&rt, FIRST_RUN, 0, u32::MAX)?;
     expect_text(&rt, text.as_str(), WHOLE);
     Ok(())
 }
 
 #[test]
 fn a_run_with_two_notifications(rt: HostRuntime) -> Result<(), Fail> {
-    let text = trace_of(&rt, &rt, TWO_NOTES, 0, u32::MAX)?;
+    let text = trace_of(&rt, TWO_NOTES, 0, u32::MAX)?;
     expect_text(&rt, text.as_str(), INDEXED);
     Ok(())
 }
@@ -82,22 +81,14 @@ fn expect_text(rt: &impl Abort, text: &str, expected: &str) {
     assert_eq!(rt; text, expected);
 }
 
-fn trace_of(
-    rt: &impl Abort,
-    host: &HostRuntime,
-    document: &str,
-    from: u32,
-    to: u32,
-) -> Result<String, Fail> {
+fn trace_of(host: &HostRuntime, document: &str, from: u32, to: u32) -> Result<String, Fail> {
     let alloc = host.alloc();
-    let (header, steps) = read_session(alloc, document.as_bytes())?;
-    assert!(rt; steps.len() < 100);
+    let session = session_in(alloc, document)?;
     let mut meter = Meter::new(host);
     let places = Places { from, to };
     let interest = Interest {
         tasks: Items::new(Vec::new(alloc)),
         cores: Items::new(Vec::new(alloc)),
     };
-    let steps = steps.as_slice();
-    Ok(trace(alloc, &mut meter, places, &interest, &header, steps)?)
+    Ok(trace(alloc, &mut meter, places, &interest, &session)?)
 }

@@ -1,11 +1,15 @@
-use Rattle.std.proofs.Common.{◌∙◌}
-use Rattle.view_commands.proofs.Pictures.{pair_pictured}
+use Rattle.std.proofs.Common.{List, ap, ap₂, ◌∙◌}
+use Rattle.bench_types.specs.declared.step.Step.{Step}
+use Rattle.bench_types.specs.Session.{Session}
+use Rattle.view_commands.specs.SettledViews.{drawn_after, drawn_before}
+use Rattle.view_commands.proofs.Pictures.{drawn_of, same_pictured}
 use Rattle.view_commands.proofs.settled_pictures.picture_of_pair.Goals as goal
 
 pub returns : goal.returns
 returns c =
-    let columns = c.as_slice-2.ensures ∙ c.in_ok-columns.ensures.before in
-    let later = c.as_slice-4.ensures ∙ c.in_ok-columns.ensures.after in
-    pair_pictured c.args.extent c.args.header.now c.args.edited.now c.args.pair.now c.as_slice.result.now c.as_slice-3.result.now c.as_slice-2.result.now
-    c.as_slice-4.result.now c.in_ok-timelines.field-0 c.answer_output.result c.as_slice.ensures.value columns c.as_slice-3.ensures.value later
+    let axis = c.args.extent.axis in
+    let pair = c.args.pair.now in
+    let before = ap₂ drawn_of c.session.ensures (c.as_slice.ensures ∙ c.in_ok-columns.ensures.before) in
+    let after = ap₂ drawn_of c.session-2.ensures (c.as_slice-2.ensures ∙ c.in_ok-columns.ensures.after) in
+    same_pictured c.args.extent (drawn_before axis pair) (drawn_after axis pair) _ _ c.in_ok-timelines.field-0 c.answer_output.result before after
     c.in_ok-timelines.ensures.picture c.answer_output.ensures

@@ -55,7 +55,7 @@ check-advice.py smp_view python3
 check-pictures.sh smp_view python3
 check-page.sh smp_view chromium node
 program-statuses.sh smp_bench smp_view prlimit
-load.sh smp_bench /usr/bin/time
+load.sh smp_bench smp_view /usr/bin/time python3
 refuse-memory.sh rt
 try-edits.sh rt git
 END

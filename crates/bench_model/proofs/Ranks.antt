@@ -2,7 +2,8 @@
 use Rattle.std.proofs.Common.{ℕ, arith}
 use Rattle.std.proofs.lemmas.Bool.Decides.{nat_tests}
 use Rattle.bench_model.specs.Control.{Control, task_at}
-use Rattle.bench_model.specs.Lists.{outranks, wakes_first, waits_first}
+use Rattle.bench_model.specs.Lists.{outranks, wakes_first}
+use Rattle.bench_model.specs.Waiters.{waits_first}
 use Rattle.list_orders.proofs.Ranks.{IsRank}
 use Rattle.list_orders.proofs.Choices.{rank_front-IsRank}
 

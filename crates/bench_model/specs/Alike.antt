@@ -1,15 +1,10 @@
 -- Alike kernels: equality of two tables said pair by pair, without lists, so without sorting.
 -- Stamps, wakes and deadlines themselves are not compared: only which of two stamps is the lesser,
 -- and how many ticks are left.
-use Rattle.std.specs.Prelude.{◌≡◌, ◌↔◌, ℕ, ◌<◌, ◌%◌, ◌^◌, true, Option, IsSome}
-use Rattle.bench_types.specs.declared.kernel_data.MutexWait.{MutexWait}
+use Rattle.std.specs.Prelude.{◌≡◌, ◌↔◌, ℕ, ◌<◌, ◌%◌, ◌^◌, true, IsSome}
 use Rattle.bench_model.specs.Control.{task_at}
 use Rattle.bench_model.specs.Looks.{ticks_left}
-use Rattle.bench_model.specs.Table.{Table, row_at, stamp_of, wait_in, is_ready, deadline_left}
-
--- the mutex that the task waits for and its waiting priority, none where it waits for no mutex
-abbrev pub wait_of : ℕ → Table → Option MutexWait
-wait_of task table = wait_in (row_at table.orders task).standing
+use Rattle.bench_model.specs.Table.{Table, stamp_of, is_ready, deadline_left}
 
 -- both are ready, with one priority in use
 abbrev pub InOneReadyList : Table → ℕ → ℕ → Type 0
@@ -21,10 +16,6 @@ InOneReadyList table i j =
 abbrev pub AreDelayedTogether : Table → ℕ → ℕ → Type 0
 AreDelayedTogether table i j =
     IsSome (ticks_left i table.orders) × (ticks_left i table.orders ≡ ticks_left j table.orders)
-
--- both wait for one mutex, with one waiting priority
-abbrev pub InOneWaitQueue : Table → ℕ → ℕ → Type 0
-InOneWaitQueue table i j = IsSome (wait_of i table) × (wait_of i table ≡ wait_of j table)
 
 -- the first task came to where it stands before the second
 abbrev pub CameBefore : Table → ℕ → ℕ → Type 0
@@ -48,15 +39,14 @@ pub record SamePairwise (a b : Table) : Type 0 where
   pub hold : a.hold ≡ b.hold
   -- the tick counts are equal as 32 bits
   pub ticks : a.orders.tick % 2 ^ 32 ≡ b.orders.tick % 2 ^ 32
-  -- each task is ready in both or in none, with equal ticks left to its wake, waits equally at a
-  -- mutex, and has equal ticks left to the deadline of its wait for a mutex
+  -- each task is ready in both or in none, with equal ticks left to its wake and to the deadline of
+  -- its wait for a mutex
   pub ready : (i : ℕ) → i < a.settings.tasks → is_ready i a.orders ≡ is_ready i b.orders
   pub left : (i : ℕ) → i < a.settings.tasks → ticks_left i a.orders ≡ ticks_left i b.orders
-  pub waits : (i : ℕ) → i < a.settings.tasks → wait_of i a ≡ wait_of i b
   pub deadlines :
       (i : ℕ) → i < a.settings.tasks → deadline_left i a.orders ≡ deadline_left i b.orders
-  -- the order of each ready list, of the tasks with one number of ticks left, and of the waiters of
-  -- one waiting priority
+  -- the same tasks wait for mutexes, with the same waiting priorities, in the same order
+  pub waiters : a.orders.waiters ≡ b.orders.waiters
+  -- the order of each ready list, and of the tasks with one number of ticks left
   pub ready_order : SameOrder InOneReadyList a b
   pub delay_order : SameOrder AreDelayedTogether a b
-  pub queue_order : SameOrder InOneWaitQueue a b

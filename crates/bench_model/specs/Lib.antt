@@ -9,7 +9,6 @@ pub mod Holds
 pub mod Lists
 pub mod Looks
 pub mod Meeting
-pub mod MutexParts
 pub mod Mutexes
 pub mod Notes
 pub mod Notifying
@@ -26,4 +25,6 @@ pub mod Steps
 pub mod Table
 pub mod Tallied
 pub mod Tally
+pub mod Turns
 pub mod Until
+pub mod Waiters

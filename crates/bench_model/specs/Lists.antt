@@ -1,8 +1,8 @@
 -- What can be seen of a kernel: its orders as lists, the tick count as 32 bits, and how long each
 -- task still waits.
 use Rattle.bench_types.specs.declared.reply.Reply.{Reply}
-use Rattle.std.specs.Prelude.{ℕ, ◌+◌, ◌-◌, ◌%◌, ◌^◌, List, map, filter, find, Bool, not, ◌==◌, nat_le, Option, None, option_map, unwrap_or, is_some, ◌&&◌, ◌||◌}
-use Rattle.std.specs.Prelude.{nat_lt, if◌then◌else◌, slice_index_or, slice_set}
+use Rattle.std.specs.Prelude.{ℕ, ◌+◌, ◌-◌, ◌%◌, ◌^◌, List, map, filter, find, Bool, not, ◌==◌, nat_le, Option, None, option_map, unwrap_or, is_some}
+use Rattle.std.specs.Prelude.{if◌then◌else◌, slice_index_or, slice_set}
 use Rattle.std.specs.Option.{option_map_or}
 use Rattle.bench_types.specs.declared.kernel_data.Delayed.{Delayed}
 use Rattle.bench_types.specs.declared.kernel_data.MutexWait.{MutexWait}
@@ -10,7 +10,8 @@ use Rattle.bench_types.specs.declared.kernel_data.Waiter.{Waiter}
 use Rattle.bench_model.specs.Control.{Control, task_at, may_select}
 use Rattle.bench_model.specs.State.{State, QueueOps}
 use Rattle.list_orders.specs.Search.{by_stamp, placed, ranked, without, has}
-use Rattle.bench_model.specs.Table.{Stamps, Table, row_at, stamp_of, tasks_of, stands_ready, wake_in, wait_in, waiter_of}
+use Rattle.bench_model.specs.Table.{Stamps, Table, row_at, stamp_of, tasks_of, stands_ready, wake_in}
+use Rattle.bench_model.specs.Waiters.{first_of, with_wait, without_waiter}
 
 pub record Lists : Type 0 where
   -- the ready tasks, running ones too: the greatest priority in use first, each priority in the
@@ -38,16 +39,6 @@ outranks control i j = nat_le (task_at control j).in_use (task_at control i).in_
 -- a waiting task stays in front of another that waits as long or longer
 abbrev pub wakes_first : Delayed → Delayed → Bool
 wakes_first a b = nat_le a.left b.left
-
--- a waiter stays in front of another of a greater mutex, or of its own mutex and no greater waiting
--- priority
-abbrev pub waits_first : Waiter → Waiter → Bool
-waits_first a b =
-    nat_lt a.wait.mutex b.wait.mutex
-    || (a.wait.mutex == b.wait.mutex && nat_le b.wait.priority a.wait.priority)
-
-abbrev pub without_waiter : ℕ → List Waiter → List Waiter
-without_waiter task waiters = filter (λ waiter. not (waiter.task == task)) waiters
 
 -- a task that begins to wait stands after those that wait as long or shorter
 abbrev pub with_delay : ℕ → ℕ → List Delayed → List Delayed
@@ -87,9 +78,7 @@ unfoldable pub delay : ℕ → Option ℕ → Option MutexWait → Lists → Lis
 delay task ticks wait lists = record lists {
   ready = without task lists.ready;
   delayed = option_map_or (λ left. with_delay task left lists.delayed) ticks lists.delayed;
-  waiters = option_map_or
-      (λ wait. placed waits_first (record { task = task; wait = wait }) lists.waiters) wait
-      lists.waiters;
+  waiters = with_wait task wait lists.waiters;
   deadlines = slice_set lists.deadlines task (if is_some wait then ticks else None);
 }
 
@@ -107,10 +96,6 @@ advance lists = record lists {
 
 abbrev pub due : Lists → List ℕ
 due lists = due_tasks lists.delayed
-
--- the first of waiters that waits for the mutex
-abbrev pub first_of : ℕ → List Waiter → Option Waiter
-first_of mutex waiters = find (λ waiter. waiter.wait.mutex == mutex) waiters
 
 unfoldable pub first_waiter : ℕ → Lists → Option Waiter
 first_waiter mutex lists = first_of mutex lists.waiters
@@ -151,9 +136,7 @@ lists_of control stamps =
       delayed = ranked wakes_first
           (map (delayed_of stamps)
           (in_order (λ task. is_some (wake_in (row_at stamps task).standing))));
-      waiters = ranked waits_first
-          (map (waiter_of stamps)
-          (in_order (λ task. is_some (wait_in (row_at stamps task).standing))));
+      waiters = stamps.waiters;
       deadlines = map (option_map (λ deadline. deadline - stamps.tick)) stamps.deadlines;
     }
 

@@ -5,7 +5,7 @@ use Rattle.bench_types.specs.declared.step.Call.{Call as KernelCall}
 use Rattle.bench_types.specs.declared.step.Call.TheVariants.{DelayUntil}
 use Rattle.bench_types.specs.declared.step.Step.{Step}
 use Rattle.bench_types.specs.declared.step.Step.TheVariants.{Call}
-use Rattle.bench_model.specs.Lists.{Lists, View, view_of}
+use Rattle.bench_model.specs.Lists.{View, view_of}
 use Rattle.bench_model.specs.SameTest.{are_same_views, is_same}
 use Rattle.bench_model.specs.Table.{Table}
 

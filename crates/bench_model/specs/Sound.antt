@@ -1,5 +1,6 @@
 -- What the table of every kernel keeps: that it is sound.
 use Rattle.std.specs.Prelude.{◌≡◌, ℕ, suc, ◌+◌, ◌*◌, ◌<◌, ◌≤◌, ◌^◌, List, length, Bool, true, false, Option, Some, None, IfSome}
+use Rattle.std.specs.List.{AllByRecursion}
 use Rattle.std.specs.Option.{ForSome}
 use Rattle.bench_types.specs.declared.kernel_data.Hold.{Hold}
 use Rattle.bench_types.specs.declared.kernel_data.TaskControl.{TaskControl}
@@ -9,6 +10,7 @@ use Rattle.bench_types.specs.declared.step.Step.TheVariants.{Tick, Switch, Inter
 use Rattle.bench_types.specs.declared.step.Step.TheVariants as steps
 use Rattle.bench_types.specs.declared.kernel_data.MutexWait.{MutexWait}
 use Rattle.bench_types.specs.declared.kernel_data.Settings.{Settings}
+use Rattle.bench_types.specs.declared.kernel_data.Waiter.{Waiter}
 use Rattle.bench_types.specs.declared.step.Unfinished.{Unfinished}
 use Rattle.bench_types.specs.declared.step.Unfinished.TheVariants.{Take}
 use Rattle.bench_types.specs.Limits.{max_depth}
@@ -16,7 +18,8 @@ use Rattle.bench_types.specs.Step.{IsCheckedUnfinished}
 use Rattle.bench_model.specs.Control.{Control, current, is_due, task_at}
 use Rattle.bench_model.specs.Notes.{note_at}
 use Rattle.bench_model.specs.State.{call_at, holder_at}
-use Rattle.bench_model.specs.Table.{Stamps, Table, row_at, stamp_of, wake_in, wait_in, deadline_at, is_ready}
+use Rattle.bench_model.specs.Turns.{AreInTurn}
+use Rattle.bench_model.specs.Table.{Stamps, Table, row_at, stamp_of, wake_in, deadline_at, is_ready}
 
 -- there is a row, a control block, a deadline or none and an unfinished call or none for each task,
 -- some notifications for each as well, a holder or none for each mutex, and an idle task for each
@@ -82,18 +85,24 @@ HasWords notes = (i : ℕ) → i < length notes → (note_at notes i).value < 2 
 abbrev pub IsMutexWait : Settings → MutexWait → Type 0
 IsMutexWait settings wait = (wait.mutex < settings.mutexes) × (wait.priority < settings.priorities)
 
+-- a waiter is a blocked task
+abbrev pub IsWaiter : Settings → Stamps → Waiter → Type 0
+IsWaiter settings stamps waiter =
+    (waiter.task < length stamps.rows) × (is_ready waiter.task stamps ≡ false)
+    × IsMutexWait settings waiter.wait
+
 abbrev pub takes_mutex : Option Unfinished → Bool
 takes_mutex (Some (Take mutex mark)) = true
 takes_mutex unfinished = false
 
--- what is kept of mutexes: tasks hold them, tasks wait for them, and a deadline is that of an
--- unfinished wait, at most 4294967294 ticks ahead, since a wait for 4294967295 has none
+-- what is kept of mutexes: tasks hold them, tasks wait for them and are served in turn, and a
+-- deadline is that of an unfinished wait, at most 4294967294 ticks ahead, since a wait for
+-- 4294967295 has none
 pub record HasMutexes (settings : Settings) (calls : List (Option Unfinished))
     (holders : List (Option ℕ)) (stamps : Stamps) : Type 0 where
   pub held_by_tasks : (mutex task : ℕ) → holder_at holders mutex ≡ Some task → task < settings.tasks
-  pub waits :
-      (i : ℕ) (wait : MutexWait) → i < length stamps.rows
-      → wait_in (row_at stamps i).standing ≡ Some wait → IsMutexWait settings wait
+  pub waits : AllByRecursion (IsWaiter settings stamps) stamps.waiters
+  pub turns : AreInTurn stamps stamps.waiters
   pub deadlines :
       (i deadline : ℕ) → deadline_at stamps i ≡ Some deadline
       → (suc deadline < stamps.tick + 2 ^ 32) × (takes_mutex (call_at calls i) ≡ true)

@@ -47,6 +47,7 @@ ready_row stamp = record { stamp = stamp; standing = Ready }
 unfoldable pub first_stamps : Header → Stamps
 first_stamps header = let cores = header.config.cores in let users = length header.tasks in record {
   rows = map (λ core. ready_row (users + core)) (numbers cores) ++ map ready_row (numbers users);
+  waiters = [];
   deadlines = replicate (cores + users) None;
   tick = header.config.tick;
   next = cores + users;

@@ -1,6 +1,7 @@
--- The kernel as a flat table: one row a task, whose stamps and absolute wakes give every order.
+-- The kernel as a flat table: one row a task, whose stamps and absolute wakes give every order but
+-- that of waiters, which is kept as it is.
 use Rattle.std.specs.Prelude.{ℕ, suc, ◌+◌, ◌-◌, ◌%◌, ◌^◌, List, length, Bool, true, false, ◌&&◌, ◌||◌, ◌==◌, nat_lt, nat_le, Option, None, option_map, is_some}
-use Rattle.std.specs.Prelude.{unwrap_or, if◌then◌else◌, slice_index_or, slice_set}
+use Rattle.std.specs.Prelude.{if◌then◌else◌, slice_index_or, slice_set}
 use Rattle.std.specs.Option.{option_map_or}
 use Rattle.bench_types.specs.declared.kernel_data.MutexWait.{MutexWait}
 use Rattle.bench_types.specs.declared.kernel_data.Waiter.{Waiter}
@@ -9,11 +10,14 @@ use Rattle.bench_model.specs.declared.row.TaskState.{TaskState}
 use Rattle.bench_model.specs.declared.row.TaskState.TheVariants.{Ready, Blocked}
 use Rattle.bench_model.specs.Control.{Control, task_at, may_select}
 use Rattle.bench_model.specs.State.{State, QueueOps}
+use Rattle.bench_model.specs.Waiters.{first_of, with_wait, without_waiter}
 use Rattle.list_orders.specs.Search.{numbers, best, by_stamp}
 
 pub record Stamps : Type 0 where
   -- per task its stamp and, where it waits for some ticks, its wake
   pub rows : List TaskRow
+  -- the tasks that wait for mutexes, in the order in which they are served
+  pub waiters : List Waiter
   -- per task the tick count at which its unfinished wait for a mutex is to end, none where there is
   -- none or it has no end
   pub deadlines : List (Option ℕ)
@@ -38,16 +42,11 @@ tasks_of stamps = numbers (length stamps.rows)
 -- without end
 abbrev pub wake_in : TaskState → Option ℕ
 wake_in Ready = None
-wake_in (Blocked wake wait) = wake
-
--- what the task waits for at a mutex
-abbrev pub wait_in : TaskState → Option MutexWait
-wait_in Ready = None
-wait_in (Blocked wake wait) = wait
+wake_in (Blocked wake) = wake
 
 abbrev pub stands_ready : TaskState → Bool
 stands_ready Ready = true
-stands_ready (Blocked wake wait) = false
+stands_ready (Blocked wake) = false
 
 abbrev pub is_ready : ℕ → Stamps → Bool
 is_ready task stamps = stands_ready (row_at stamps task).standing
@@ -74,9 +73,12 @@ pick control core stamps =
     best (λ task. is_ready task stamps && may_select control core task) (goes_before control stamps)
     (tasks_of stamps)
 
--- Making a task ready: it goes to the end of its ready list (V11 tasks.c, prvAddTaskToReadyList).
+-- Making a task ready: it waits no more, and goes to the end of its ready list (V11 tasks.c,
+-- prvAddTaskToReadyList).
 unfoldable pub add_to_ready_list : ℕ → Stamps → Stamps
-add_to_ready_list task stamps = restamped task Ready stamps
+add_to_ready_list task stamps =
+    restamped task Ready
+    (record stamps { waiters = without_waiter task stamps.waiters })
 
 -- so many ticks from now
 abbrev pub ahead : Stamps → Option ℕ → Option ℕ
@@ -96,7 +98,8 @@ with_deadline task deadline stamps =
 unfoldable pub delay : ℕ → Option ℕ → Option MutexWait → Stamps → Stamps
 delay task ticks wait stamps =
     with_deadline task (if is_some wait then ahead stamps ticks else None)
-    (restamped task (Blocked (ahead stamps ticks) wait) stamps)
+    (restamped task (Blocked (ahead stamps ticks))
+    (record stamps { waiters = with_wait task wait stamps.waiters }))
 
 -- the ticks that are left to the deadline, 0 where it is reached
 unfoldable pub deadline_left : ℕ → Stamps → Option ℕ
@@ -107,32 +110,9 @@ deadline_left task stamps =
 unfoldable pub forget_deadline : ℕ → Stamps → Stamps
 forget_deadline task stamps = with_deadline task None stamps
 
-abbrev pub waits_at : ℕ → TaskState → Bool
-waits_at mutex standing = option_map_or (λ wait. wait.mutex == mutex) (wait_in standing) false
-
--- the task with what it waits for
-abbrev pub waiter_of : Stamps → ℕ → Waiter
-waiter_of stamps task =
-    record {
-      task = task;
-      wait = unwrap_or (wait_in (row_at stamps task).standing) (record { mutex = 0; priority = 0 });
-    }
-
--- a waiter of a higher waiting priority goes first, and of one priority the one that began to wait
--- before the other
-abbrev pub waits_before : Stamps → ℕ → ℕ → Bool
-waits_before stamps i j =
-    let a = (waiter_of stamps i).wait.priority in
-    let b = (waiter_of stamps j).wait.priority in
-    nat_lt b a || (a == b && nat_le (stamp_of stamps i) (stamp_of stamps j))
-
--- The first waiter of a mutex: of all tasks that wait for it, the one that goes before the others
--- (V11 queue.c, xTasksWaitingToReceive).
+-- the first waiter of a mutex
 unfoldable pub first_waiter : ℕ → Stamps → Option Waiter
-first_waiter mutex stamps =
-    option_map (waiter_of stamps)
-    (best (λ task. waits_at mutex (row_at stamps task).standing) (waits_before stamps)
-    (tasks_of stamps))
+first_waiter mutex stamps = first_of mutex stamps.waiters
 
 abbrev pub tick_count : Stamps → ℕ
 tick_count stamps = stamps.tick % 2 ^ 32

@@ -1,16 +1,11 @@
 //! A task's row in the table of the rules.
-use bench_types::MutexWait;
-
 /// Whether a task is ready or blocked.
 #[derive(Clone, Copy, Debug, PartialEq, Eq)]
 pub enum TaskState {
     Ready,
     /// Blocked until the tick count of the table is `wake`, in ticks; without end where there is
-    /// none. `wait` is what the task waits for at a mutex, none where it waits at none.
-    Blocked {
-        wake: Option<u128>,
-        wait: Option<MutexWait>,
-    },
+    /// none.
+    Blocked { wake: Option<u128> },
 }
 
 /// What the table keeps of a task's places in the kernel's lists.

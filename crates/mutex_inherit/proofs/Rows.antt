@@ -17,8 +17,8 @@ use Rattle.list_orders.proofs.Ranks.{All-placed, filter-ranked}
 use Rattle.list_orders.proofs.Placements.{ranked-placed}
 use Rattle.index_lists.specs.Listed.{Listed, ListsView, items_of, has_item, without_item, list_of, key_of, lowest_first, EachInOneList}
 use Rattle.index_lists.proofs.Places.{lowest_first-IsRank}
-use Rattle.bench_model.specs.Lists.{waits_first, without_waiter, first_of}
-use Rattle.bench_model.specs.MutexParts.{wait_of}
+use Rattle.bench_model.specs.Waiters.{waits_first, without_waiter, first_of}
+use Rattle.bench_model.specs.Waiters.{wait_of}
 use Rattle.mutex_inherit.specs.Parts.{waiter_at, waiters_from, tasks_for}
 use Rattle.mutex_inherit.specs.Shape.{AreKeys, AreWaiters}
 

@@ -11,8 +11,8 @@ use Rattle.bench_types.specs.declared.kernel_data.Waiter.{Waiter}
 use Rattle.list_orders.specs.Search.{placed}
 use Rattle.index_lists.specs.Listed.{Listed, ListsView, empty_lists, with_list, items_of, list_of, key_of, without_item, lowest_first, first_of as first_item}
 use Rattle.index_lists.specs.Listed.{EachInOneList}
-use Rattle.bench_model.specs.Lists.{without_waiter, first_of}
-use Rattle.bench_model.specs.MutexParts.{with_waiter, wait_of}
+use Rattle.bench_model.specs.Waiters.{without_waiter, first_of}
+use Rattle.bench_model.specs.Waiters.{with_waiter, wait_of}
 use Rattle.mutex_inherit.specs.Parts.{MutexPart, waiter_at, waiters_from, tasks_for, seen_mutexes, free_mutexes}
 use Rattle.mutex_inherit.specs.Shape.{AreKeys, AreWaiters, IsMutexShape}
 use Rattle.mutex_inherit.proofs.Rows.{row_at, no_waiters, waiters_none, of_list, list_tasks, first_waiting, waiters_without, waiters_with, waits_in, same_row}

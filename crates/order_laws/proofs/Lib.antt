@@ -9,6 +9,7 @@ pub mod Restamps
 pub mod SeenMoves
 pub mod SeenSteps
 pub mod Selects
+pub mod Served
 pub mod Sizes
 pub mod SoundMutexes
 pub mod SoundSteps

@@ -1,32 +1,29 @@
 -- What the lists of a table show of one task.
-use Rattle.std.proofs.Common.{◌≡◌, ℕ, ◌-◌, ◌<◌, Bool, cond, eqb, List, length, Option, Some, None, refl, ap, ◌∙◌, arith}
+use Rattle.std.proofs.Common.{◌≡◌, ℕ, ◌-◌, ◌<◌, Bool, cond, length, Option, Some, None, refl, ap, ◌∙◌, arith}
 use Rattle.std.specs.Prelude.{is_some, option_map, unwrap_or}
-use Rattle.std.specs.List.{find}
 use Rattle.bench_types.specs.declared.kernel_data.Delayed.{Delayed}
-use Rattle.bench_types.specs.declared.kernel_data.MutexWait.{MutexWait}
 use Rattle.bench_types.specs.declared.kernel_data.TaskControl.{TaskControl}
 use Rattle.bench_types.specs.declared.kernel_data.TaskLook.{TaskLook}
-use Rattle.bench_types.specs.declared.kernel_data.Waiter.{Waiter}
 use Rattle.bench_types.specs.declared.note.Notification.{Notification}
 use Rattle.bench_model.specs.declared.row.TaskState.{TaskState}
 use Rattle.bench_model.specs.declared.row.TaskState.TheVariants.{Ready, Blocked}
 use Rattle.bench_model.specs.Control.{Control, task_at}
 use Rattle.bench_model.specs.Mutexes.{held_by}
 use Rattle.bench_model.specs.State.{call_at}
-use Rattle.bench_model.specs.Table.{Stamps, Table, row_at, wake_in, wait_in}
-use Rattle.bench_model.specs.Lists.{lists_of, wakes_first, waits_first, view_of}
+use Rattle.bench_model.specs.Table.{Stamps, Table, row_at, wake_in}
+use Rattle.bench_model.specs.Lists.{lists_of, wakes_first, view_of}
 use Rattle.bench_model.specs.Looks.{ticks_left, note_look, task_look, left_in, look_in}
 use Rattle.bench_model.specs.Sound.{IsConsistent}
 use Rattle.order_laws.proofs.Entries.{entry_found}
 use Rattle.order_laws.proofs.Restamps.{IsGiven, waits}
-use Rattle.order_laws.proofs.SeenMoves.{delayed_from, waiter_from, queues, is_ready_seen}
+use Rattle.order_laws.proofs.SeenMoves.{delayed_from, is_ready_seen}
 
 left_at : (tick task : ℕ) (standing : TaskState) → option_map (λ (entry : Delayed). entry.left)
     (cond (waits standing) (Some (record { task = task; left = unwrap_or (wake_in standing) 0 - tick })) None) ≡ option_map (λ wake. wake - tick)
     (wake_in standing)
 left_at tick task Ready = refl
-left_at tick task (Blocked None wait) = refl
-left_at tick task (Blocked (Some wake) wait) = refl
+left_at tick task (Blocked None) = refl
+left_at tick task (Blocked (Some wake)) = refl
 
 -- the ticks left
 pub left_seen : (control : Control) (stamps : Stamps) (task : ℕ) → IsGiven stamps → task < length stamps.rows → left_in task (lists_of control stamps).delayed ≡
@@ -36,23 +33,6 @@ left_seen control stamps task given below =
     ap (option_map (λ (entry : Delayed). entry.left)) (entry_found wakes_first waits (delayed_from stamps.tick) (λ e. e.task) (λ i s. refl) stamps task given
     below)
     ∙ left_at stamps.tick task (row_at stamps task).standing
-
--- what it waits for at a mutex
-abbrev pub wait_among : ℕ → List Waiter → Option MutexWait
-wait_among task waiters = option_map (λ waiter. waiter.wait) (find (λ waiter. eqb waiter.task task) waiters)
-
-wait_at : (task : ℕ) (standing : TaskState) → option_map (λ (waiter : Waiter). waiter.wait) (cond (queues standing) (Some (waiter_from task standing)) None) ≡
-    wait_in standing
-wait_at task Ready = refl
-wait_at task (Blocked wake None) = refl
-wait_at task (Blocked wake (Some wait)) = refl
-
-pub wait_seen : (control : Control) (stamps : Stamps) (task : ℕ) → IsGiven stamps → task < length stamps.rows → wait_among task
-    (lists_of control stamps).waiters ≡ wait_in (row_at stamps task).standing
-unfolding lists_of
-wait_seen control stamps task given below =
-    ap (option_map (λ (waiter : Waiter). waiter.wait)) (entry_found waits_first queues waiter_from (λ e. e.task) (λ i s. refl) stamps task given below)
-    ∙ wait_at task (row_at stamps task).standing
 
 abbrev look_from : TaskControl → Bool → Notification → ℕ → Bool → Option ℕ → TaskLook
 look_from block in_call note held ready left = record {

@@ -1,7 +1,7 @@
 -- Each move of a table, seen as lists, is the move of what was seen of the table before.
-use Rattle.bench_model.proofs.Ranks.{priority_of, outranks-IsRank, wakes_first-IsRank, waits_first-IsRank}
+use Rattle.bench_model.proofs.Ranks.{priority_of, outranks-IsRank, wakes_first-IsRank}
 use Rattle.std.proofs.Common.{◌≡◌, ℕ, suc, ◌+◌, ◌-◌, ◌<◌, ◌≤◌, ◌%◌, ◌^◌, true, false, not, eqb, ◌&&◌, List, [], ◌∷◌, length, map, Option, Some, None, refl, sym}
-use Rattle.std.proofs.Common.{ap, ap₂, ◌∙◌, arith, Bool, cond}
+use Rattle.std.proofs.Common.{ap, ap₂, ◌∙◌, arith, cond}
 use Rattle.std.proofs.Common.{add-one}
 use Rattle.std.proofs.Math.Nat.{mod-add-mod}
 use Rattle.std.proofs.Math.ListN.{get_or-map}
@@ -17,10 +17,10 @@ use Rattle.bench_model.specs.declared.row.TaskState.{TaskState}
 use Rattle.bench_model.specs.declared.row.TaskState.TheVariants.{Ready, Blocked}
 use Rattle.list_orders.specs.Search.{numbers, by_stamp, placed, ranked, without, has}
 use Rattle.bench_model.specs.Control.{Control, may_select}
-use Rattle.bench_model.specs.Table.{Stamps, row_at, stamp_of, tasks_of, is_ready, stands_ready, wake_in, wait_in, ahead, wakes_at, pick, add_to_ready_list}
+use Rattle.bench_model.specs.Table.{Stamps, row_at, stamp_of, tasks_of, is_ready, stands_ready, wake_in, ahead, wakes_at, pick, add_to_ready_list}
 use Rattle.bench_model.specs.Table.{delay, deadline_left, forget_deadline, advance, due}
 use Rattle.bench_model.specs.Lists as seen
-use Rattle.bench_model.specs.Lists.{Lists, lists_of, delayed_of, outranks, wakes_first, waits_first}
+use Rattle.bench_model.specs.Lists.{Lists, lists_of, delayed_of, outranks, wakes_first}
 use Rattle.bench_model.specs.Sound.{IsStamped}
 use Rattle.list_orders.proofs.Filters.{filter-map, find_filter, All-filter_passes, All-weaker, All-both, All-map}
 use Rattle.list_orders.proofs.Ranks.{ranked-push, filter-ranked, list_any-ranked, All-ranked, ranked_same, map-ranked}
@@ -64,15 +64,9 @@ pub same_seen : (ready other : List ℕ) (tick later : ℕ) (delayed left : List
     ones ends
 same_seen ready other tick later delayed left waiters ones deadlines ends a b c d e = cc
 
--- the entries of tasks that wait for some ticks, and of those that wait for mutexes
+-- the entries of tasks that wait for some ticks
 abbrev pub delayed_from : ℕ → ℕ → TaskState → Delayed
 delayed_from tick task standing = record { task = task; left = unwrap_or (wake_in standing) 0 - tick }
-
-abbrev pub waiter_from : ℕ → TaskState → Waiter
-waiter_from task standing = record { task = task; wait = unwrap_or (wait_in standing) (record { mutex = 0; priority = 0 }) }
-
-abbrev pub queues : TaskState → Bool
-queues standing = is_some (wait_in standing)
 
 abbrev pub deadline_from : ℕ → Option ℕ → Option ℕ
 deadline_from tick deadline = option_map (λ deadline. deadline - tick) deadline
@@ -92,31 +86,25 @@ add_to_ready_seen control stamps task given below =
     ap (placed (outranks control) task) (ready_without control task ready))
     refl
     (entries_over wakes_first waits (delayed_from stamps.tick) stamps task Ready below (λ e. e.task) (λ i s. refl) wakes_first-IsRank given refl)
-    (entries_over waits_first queues waiter_from stamps task Ready below (λ e. e.task) (λ i s. refl) waits_first-IsRank given refl)
+    refl
     refl
 
-ready_waits_not : (standing : TaskState) → stands_ready standing ≡ true → (waits standing ≡ false) × (queues standing ≡ false)
-ready_waits_not Ready ready = (refl, refl)
-ready_waits_not (Blocked wake wait) ready = absurd (cc)
+ready_waits_not : (standing : TaskState) → stands_ready standing ≡ true → waits standing ≡ false
+ready_waits_not Ready ready = refl
+ready_waits_not (Blocked wake) ready = absurd (cc)
 
 -- where a task stands that waits from now on
-abbrev initial : Stamps → Option ℕ → Option MutexWait → TaskState
-initial stamps ticks wait = Blocked (ahead stamps ticks) wait
+abbrev initial : Stamps → Option ℕ → TaskState
+initial stamps ticks = Blocked (ahead stamps ticks)
 
 -- one more entry, where there is what it is of
-delayed_initial : (stamps : Stamps) (task : ℕ) (ticks : Option ℕ) (wait : Option MutexWait) (delayed : List Delayed) → cond (waits (initial stamps ticks wait))
-    (placed wakes_first (delayed_from stamps.tick task (initial stamps ticks wait)) delayed) delayed ≡ option_map_or
+delayed_initial : (stamps : Stamps) (task : ℕ) (ticks : Option ℕ) (delayed : List Delayed) → cond (waits (initial stamps ticks))
+    (placed wakes_first (delayed_from stamps.tick task (initial stamps ticks)) delayed) delayed ≡ option_map_or
     (λ left. placed wakes_first (record { task = task; left = left }) delayed) ticks delayed
-delayed_initial stamps task None wait delayed = refl
-delayed_initial stamps task (Some ticks) wait delayed =
+delayed_initial stamps task None delayed = refl
+delayed_initial stamps task (Some ticks) delayed =
     let now : (stamps.tick + ticks) - stamps.tick ≡ ticks = omega arith in
     ap (λ left. placed wakes_first (record { task = task; left = left }) delayed) now
-
-waiter_initial : (stamps : Stamps) (task : ℕ) (ticks : Option ℕ) (wait : Option MutexWait) (waiters : List Waiter) → cond (queues (initial stamps ticks wait))
-    (placed waits_first (waiter_from task (initial stamps ticks wait)) waiters) waiters ≡ option_map_or
-    (λ wait. placed waits_first (record { task = task; wait = wait }) waiters) wait waiters
-waiter_initial stamps task ticks None waiters = refl
-waiter_initial stamps task ticks (Some wait) waiters = refl
 
 deadline_initial : (stamps : Stamps) (ticks : Option ℕ) (wait : Option MutexWait) → deadline_from stamps.tick (cond (is_some wait) (ahead stamps ticks) None) ≡
     cond (is_some wait) ticks None
@@ -132,16 +120,15 @@ pub delay_seen : (control : Control) (stamps : Stamps) (task : ℕ) (ticks : Opt
 unfolding lists_of delay seen.delay
 delay_seen control stamps task ticks wait given below ready_now =
     let ready = standing_so stands_ready stamps in
-    let standing = initial stamps ticks wait in
+    let standing = initial stamps ticks in
     let none = ready_waits_not (row_at stamps task).standing ready_now in
     same_seen _ _ _ _ _ _ _ _ _ _
     (ap (ranked (outranks control)) (standing_so_moved stamps task standing below stands_ready given ∙ append-nil (without task ready)) ∙ ready_without control
     task ready)
     refl
-    (entries_initial wakes_first waits (delayed_from stamps.tick) stamps task standing below given none.0 ∙ delayed_initial stamps task ticks wait
+    (entries_initial wakes_first waits (delayed_from stamps.tick) stamps task standing below given none ∙ delayed_initial stamps task ticks
     (entries wakes_first waits (delayed_from stamps.tick) stamps))
-    (entries_initial waits_first queues waiter_from stamps task standing below given none.1 ∙ waiter_initial stamps task ticks wait
-    (entries waits_first queues waiter_from stamps))
+    refl
     (map-set (deadline_from stamps.tick) stamps.deadlines task _ ∙ ap (slice_set (map (deadline_from stamps.tick) stamps.deadlines) task)
     (deadline_initial stamps ticks wait))
 

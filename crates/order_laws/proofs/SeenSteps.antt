@@ -57,7 +57,9 @@ cond_stamped false x y one other = other
 
 pub add_to_ready_once : (stamps : Stamps) (task : ℕ) → IsStamped stamps → task < length stamps.rows → IsStamped (add_to_ready_list task stamps)
 unfolding add_to_ready_list
-add_to_ready_once stamps task stamped below = moved_once stamps task Ready below stamped
+add_to_ready_once stamps task stamped below =
+    let moved = moved_once stamps task Ready below stamped in
+    record { given = moved.given; once = moved.once }
 
 pub queued_once : (stamps : Stamps) (task : ℕ) → IsStamped stamps → task < length stamps.rows → IsStamped (queued stamps task)
 queued_once stamps task stamped below = cond_stamped (is_ready task stamps) (add_to_ready_list task stamps) stamps (add_to_ready_once stamps task stamped below)

@@ -1,18 +1,26 @@
 -- What is kept of mutexes where tasks are made ready, where a tick passes, and where a task waits, ends its wait, takes or gives.
-use Rattle.std.proofs.Common.{◌≡◌, ◌≢◌, ℕ, suc, ◌+◌, ◌<◌, ◌^◌, true, cond, List, length, Option, Some, None, refl, sym, ap, subst, ◌∙◌, arith, inl, inr}
+use Rattle.std.proofs.Common.{◌≡◌, ◌≢◌, ℕ, suc, ◌+◌, ◌<◌, ◌^◌, true, not, eqb, cond, List, length, Option, Some, None, refl, sym, ap, ◌∙◌, arith, inl, inr}
 use Rattle.std.specs.Prelude.{slice_set, is_some, option_map, IfSome}
+use Rattle.std.specs.List.{AllByRecursion}
 use Rattle.std.proofs.lemmas.Bool.{cases_eq}
+use Rattle.std.proofs.lemmas.Bool.Decides.{nat_tests}
 use Rattle.std.proofs.lemmas.List.{get_or-set_same, get_or-set_other}
 use Rattle.bench_types.specs.declared.kernel_data.MutexWait.{MutexWait}
 use Rattle.bench_types.specs.declared.kernel_data.Settings.{Settings}
+use Rattle.bench_types.specs.declared.kernel_data.Waiter.{Waiter}
 use Rattle.bench_types.specs.declared.step.Unfinished.{Unfinished}
 use Rattle.bench_model.specs.declared.row.TaskState.{TaskState}
 use Rattle.bench_model.specs.declared.row.TaskState.TheVariants.{Ready, Blocked}
 use Rattle.bench_model.specs.declared.row.TaskRow.{TaskRow}
 use Rattle.bench_model.specs.State.{call_at, holder_at}
-use Rattle.bench_model.specs.Table.{Stamps, row_at, wait_in, ahead, deadline_at, restamped, add_to_ready_list, delay, forget_deadline, advance}
-use Rattle.bench_model.specs.Sound.{IsMutexWait, IsMutexTime, HasMutexes, takes_mutex}
-use Rattle.order_laws.proofs.Restamps.{moved_length, row_same, row_other}
+use Rattle.bench_model.specs.Table.{Stamps, row_at, ahead, deadline_at, is_ready, stands_ready, stamp_of, restamped, add_to_ready_list, delay, forget_deadline, advance}
+use Rattle.bench_model.specs.Waiters.{waits_first, with_wait, without_waiter}
+use Rattle.bench_model.specs.Sound.{IsMutexWait, IsMutexTime, IsWaiter, HasMutexes, takes_mutex}
+use Rattle.list_orders.proofs.Filters.{All-both, All-filter, All-filter_passes, All-weaker}
+use Rattle.list_orders.proofs.Ranks.{All-placed}
+use Rattle.order_laws.proofs.Restamps.{IsGiven, moved_length, row_same, row_other, stamp_same, stamp_other}
+use Rattle.order_laws.proofs.Served.{turn_filter, turn_moved, turn_placed}
+use Rattle.bench_model.specs.Turns.{AreInTurn}
 
 -- a task that was set to stand so, and the others
 pub standing_same : (stamps : Stamps) (task : ℕ) (standing : TaskState) → task < length stamps.rows → (row_at (restamped task standing stamps) task).standing ≡
@@ -34,14 +42,44 @@ readied_field field none stamps task i value below has =
       | inr away ↦ (ap field (sym (standing_other stamps task Ready below i away)) ∙ has, away)
     ]
 
+-- a waiter is one too where another task stands elsewhere
+waiter_moved : (settings : Settings) (stamps : Stamps) (task : ℕ) (standing : TaskState) → task < length stamps.rows → (waiter : Waiter) → waiter.task ≢ task →
+    IsWaiter settings stamps waiter → IsWaiter settings (restamped task standing stamps) waiter
+waiter_moved settings stamps task standing below waiter away is = (
+  omega (arith, moved_length stamps task standing below, is.0),
+  ap stands_ready (standing_other stamps task standing below waiter.task away) ∙ is.1,
+  is.2,
+)
+
+-- and keeps its stamp
+others_stamped : (stamps : Stamps) (task : ℕ) → task < length stamps.rows → (waiters : List Waiter) → AllByRecursion
+    (λ (w : Waiter). stamp_of (restamped task Ready stamps) w.task ≡ stamp_of stamps w.task) (without_waiter task waiters)
+others_stamped stamps task below waiters =
+    let is_other = λ (waiter : Waiter). not (eqb waiter.task task) in
+    All-weaker (λ (waiter : Waiter). is_other waiter ≡ true) (λ (w : Waiter). stamp_of (restamped task Ready stamps) w.task ≡ stamp_of stamps w.task)
+    (λ waiter other. stamp_other stamps task Ready below waiter.task (λ same. grind (arith, nat_tests, other, same))) (without_waiter task waiters)
+    (All-filter_passes is_other waiters)
+
+-- those of other tasks are so where the task is made ready
+readied_waiters : (settings : Settings) (stamps : Stamps) (task : ℕ) → task < length stamps.rows → AllByRecursion (IsWaiter settings stamps) stamps.waiters →
+    AllByRecursion (IsWaiter settings (restamped task Ready stamps)) (without_waiter task stamps.waiters)
+readied_waiters settings stamps task below all =
+    let is_other = λ (waiter : Waiter). not (eqb waiter.task task) in
+    let others = without_waiter task stamps.waiters in
+    All-weaker (λ (waiter : Waiter). (is_other waiter ≡ true) × IsWaiter settings stamps waiter) (IsWaiter settings (restamped task Ready stamps))
+    (λ waiter both. waiter_moved settings stamps task Ready below waiter (λ same. grind (arith, nat_tests, both.0, same)) both.1) others
+    (All-both (λ (waiter : Waiter). is_other waiter ≡ true) (IsWaiter settings stamps) others (All-filter_passes is_other stamps.waiters)
+    (All-filter (IsWaiter settings stamps) is_other stamps.waiters all))
+
 module _ (settings : Settings) (calls : List (Option Unfinished)) (holders : List (Option ℕ)) (stamps : Stamps)
     (kept : HasMutexes settings calls holders stamps) where
   pub readied_mutexes : (task : ℕ) → task < length stamps.rows → HasMutexes settings calls holders (add_to_ready_list task stamps)
   unfolding add_to_ready_list
   readied_mutexes task below = record {
     held_by_tasks = kept.held_by_tasks;
-    waits = λ i wait low has. kept.waits i wait (omega (arith, moved_length stamps task Ready below))
-        (readied_field wait_in refl stamps task i wait below has).0;
+    waits = readied_waiters settings stamps task below kept.waits;
+    turns = turn_moved stamps (restamped task Ready stamps) (without_waiter task stamps.waiters) (others_stamped stamps task below stamps.waiters)
+        (turn_filter stamps (λ (waiter : Waiter). not (eqb waiter.task task)) stamps.waiters kept.turns);
     deadlines = kept.deadlines;
   }
 
@@ -50,6 +88,7 @@ module _ (settings : Settings) (calls : List (Option Unfinished)) (holders : Lis
   advanced_mutexes = record {
     held_by_tasks = kept.held_by_tasks;
     waits = kept.waits;
+    turns = kept.turns;
     deadlines = λ i deadline has. let near = kept.deadlines i deadline has in (omega (arith, near.0), near.1);
   }
 
@@ -60,6 +99,7 @@ module _ (settings : Settings) (calls : List (Option Unfinished)) (holders : Lis
   freed_mutexes task in_calls in_deadlines = record {
     held_by_tasks = kept.held_by_tasks;
     waits = kept.waits;
+    turns = kept.turns;
     deadlines = λ i deadline has. elim (cases_eq i task) [
       | inl here ↦ absurd (cc (sym (get_or-set_same stamps.deadlines task None None in_deadlines) ∙ ap (λ j. deadline_at (forget_deadline task stamps) j)
           (sym here) ∙ has))
@@ -78,12 +118,9 @@ module _ (settings : Settings) (calls : List (Option Unfinished)) (holders : Lis
       | inr away ↦ kept.held_by_tasks i task (sym (get_or-set_other holders mutex i given None away) ∙ has)
     ];
     waits = kept.waits;
+    turns = kept.turns;
     deadlines = kept.deadlines;
   }
-
-from_some : {A : Type 0} (P : A → Type 0) (found : Option A) (value : A) → IfSome found P → found ≡ Some value → P value
-from_some P None value if_some same = absurd (cc (same))
-from_some P (Some other) value if_some same = subst P (cc (same)) if_some
 
 -- the deadline of a wait that begins now
 initial_near : (tick deadline : ℕ) (ticks : Option ℕ) (wait : Option MutexWait) → (is_some wait ≡ true → IsMutexTime ticks) → cond (is_some wait)
@@ -100,17 +137,49 @@ module _ (settings : Settings) (calls : List (Option Unfinished)) (holders : Lis
   abbrev later_calls : List (Option Unfinished)
   later_calls = slice_set calls task (Some call)
 
-  pub waiting_mutexes : task < length stamps.rows → task < length calls → task < length stamps.deadlines → IfSome wait (IsMutexWait settings) →
+  abbrev standing : TaskState
+  standing = Blocked (ahead stamps ticks)
+
+  abbrev moved : Stamps
+  moved = restamped task standing stamps
+
+  -- a task that was ready is no waiter yet
+  others_wait : task < length stamps.rows → is_ready task stamps ≡ true → AllByRecursion (IsWaiter settings moved) stamps.waiters
+  others_wait below ready = All-weaker (IsWaiter settings stamps) (IsWaiter settings moved)
+      (λ waiter is. waiter_moved settings stamps task standing below waiter (λ same. cc (ap (λ i. is_ready i stamps) same, ready, is.1)) is) stamps.waiters
+      kept.waits
+
+  all_wait : (wait : Option MutexWait) → task < length stamps.rows → is_ready task stamps ≡ true → IfSome wait (IsMutexWait settings) → AllByRecursion
+      (IsWaiter settings moved) (with_wait task wait stamps.waiters)
+  all_wait None below ready there = others_wait below ready
+  all_wait (Some wait) below ready there = All-placed waits_first (IsWaiter settings moved) (record { task = task; wait = wait }) stamps.waiters
+      (omega (arith, moved_length stamps task standing below), ap stands_ready (standing_same stamps task standing below), there) (others_wait below ready)
+
+  -- the stamps of the others stay
+  others_stay : task < length stamps.rows → is_ready task stamps ≡ true → AllByRecursion (λ (w : Waiter). stamp_of moved w.task ≡ stamp_of stamps w.task)
+      stamps.waiters
+  others_stay below ready = All-weaker (IsWaiter settings stamps) (λ (w : Waiter). stamp_of moved w.task ≡ stamp_of stamps w.task)
+      (λ waiter is. stamp_other stamps task standing below waiter.task (λ same. cc (ap (λ i. is_ready i stamps) same, ready, is.1))) stamps.waiters kept.waits
+
+  in_turn : (wait : Option MutexWait) → task < length stamps.rows → IsGiven stamps → is_ready task stamps ≡ true → AreInTurn moved
+      (with_wait task wait stamps.waiters)
+  in_turn None below given ready = turn_moved stamps moved stamps.waiters (others_stay below ready) kept.turns
+  in_turn (Some wait) below given ready =
+      let waiter : Waiter = record { task = task; wait = wait } in
+      turn_placed moved waiter stamps.waiters (turn_moved stamps moved stamps.waiters (others_stay below ready) kept.turns)
+      (All-weaker (λ (w : Waiter). IsWaiter settings stamps w × (stamp_of moved w.task ≡ stamp_of stamps w.task))
+      (λ (w : Waiter). stamp_of moved w.task < stamp_of moved task)
+      (λ w both. omega (arith, both.1, stamp_same stamps task standing below, given w.task both.0.0)) stamps.waiters
+      (All-both (IsWaiter settings stamps) (λ (w : Waiter). stamp_of moved w.task ≡ stamp_of stamps w.task) stamps.waiters kept.waits (others_stay below ready)))
+
+  pub waiting_mutexes : task < length stamps.rows → IsGiven stamps → is_ready task stamps ≡ true → task < length calls → task < length stamps.deadlines → IfSome wait
+      (IsMutexWait settings) →
       (is_some wait ≡ true → (takes_mutex (Some call) ≡ true) × IsMutexTime ticks) → HasMutexes settings later_calls holders (delay task ticks wait stamps)
   unfolding delay
-  waiting_mutexes below in_calls in_deadlines there takes = record {
+  waiting_mutexes below given ready in_calls in_deadlines there takes = record {
     held_by_tasks = kept.held_by_tasks;
-    waits = λ i wanted low has. elim (cases_eq i task) [
-      | inl here ↦ from_some (IsMutexWait settings) wait wanted there (ap wait_in (sym (standing_same stamps task standing below)) ∙ ap
-          (λ j. wait_in (row_at moved j).standing) (sym here) ∙ has)
-      | inr away ↦ kept.waits i wanted (omega (arith, moved_length stamps task standing below))
-          (ap wait_in (sym (standing_other stamps task standing below i away)) ∙ has)
-    ];
+    waits = all_wait wait below ready there;
+    turns = in_turn wait below given ready;
     deadlines = λ i deadline has. elim (cases_eq i task) [
       | inl here ↦
           let near = initial_near stamps.tick deadline ticks wait (λ is. (takes is).1)
@@ -122,11 +191,5 @@ module _ (settings : Settings) (calls : List (Option Unfinished)) (holders : Lis
     ];
   }
     where
-      standing : TaskState
-      standing = Blocked (ahead stamps ticks) wait
-
-      moved : Stamps
-      moved = restamped task standing stamps
-
       ends : Option ℕ
       ends = cond (is_some wait) (ahead stamps ticks) None

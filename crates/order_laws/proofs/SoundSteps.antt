@@ -447,8 +447,8 @@ call_set settings calls task given below one all i call found = elim (cases_eq i
 ]
 
 -- where a task stands that waits from now on
-abbrev waiting_for : Stamps → Option ℕ → Option MutexWait → TaskState
-waiting_for stamps ticks wait = Blocked (ahead stamps ticks) wait
+abbrev waiting_for : Stamps → Option ℕ → TaskState
+waiting_for stamps ticks = Blocked (ahead stamps ticks)
 
 -- a wake that is there is in time
 wake_in_time : (tick wake : ℕ) (ticks : Option ℕ) → IsWait ticks → option_map (λ ticks. tick + ticks) ticks ≡ Some wake → (tick < wake) × (wake < tick + 2 ^ 32)
@@ -461,7 +461,7 @@ module _ (stamps : Stamps) (task : ℕ) (ticks : Option ℕ) (wait : Option Mute
   delayed_in_time : IsWait ticks → WakesInTime stamps → WakesInTime (delay task ticks wait stamps)
   unfolding delay
   delayed_in_time fits in_time i wake low waits =
-      let standing = waiting_for stamps ticks wait in
+      let standing = waiting_for stamps ticks in
       elim (cases_eq i task) [
         | inl here ↦ wake_in_time stamps.tick wake ticks fits (ap wake_in (sym (standing_same stamps task standing below)) ∙ ap
             (λ j. wake_in (row_at (restamped task standing stamps) j).standing) (sym here) ∙ waits)
@@ -471,7 +471,7 @@ module _ (stamps : Stamps) (task : ℕ) (ticks : Option ℕ) (wait : Option Mute
 
   delayed_length : length (delay task ticks wait stamps).rows ≡ length stamps.rows
   unfolding delay
-  delayed_length = moved_length stamps task (waiting_for stamps ticks wait) below
+  delayed_length = moved_length stamps task (waiting_for stamps ticks) below
 
   delayed_deadlines : length (delay task ticks wait stamps).deadlines ≡ length stamps.deadlines
   unfolding delay
@@ -480,14 +480,14 @@ module _ (stamps : Stamps) (task : ℕ) (ticks : Option ℕ) (wait : Option Mute
   delayed_stamped : IsStamped stamps → IsStamped (delay task ticks wait stamps)
   unfolding delay
   delayed_stamped stamped =
-      let moved = moved_once stamps task (waiting_for stamps ticks wait) below stamped in
+      let moved = moved_once stamps task (waiting_for stamps ticks) below stamped in
       record { given = moved.given; once = moved.once }
 
   delayed_placed : (control : Control) (core : ℕ) → core < length control.cores → current control core ≡ task → length control.cores ≤ task → HasCurrentTasks
       control stamps → HasCurrentTasks (ask core core control) (delay task ticks wait stamps)
   unfolding delay
   delayed_placed control core low here user place =
-      let moved = waiting_placed control core core low stamps task (waiting_for stamps ticks wait) below here user place in
+      let moved = waiting_placed control core core low stamps task (waiting_for stamps ticks) below here user place in
       record { is_task = moved.is_task; on_one_core = moved.on_one_core; blocked_is_due = moved.blocked_is_due; idle_is_ready = moved.idle_is_ready }
 
 pub blocked_sound : (core task : ℕ) (call : Unfinished) (ticks : Option ℕ) (wait : Option MutexWait) (table : Table) → IsConsistent table → IsCaller table core
@@ -512,7 +512,8 @@ blocked_sound core task call ticks wait table sound place checked user fits ther
       calls = call_set table.settings table.calls task (Some call) in_calls
           (λ other same. subst (IsCheckedUnfinished table.settings) (call_of call other same) checked) sound.calls;
       notes = sound.notes;
-      mutexes = waiting_mutexes table.settings table.calls table.holders table.orders sound.mutexes task call ticks wait place.2 in_calls
+      mutexes = waiting_mutexes table.settings table.calls table.holders table.orders sound.mutexes task call ticks wait place.2
+          sound.stamped.given place.3 in_calls
           (omega (arith, sound.sized.deadlines, low)) there takes;
     }
   where

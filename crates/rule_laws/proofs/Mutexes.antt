@@ -23,12 +23,12 @@ use Rattle.bench_model.specs.Notifying.{timeout_of, completed}
 use Rattle.bench_model.specs.Seek.{seek, wake}
 use Rattle.rule_laws.specs.SeekLaws.{sought}
 use Rattle.rule_laws.specs.SetLaws.{on_control}
-use Rattle.bench_model.specs.Sound.{IsCaller, IsConsistent, IsWait, IsMutexTime}
+use Rattle.bench_model.specs.Sound.{IsCaller, IsConsistent, IsWait, IsMutexTime, IsWaiter}
 use Rattle.bench_model.specs.State.{State, holder_at, blocked, after_return}
 use Rattle.bench_model.specs.Table.{Stamps, Table, stamp_queues, is_ready, add_to_ready_list, deadline_at, deadline_left, forget_deadline, first_waiter}
 use Rattle.rule_laws.proofs.Awaiting.{waits_on, waits_short, completed_seen, completed_sound}
 use Rattle.rule_laws.proofs.ControlFields.{in_use_seen, in_use_sound}
-use Rattle.order_laws.proofs.FirstWaiters.{first_waiter_seen, first_waiter_waits}
+use Rattle.order_laws.proofs.FirstWaiters.{first_waiter_seen, first_waiter_all}
 use Rattle.order_laws.proofs.SeenMoves.{deadline_left_seen, forget_deadline_seen}
 use Rattle.order_laws.proofs.SeenSteps.{blocked_seen}
 use Rattle.rule_laws.proofs.Seeks.{seek_seen, seek_sound, seek_more, wake_seen, wake_sound}
@@ -290,7 +290,7 @@ module _ (table : Table) (acting task priority : ℕ) (sound : IsConsistent tabl
 
 disinherit_seen : (table : Table) (task mutex : ℕ) → IsConsistent table → owed list_queues task mutex (view_of table) ≡ owed stamp_queues task mutex table
 disinherit_seen table task mutex sound = ap (λ first. disinherit_priority first (task_at table.control task).base)
-    (first_waiter_seen mutex table.orders table.control sound.stamped)
+    (first_waiter_seen mutex table.orders table.control)
 
 greater_below : (base rank bound : ℕ) → base < bound → rank < bound → cond (ltb base rank) rank base < bound
 greater_below base rank bound low high = at (ltb base rank)
@@ -309,9 +309,8 @@ disinherit_below table task mutex sound low = from (first_waiter mutex table.ord
     from : (first : Option Waiter) → first_waiter mutex table.orders ≡ first → disinherit_priority first base < table.settings.priorities
     from None none = greater_below base base table.settings.priorities (sound.blocks task low).base (sound.blocks task low).base
     from (Some waiter) some =
-        let waits = first_waiter_waits mutex table.orders waiter some in
-        greater_below base waiter.wait.priority table.settings.priorities (sound.blocks task low).base
-        (sound.mutexes.waits waiter.task waiter.wait waits.0 waits.1).1
+        let waits = first_waiter_all (IsWaiter table.settings table.orders) mutex table.orders waiter sound.mutexes.waits some in
+        greater_below base waiter.wait.priority table.settings.priorities (sound.blocks task low).base waits.2.1
 
 module _ (table : Table) (acting task mutex : ℕ) (mark : Bool) (holder : ℕ) (sound : IsConsistent table) (low : holder < table.settings.tasks) where
   abbrev gives_back : Bool
@@ -429,13 +428,13 @@ module _ (table : Table) (acting mutex : ℕ) (sound : IsConsistent table) where
   unfolding first_woken
   woken_seen = from (first_waiter mutex table.orders) refl ∙ ap (λ first. option_map_or
       (λ (waiter : Waiter). wake list_queues acting waiter.task (view_of table)) first (view_of table))
-      (sym (first_waiter_seen mutex table.orders table.control sound.stamped))
+      (sym (first_waiter_seen mutex table.orders table.control))
     where
       from : (first : Option Waiter) → first_waiter mutex table.orders ≡ first → view_of
           (option_map_or (λ (waiter : Waiter). wake stamp_queues acting waiter.task table) first table) ≡ option_map_or
           (λ (waiter : Waiter). wake list_queues acting waiter.task (view_of table)) first (view_of table)
       from None none = refl
-      from (Some waiter) some = wake_seen table acting waiter.task sound.stamped.given (first_waiter_waits mutex table.orders waiter some).0
+      from (Some waiter) some = wake_seen table acting waiter.task sound.stamped.given (first_waiter_all (IsWaiter table.settings table.orders) mutex table.orders waiter sound.mutexes.waits some).0
 
   pub woken_sound : IsConsistent (first_woken stamp_queues acting mutex table)
   unfolding first_woken
@@ -445,7 +444,7 @@ module _ (table : Table) (acting mutex : ℕ) (sound : IsConsistent table) where
           (option_map_or (λ (waiter : Waiter). wake stamp_queues acting waiter.task table) first table)
       from None none = sound
       from (Some waiter) some = wake_sound table acting waiter.task sound
-          (omega (arith, sound.sized.rows, (first_waiter_waits mutex table.orders waiter some).0))
+          (omega (arith, sound.sized.rows, (first_waiter_all (IsWaiter table.settings table.orders) mutex table.orders waiter sound.mutexes.waits some).0))
 
 module _ (table : Table) (core task : ℕ) (sound : IsConsistent table) (low : task < table.settings.tasks) where
   pub disinherited_seen : view_of (disinherited stamp_queues core task table) ≡ disinherited list_queues core task (view_of table)
@@ -470,6 +469,9 @@ module _ (table : Table) (core task mutex : ℕ) (sound : IsConsistent table) (l
   freed_sound : IsConsistent freed
   freed_sound = given_sound table mutex None sound below (λ other same. absurd (cc (same)))
 
+  pub lower_sound : IsConsistent (disinherited stamp_queues core task freed)
+  lower_sound = disinherited_sound freed core task freed_sound low
+
   pub give_seen : seen_of (mutex_give stamp_queues core task mutex table) ≡ mutex_give list_queues core task mutex (view_of table)
   unfolding mutex_give
   give_seen = from (holder_at table.holders mutex)
@@ -477,7 +479,7 @@ module _ (table : Table) (core task mutex : ℕ) (sound : IsConsistent table) (l
       from : (held : Option ℕ) → seen_of (give_from stamp_queues held core task mutex table) ≡ give_from list_queues held core task mutex (view_of table)
       from None = refl
       from (Some holder) = ap (outcome (Flag true))
-          (woken_seen (disinherited stamp_queues core task freed) core mutex (disinherited_sound freed core task freed_sound low)
+          (woken_seen (disinherited stamp_queues core task freed) core mutex lower_sound
           ∙ ap (first_woken list_queues core mutex) (disinherited_seen freed core task freed_sound low))
 
   pub give_sound : IsConsistent (mutex_give stamp_queues core task mutex table).1
@@ -486,4 +488,4 @@ module _ (table : Table) (core task mutex : ℕ) (sound : IsConsistent table) (l
     where
       from : (held : Option ℕ) → IsConsistent (give_from stamp_queues held core task mutex table).1
       from None = sound
-      from (Some holder) = woken_sound (disinherited stamp_queues core task freed) core mutex (disinherited_sound freed core task freed_sound low)
+      from (Some holder) = woken_sound (disinherited stamp_queues core task freed) core mutex lower_sound

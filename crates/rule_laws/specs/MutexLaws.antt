@@ -1,5 +1,6 @@
 -- The laws of mutexes. Each is the contract of a public function.
-use Rattle.std.specs.Prelude.{◌≡◌, ℕ, ◌<◌, ◌≤◌, ◌^◌}
+use Rattle.std.specs.Prelude.{◌≡◌, ℕ, ◌<◌, ◌≤◌, ◌^◌, Some}
+use Rattle.bench_types.specs.declared.kernel_data.Waiter.{Waiter}
 use Rattle.bench_types.specs.declared.step.Unfinished.{Unfinished}
 use Rattle.bench_types.specs.Step.{IsCheckedUnfinished}
 use Rattle.bench_model.specs.Control.{Control}
@@ -11,13 +12,20 @@ use Rattle.bench_model.specs.Lists as seen
 use Rattle.bench_model.specs.Lists.{list_queues, lists_of, view_of}
 use Rattle.bench_model.specs.Steps.{after_finish}
 use Rattle.bench_model.specs.Mutexes.{inherited, after_disinherit, mutex_take, mutex_give}
-use Rattle.bench_model.specs.Sound.{IsStamped, IsCaller, IsConsistent}
+use Rattle.bench_model.specs.Sound.{IsCaller, IsConsistent}
+use Rattle.bench_model.specs.Turns.{IsServedFirst}
 
--- the first waiter of a list is the best of all that wait
 abbrev pub FirstWaiterSimulates : Type 0
 FirstWaiterSimulates =
-    (control : Control) (mutex : ℕ) (stamps : Stamps) → IsStamped stamps
+    (control : Control) (mutex : ℕ) (stamps : Stamps)
     → seen.first_waiter mutex (lists_of control stamps) ≡ first_waiter mutex stamps
+
+-- the first waiter of a mutex is served before all others that wait for it
+abbrev pub FirstWaiterIsServedFirst : Type 0
+FirstWaiterIsServedFirst =
+    (table : Table) (mutex : ℕ) (waiter : Waiter) → IsConsistent table
+    → first_waiter mutex table.orders ≡ Some waiter
+    → IsServedFirst table.orders mutex table.orders.waiters waiter
 
 abbrev pub DeadlineSimulates : Type 0
 DeadlineSimulates =

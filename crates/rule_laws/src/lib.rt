@@ -3,7 +3,7 @@
 #![tactic(auto)]
 
 ghost use Rattle.rule_laws.specs.CoresLaws.{ChangeIsApart, ChangeKeepsConsistent, InUseSimulates, InUseKeepsConsistent, AskOnCores, SeekOnCores, WakeOnCores, WaitOnCores, SwitchOnCores, SlicesOnCores, InUseOnCores};
-ghost use Rattle.rule_laws.specs.MutexLaws.{FirstWaiterSimulates, DeadlineSimulates, ForgettingSimulates, InheritSimulates, InheritKeepsConsistent, TakeSimulates, TakeKeepsConsistent, FinishSimulates, FinishKeepsConsistent, GiveSimulates, GiveKeepsConsistent, LowerSimulates, LowerKeepsConsistent, InheritOnCores, LowerOnCores};
+ghost use Rattle.rule_laws.specs.MutexLaws.{FirstWaiterSimulates, FirstWaiterIsServedFirst, DeadlineSimulates, ForgettingSimulates, InheritSimulates, InheritKeepsConsistent, TakeSimulates, TakeKeepsConsistent, FinishSimulates, FinishKeepsConsistent, GiveSimulates, GiveKeepsConsistent, LowerSimulates, LowerKeepsConsistent, InheritOnCores, LowerOnCores};
 ghost use Rattle.rule_laws.specs.NoteLaws.{PlacesAreApart, NotifyLeavesOthers, NotifyWakesOnlyAWaiter, NotifySimulates, NotifyKeepsConsistent, NotesKeepOrders, NotesKeepConsistent};
 ghost use Rattle.rule_laws.specs.SeekLaws.{BestCoreIsAsked, SeekSimulates, WakeSimulates, AfterSwitchSimulates, SlicesAreSeen, AskKeepsConsistent, SeekKeepsConsistent, WakeKeepsConsistent, AfterSwitchKeepsConsistent, SlicesKeepConsistent};
 ghost use Rattle.rule_laws.specs.SetLaws.{AskItsCoreSimulates, YieldsAfterPrioritySetSimulates, YieldsAfterAffinitySetSimulates, PrioritySetSimulates, AffinitySetSimulates, PreemptionOffSimulates, PreemptionOnSimulates, AskItsCoreKeepsConsistent, YieldsAfterPrioritySetKeepsConsistent, YieldsAfterAffinitySetKeepsConsistent, PrioritySetKeepsConsistent, AffinitySetKeepsConsistent, PreemptionOffKeepsConsistent, PreemptionOnKeepsConsistent};
@@ -93,8 +93,11 @@ pub fn laws_of_notifications()
 /// Mutexes and priority inheritance. Each rule is the same over stamps and over lists, and keeps a
 /// table consistent.
 pub fn laws_of_mutexes()
-    // The first waiter of a mutex in its list is the best of all tasks that wait for it.
+    // The first waiter of a mutex is so over lists.
     ensures first_waiter_simulates { FirstWaiterSimulates }
+    // It is served before all others: it has the greatest waiting priority, and of those that have
+    // it, it began to wait first.
+    ensures first_waiter_is_served_first { FirstWaiterIsServedFirst }
     // The ticks that are left to a deadline are seen as they are.
     ensures deadline_simulates { DeadlineSimulates }
     // Forgetting a deadline is so over lists.

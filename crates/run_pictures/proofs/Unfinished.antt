@@ -9,7 +9,7 @@ use Rattle.std.proofs.lemmas.List.{get_or-set_same, get_or-set_other, length-set
 use Rattle.std.proofs.lemmas.List.Elements.{All-head, All-take}
 use Rattle.std.proofs.Math.ListN.{get_or-eq_default}
 use Rattle.list_orders.specs.Search.{numbers}
-use Rattle.bench_types.proofs.Passes.{checked_task, noted_task}
+use Rattle.bench_types.proofs.Passes.{checked_mutex, checked_task, noted_task}
 use Rattle.bench_types.specs.declared.header.Header.{Header}
 use Rattle.bench_types.specs.declared.kernel_data.MutexWait.{MutexWait}
 use Rattle.bench_types.specs.declared.kernel_data.Settings.{Settings}
@@ -193,7 +193,7 @@ module _ (core task : ℕ) (table : Table) (sound : IsConsistent table) (place :
       (blocked stamp_queues core task call ticks wait near)
   unfolding blocked delay
   blocked_but call ticks wait near kept =
-      let waits : TaskRow = record { stamp = near.orders.next; standing = standings.Blocked (ahead near.orders ticks) wait } in
+      let waits : TaskRow = record { stamp = near.orders.next; standing = standings.Blocked (ahead near.orders ticks) } in
       let few : task < length near.calls = omega (arith, ap length kept.calls, sound.sized.calls, sound.sized.rows, place.2) in
       record {
         ready = λ i other is. ap (λ (row : TaskRow). stands_ready row.standing) (get_or-set_other near.orders.rows task i waits (ready_row 0) other)
@@ -298,7 +298,8 @@ module _ (core task : ℕ) (table : Table) (sound : IsConsistent table) (place :
   called_but (StateClear other index) checked = kept_but _ (forgotten_undisturbed other index table)
   called_but (ValueClear other bits index) checked = kept_but _ (bits_undisturbed other bits index table)
   called_but (MutexTake mutex ticks) checked = take_but mutex ticks
-  called_but (MutexGive mutex) checked = kept_but _ (give_undisturbed core task mutex table place.2)
+  called_but (MutexGive mutex) checked = kept_but _ (give_undisturbed core task mutex table sound place.2
+      (checked_mutex table.settings mutex checked.passes))
   called_but HoldOpen checked = calm_but _ (record { ready = λ i is. is; calls = refl })
   called_but HoldClose checked = calm_but _ (record { ready = λ i is. is; calls = refl })
 

@@ -1,32 +1,29 @@
 -- What can be seen of two tables is equal just where they are alike pair by pair.
-use Rattle.std.proofs.Common.{◌≡◌, ℕ, ◌-◌, ◌<◌, true, leb, List, length, map, Option, Some, None, refl, sym, ap, ap₂, ◌∙◌, arith}
+use Rattle.std.proofs.Common.{◌≡◌, ℕ, ◌-◌, ◌<◌, true, leb, List, length, map, Option, Some, None, refl, sym, ap, ◌∙◌, arith}
 use Rattle.std.specs.Prelude.{◌↔◌, is_some, option_map, unwrap_or}
 use Rattle.std.proofs.lemmas.List.{map-id, length-map, ext_get_or}
 use Rattle.std.proofs.lemmas.Bool.Decides.{nat_tests}
 use Rattle.bench_types.specs.declared.kernel_data.Hold.{Hold}
 use Rattle.bench_types.specs.declared.kernel_data.Delayed.{Delayed}
-use Rattle.bench_types.specs.declared.kernel_data.MutexWait.{MutexWait}
 use Rattle.bench_types.specs.declared.kernel_data.Settings.{Settings}
-use Rattle.bench_types.specs.declared.kernel_data.Waiter.{Waiter}
 use Rattle.bench_types.specs.declared.note.Notification.{Notification}
 use Rattle.bench_types.specs.declared.step.Unfinished.{Unfinished}
-use Rattle.bench_model.specs.Alike.{SamePairwise, InOneReadyList, AreDelayedTogether, InOneWaitQueue, SameOrder, wait_of}
+use Rattle.bench_model.specs.Alike.{SamePairwise, InOneReadyList, AreDelayedTogether, SameOrder}
 use Rattle.bench_model.specs.Control.{Control, task_at}
 use Rattle.bench_model.specs.Equal.{Same}
 use Rattle.bench_model.specs.Looks.{ticks_left, left_in}
 use Rattle.bench_model.specs.Lists as seen
-use Rattle.bench_model.specs.Lists.{Lists, View, lists_of, delayed_of, outranks, wakes_first, waits_first}
+use Rattle.bench_model.specs.Lists.{Lists, View, lists_of, delayed_of, outranks, wakes_first}
 use Rattle.list_orders.specs.Search.{ranked, has}
 use Rattle.bench_model.specs.Sound.{IsConsistent}
-use Rattle.bench_model.specs.Table.{Stamps, Table, row_at, is_ready, stands_ready, wake_in, waiter_of, deadline_left}
-use Rattle.order_laws.proofs.FirstWaiters.{no_wait}
-use Rattle.order_laws.proofs.Looks.{left_seen, wait_among, wait_seen}
+use Rattle.bench_model.specs.Table.{Stamps, Table, row_at, is_ready, stands_ready, wake_in, deadline_left}
+use Rattle.order_laws.proofs.Looks.{left_seen}
 use Rattle.order_laws.proofs.Restamps.{standing_so, waits}
 use Rattle.session_laws.proofs.SameOrders.{same_orders}
-use Rattle.order_laws.proofs.SeenMoves.{queues, is_ready_seen, deadline_from, deadline_left_seen, same_seen}
-use Rattle.bench_model.proofs.Ranks.{outranks-IsRank, wakes_first-IsRank, waits_first-IsRank}
+use Rattle.order_laws.proofs.SeenMoves.{is_ready_seen, deadline_from, deadline_left_seen, same_seen}
+use Rattle.bench_model.proofs.Ranks.{outranks-IsRank, wakes_first-IsRank}
 
--- ---- ticks left and waits, as they stand in entries
+-- ---- ticks left, as they stand in entries
 
 left_value : (tick : ℕ) (wake : Option ℕ) → unwrap_or wake 0 - tick ≡ unwrap_or (option_map (λ wake. wake - tick) wake) 0
 left_value tick None = omega arith
@@ -46,24 +43,6 @@ one_left : (x y : Option ℕ) → is_some x ≡ true → is_some y ≡ true → 
 one_left None y some other same = absurd (cc (some))
 one_left (Some x) None some other same = absurd (cc (other))
 one_left (Some x) (Some y) some other same = ap Some same
-
-abbrev wait_from : ℕ → ℕ → MutexWait
-wait_from mutex priority = record { mutex = mutex; priority = priority }
-
-abbrev waiting : ℕ → Option MutexWait → Waiter
-waiting task wait = record { task = task; wait = unwrap_or wait no_wait }
-
-one_wait : (i j : ℕ) (x y : Option MutexWait) → is_some x ≡ true → is_some y ≡ true → waits_first (waiting i x) (waiting j y) ≡ true → waits_first (waiting j y)
-    (waiting i x) ≡ true → x ≡ y
-one_wait i j None y some other forth back = absurd (cc (some))
-one_wait i j (Some x) None some other forth back = absurd (cc (other))
-one_wait i j (Some x) (Some y) some other forth back =
-    let mutex : x.mutex ≡ y.mutex = grind (arith, nat_tests, forth, back) in
-    let priority : x.priority ≡ y.priority = grind (arith, nat_tests, forth, back) in
-    ap Some (ap₂ wait_from mutex priority)
-
-first_of_one : (i j : ℕ) (wait : MutexWait) → waits_first (record { task = i; wait = wait }) (record { task = j; wait = wait }) ≡ true
-first_of_one i j wait = grind (arith, nat_tests)
 
 same_view : (settings other : Settings) (control cores : Control) (calls unfinished : List (Option Unfinished)) (notes noted : List Notification)
     (holders held : List (Option ℕ)) (hold kept : Option Hold) (orders lists : Lists) →
@@ -92,7 +71,6 @@ module _ (a b : Table) (first : IsConsistent a) (second : IsConsistent b) (setti
   record AgreeOnTasks : Type 0 where
     ready : (i : ℕ) → i < a.settings.tasks → is_ready i a.orders ≡ is_ready i b.orders
     left : (i : ℕ) → i < a.settings.tasks → ticks_left i a.orders ≡ ticks_left i b.orders
-    queued : (i : ℕ) → i < a.settings.tasks → wait_of i a ≡ wait_of i b
 
   -- the orders of a table, its ready lists by the priorities of a
   abbrev ready_of : Table → List ℕ
@@ -100,9 +78,6 @@ module _ (a b : Table) (first : IsConsistent a) (second : IsConsistent b) (setti
 
   abbrev delayed_in : Table → List Delayed
   delayed_in table = ranked wakes_first (map (delayed_of table.orders) (standing_so waits table.orders))
-
-  abbrev waiters_in : Table → List Waiter
-  waiters_in table = ranked waits_first (map (waiter_of table.orders) (standing_so queues table.orders))
 
   ready_listed : (ready_of a ≡ ready_of b) ↔ ((lists_of a.control a.orders).ready ≡ (lists_of b.control b.orders).ready)
   unfolding lists_of
@@ -121,9 +96,6 @@ module _ (a b : Table) (first : IsConsistent a) (second : IsConsistent b) (setti
         let same = left_value a.orders.tick (wake_in (row_at a.orders i).standing) ∙ ap (λ left. unwrap_or left 0) (agree.left i (is_task i low)) ∙ sym
         (left_value b.orders.tick (wake_in (row_at b.orders i).standing)) in
         ap (λ left. let entry : Delayed = record { task = i; left = left } in entry) same
-
-    waiter_so : (i : ℕ) → i < length a.orders.rows → waiter_of a.orders i ≡ waiter_of b.orders i
-    waiter_so i low = ap (waiting i) (agree.queued i (is_task i low))
 
     -- the lists are equal just where the tasks that stand together came in the same order
 
@@ -163,24 +135,6 @@ module _ (a b : Table) (first : IsConsistent a) (second : IsConsistent b) (setti
               )),
         )
 
-    queued_pairs : (waiters_in a ≡ waiters_in b) ↔ SameOrder InOneWaitQueue a b
-    queued_pairs =
-        let both = same_orders waits_first waits_first-IsRank queues (λ e. e.task) (waiter_of a.orders) (waiter_of b.orders) a.orders b.orders rows (λ i. refl)
-        (λ i h. ap is_some (agree.queued i (is_task i h))) waiter_so first.stamped second.stamped in (
-          λ same i j low below together.
-              let alike = λ (x y : ℕ) (wait : wait_of x a ≡ wait_of y a). ap (λ wait. waits_first (waiter_of a.orders x) (waiting y wait)) (sym wait) ∙
-              first_of_one x y (unwrap_or (wait_of x a) no_wait) in
-              both.0 same i j (in_a i low) (in_a j below) (
-                together.0,
-                sym (ap is_some together.1) ∙ together.0,
-                alike i j together.1,
-                alike j i
-                    (sym together.1),
-              ),
-          λ came. both.1 (λ i j low below one. came i j (is_task i low) (is_task j below)
-              (one.0, one_wait i j (wait_of i a) (wait_of j a) one.0 one.1 one.2 one.3)),
-        )
-
   deadlines_same : ((i : ℕ) → i < a.settings.tasks → deadline_left i a.orders ≡ deadline_left i b.orders) → (lists_of a.control a.orders).deadlines ≡
       (lists_of b.control b.orders).deadlines
   unfolding lists_of
@@ -194,12 +148,12 @@ module _ (a b : Table) (first : IsConsistent a) (second : IsConsistent b) (setti
   lists_same : SamePairwise a b → lists_of a.control a.orders ≡ lists_of b.control b.orders
   unfolding lists_of
   lists_same alike =
-      let agree : AgreeOnTasks = record { ready = alike.ready; left = alike.left; queued = alike.waits } in
+      let agree : AgreeOnTasks = record { ready = alike.ready; left = alike.left } in
       same_seen _ _ _ _ _ _ _ _ _ _
       (ready_listed.0 ((ready_pairs agree).1 alike.ready_order))
       alike.ticks
       ((delayed_pairs agree).1 alike.delay_order)
-      ((queued_pairs agree).1 alike.queue_order)
+      alike.waiters
       (deadlines_same alike.deadlines)
 
 pub same_from_alike : (a b : Table) → IsConsistent a → IsConsistent b → SamePairwise a b → Same a b
@@ -219,12 +173,11 @@ alike_from_same a b first second same = record {
   ticks = ap (λ (l : Lists). l.tick) lists;
   ready = agree.ready;
   left = agree.left;
-  waits = agree.queued;
   deadlines = λ i low. sym (deadline_left_seen a.control a.orders i) ∙ ap (seen.deadline_left i) lists ∙ deadline_left_seen b.control b.orders i;
   ready_order = (ready_pairs a b first second settings control agree).0 ((ready_listed a b first second settings control).1
       (ap (λ (l : Lists). l.ready) lists));
   delay_order = (delayed_pairs a b first second settings control agree).0 (ap (λ (l : Lists). l.delayed) lists);
-  queue_order = (queued_pairs a b first second settings control agree).0 (ap (λ (l : Lists). l.waiters) lists);
+  waiters = ap (λ (l : Lists). l.waiters) lists;
 }
   where
     settings : a.settings ≡ b.settings
@@ -242,6 +195,4 @@ alike_from_same a b first second same = record {
           (λ (l : Lists). has i l.ready) lists ∙ is_ready_seen b.control b.orders i second.stamped.given (in_b a b first second settings control i low);
       left = λ i low. sym (left_seen a.control a.orders i first.stamped.given (in_a a b first second settings control i low)) ∙ ap
           (λ (l : Lists). left_in i l.delayed) lists ∙ left_seen b.control b.orders i second.stamped.given (in_b a b first second settings control i low);
-      queued = λ i low. sym (wait_seen a.control a.orders i first.stamped.given (in_a a b first second settings control i low)) ∙ ap
-          (λ (l : Lists). wait_among i l.waiters) lists ∙ wait_seen b.control b.orders i second.stamped.given (in_b a b first second settings control i low);
     }

@@ -149,12 +149,12 @@ return_ends table task below = record {
 delayed_waits : (stamps : Stamps) (task : ℕ) (ticks : Option ℕ) (wait : Option MutexWait) → task < length stamps.rows
     → is_ready task (delay task ticks wait stamps) ≡ false
 unfolding delay
-delayed_waits stamps task ticks wait below = ap stands_ready (standing_same stamps task (standings.Blocked (ahead stamps ticks) wait) below)
+delayed_waits stamps task ticks wait below = ap stands_ready (standing_same stamps task (standings.Blocked (ahead stamps ticks)) below)
 
 delayed_others : (stamps : Stamps) (task : ℕ) (ticks : Option ℕ) (wait : Option MutexWait) → task < length stamps.rows → (i : ℕ) → i ≢ task
     → is_ready i (delay task ticks wait stamps) ≡ is_ready i stamps
 unfolding delay
-delayed_others stamps task ticks wait below i away = ap stands_ready (standing_other stamps task (standings.Blocked (ahead stamps ticks) wait) below i away)
+delayed_others stamps task ticks wait below i away = ap stands_ready (standing_other stamps task (standings.Blocked (ahead stamps ticks)) below i away)
 
 block_ends : (table : Table) (core task : ℕ) (call : Unfinished) (ticks : Option ℕ) (wait : Option MutexWait) → task < length table.orders.rows
     → HasEnded task table (blocked stamp_queues core task call ticks wait table)

@@ -8,20 +8,21 @@ use Rattle.std.proofs.Math.Path.{fun_ext}
 use mathlib.Core.List.{map-map}
 use Rattle.bench_types.specs.declared.kernel_data.Delayed.{Delayed}
 use Rattle.bench_types.specs.declared.kernel_data.Hold.{Hold}
-use Rattle.bench_types.specs.declared.kernel_data.MutexWait.{MutexWait}
 use Rattle.bench_types.specs.declared.kernel_data.Waiter.{Waiter}
 use Rattle.bench_model.specs.declared.row.TaskRow.{TaskRow}
 use Rattle.bench_model.specs.declared.row.TaskState.{TaskState}
 use Rattle.bench_model.specs.declared.row.TaskState.TheVariants.{Ready, Blocked}
 use Rattle.bench_model.specs.Control.{Control, current}
 use Rattle.bench_model.specs.Equal.{StandsFor}
-use Rattle.bench_model.specs.Lists.{View, lists_of, view_of, delayed_of, outranks, wakes_first, waits_first}
+use Rattle.bench_model.specs.Lists.{View, lists_of, view_of, delayed_of, outranks, wakes_first}
 use Rattle.bench_model.specs.Shifted.{later_tick, shifted}
-use Rattle.bench_model.specs.Sound.{IsStamped, HasCurrentTasks, WakesInTime, HasMutexes, IsConsistent, IsHeldWell, IsSound}
-use Rattle.bench_model.specs.Table.{Stamps, Table, row_at, stamp_of, wake_in, wait_in, stands_ready, is_ready, waiter_of, deadline_at}
+use Rattle.bench_model.specs.Sound.{IsStamped, HasCurrentTasks, WakesInTime, HasMutexes, IsConsistent, IsHeldWell, IsSound, IsWaiter}
+use Rattle.bench_model.specs.Table.{Stamps, Table, row_at, stamp_of, wake_in, stands_ready, is_ready, deadline_at}
 use Rattle.list_orders.specs.Search.{numbers, by_stamp, ranked}
+use Rattle.list_orders.proofs.Filters.{All-weaker, All_each}
+use Rattle.order_laws.proofs.Served.{turn_moved}
 use Rattle.order_laws.proofs.Restamps.{standing_so, waits}
-use Rattle.order_laws.proofs.SeenMoves.{queues, same_seen}
+use Rattle.order_laws.proofs.SeenMoves.{same_seen}
 use Rattle.order_laws.proofs.Sizes.{resized, lengths_of}
 use Rattle.shift_laws.specs.Later.{later_standing, later_row, later_stamps, later}
 use Rattle.shift_laws.specs.Shifts.{IsShifted}
@@ -30,15 +31,11 @@ use Rattle.shift_laws.specs.Shifts.{IsShifted}
 
 ready_later : (by : ℕ) (standing : TaskState) → stands_ready (later_standing by standing) ≡ stands_ready standing
 ready_later by Ready = refl
-ready_later by (Blocked wake wait) = refl
+ready_later by (Blocked wake) = refl
 
 pub wake_later : (by : ℕ) (standing : TaskState) → wake_in (later_standing by standing) ≡ option_map (λ wake. wake + by) (wake_in standing)
 wake_later by Ready = refl
-wake_later by (Blocked wake wait) = refl
-
-pub wait_later : (by : ℕ) (standing : TaskState) → wait_in (later_standing by standing) ≡ wait_in standing
-wait_later by Ready = refl
-wait_later by (Blocked wake wait) = refl
+wake_later by (Blocked wake) = refl
 
 some_later : (by : ℕ) (wake : Option ℕ) → is_some (option_map (λ wake. wake + by) wake) ≡ is_some wake
 some_later by None = refl
@@ -92,12 +89,6 @@ module _ (by : ℕ) (stamps : Stamps) where
       let wake = ap wake_in (stands_later task) ∙ wake_later by (row_at stamps task).standing in
       ap (λ wake. entry (unwrap_or wake 0 - (stamps.tick + by))) wake ∙ ap entry (left_later by stamps.tick (wake_in (row_at stamps task).standing))
 
-  waiter_later : (task : ℕ) → waiter_of (later_stamps by stamps) task ≡ waiter_of stamps task
-  waiter_later task =
-      let waiting = λ (wait : Option MutexWait).
-      let waiter : Waiter = record { task = task; wait = unwrap_or wait (record { mutex = 0; priority = 0 }) } in waiter in
-      ap waiting (ap wait_in (stands_later task) ∙ wait_later by (row_at stamps task).standing)
-
   waits_later : (standing : TaskState) → waits (later_standing by standing) ≡ waits standing
   waits_later standing = ap is_some (wake_later by standing) ∙ some_later by (wake_in standing)
 
@@ -108,7 +99,7 @@ module _ (by : ℕ) (stamps : Stamps) where
       (ap (ranked (outranks control)) (standing_later stands_ready (ready_later by)))
       (sym (mod-add-mod stamps.tick (2 ^ 32) by))
       (ap (ranked wakes_first) (ap₂ map (fun_ext delayed_later) (standing_later waits waits_later)))
-      (ap (ranked waits_first) (ap₂ map (fun_ext waiter_later) (standing_later queues (λ standing. ap is_some (wait_later by standing)))))
+      refl
       (map-map (option_map (λ deadline. deadline - (stamps.tick + by))) (option_map (λ deadline. deadline + by)) stamps.deadlines
       ∙ ap (λ f. map f stamps.deadlines) (fun_ext (deadline_later by stamps.tick)))
 
@@ -150,9 +141,12 @@ mutexes_later :
     → HasMutexes table.settings table.calls table.holders (later_stamps by table.orders)
 mutexes_later by table mutexes = record {
   held_by_tasks = mutexes.held_by_tasks;
-  waits = λ i wait low is.
-      mutexes.waits i wait (omega (arith, rows_later by table.orders, low))
-      (sym (ap wait_in (stands_later by table.orders i) ∙ wait_later by (row_at table.orders i).standing) ∙ is);
+  waits = All-weaker (IsWaiter table.settings table.orders) (IsWaiter table.settings (later_stamps by table.orders))
+      (λ waiter is. (omega (arith, rows_later by table.orders, is.0), is_ready_later by table.orders waiter.task ∙ is.1, is.2)) table.orders.waiters
+      mutexes.waits;
+  turns = turn_moved table.orders (later_stamps by table.orders) table.orders.waiters
+      (All_each (λ (w : Waiter). stamp_of (later_stamps by table.orders) w.task ≡ stamp_of table.orders w.task) (λ w. stamp_later by table.orders w.task)
+      table.orders.waiters) mutexes.turns;
   deadlines = λ i deadline is.
       let before = was_before by deadline (deadline_at table.orders i) (sym (deadline_at_later by table.orders i) ∙ is) in
       let was = mutexes.deadlines i before.0 before.1 in

@@ -1,27 +1,25 @@
 -- Equality but for the tick counts is equality pair by pair but for them: one table is moved in time until the tick counts agree.
 use Rattle.std.proofs.Common.{◌≡◌, ℕ, ◌+◌, ◌-◌, ◌<◌, ◌%◌, ◌^◌, Bool, true, Option, sym, ap, subst, ◌∙◌, arith}
 use Rattle.std.specs.Prelude.{◌↔◌, option_map, IsSome}
-use Rattle.bench_types.specs.declared.kernel_data.MutexWait.{MutexWait}
-use Rattle.bench_model.specs.Alike.{SamePairwise, CameBefore, wait_of}
+use Rattle.bench_model.specs.Alike.{SamePairwise, CameBefore}
 use Rattle.bench_model.specs.Control.{Control, task_at}
 use Rattle.bench_model.specs.Equal.{Same}
 use Rattle.bench_model.specs.Lists.{view_of}
 use Rattle.bench_model.specs.Looks.{ticks_left}
 use Rattle.bench_model.specs.Shifted.{SameShifted, shift_between}
 use Rattle.bench_model.specs.Sound.{IsConsistent}
-use Rattle.bench_model.specs.Table.{Table, row_at, stamp_of, is_ready, wake_in, wait_in, deadline_left, deadline_at}
+use Rattle.bench_model.specs.Table.{Table, row_at, stamp_of, is_ready, wake_in, deadline_left, deadline_at}
 use Rattle.session_laws.proofs.Alike.{same_from_alike, alike_from_same}
 use Rattle.shift_laws.specs.Later.{later}
 use Rattle.shift_laws.specs.Shifts.{SamePairwiseShifted}
 use Rattle.shift_laws.proofs.LaterTables.{consistent_later, deadline_at_later, deadline_later, is_ready_later, later_shifted, stamp_later, stands_later}
-use Rattle.shift_laws.proofs.LaterTables.{wait_later, wake_later}
+use Rattle.shift_laws.proofs.LaterTables.{wake_later}
 use Rattle.shift_laws.proofs.Steps.{same_from_shifted, shifted_from_same}
 
 -- all that is compared of single tasks, and by what their order is told
 record TasksSeen : Type 0 where
   ready : ℕ → Bool
   left : ℕ → Option ℕ
-  waits : ℕ → Option MutexWait
   deadline : ℕ → Option ℕ
   stamp : ℕ → ℕ
 
@@ -29,7 +27,6 @@ abbrev tasks_seen : Table → TasksSeen
 tasks_seen table = record {
   ready = λ i. is_ready i table.orders;
   left = λ i. ticks_left i table.orders;
-  waits = λ i. wait_of i table;
   deadline = λ i. deadline_left i table.orders;
   stamp = stamp_of table.orders;
 }
@@ -40,11 +37,9 @@ seen_later by table =
     let stamps = table.orders in
     let left = option_map (λ end. end - (stamps.tick + by)) in
     let wake = λ (i : ℕ). ap wake_in (stands_later by stamps i) ∙ wake_later by (row_at stamps i).standing in
-    let wait = λ (i : ℕ). ap wait_in (stands_later by stamps i) ∙ wait_later by (row_at stamps i).standing in
     λ k. record {
       ready = λ i. is_ready_later by stamps i k;
       left = λ i. (ap left (wake i) ∙ deadline_later by stamps.tick (wake_in (row_at stamps i).standing)) k;
-      waits = λ i. wait i k;
       deadline = λ i. (ap left (deadline_at_later by stamps i) ∙ deadline_later by stamps.tick (deadline_at stamps i)) k;
       stamp = λ i. stamp_later by stamps i k;
     }
@@ -53,13 +48,11 @@ seen_later by table =
 record AreAlike (tasks : ℕ) (control : Control) (one : TasksSeen) (b : Table) : Type 0 where
   ready : (i : ℕ) → i < tasks → one.ready i ≡ is_ready i b.orders
   left : (i : ℕ) → i < tasks → one.left i ≡ ticks_left i b.orders
-  waits : (i : ℕ) → i < tasks → one.waits i ≡ wait_of i b
   deadlines : (i : ℕ) → i < tasks → one.deadline i ≡ deadline_left i b.orders
   ready_order :
       (i j : ℕ) → i < tasks → j < tasks → (one.ready i ≡ true) × (one.ready j ≡ true) × ((task_at control i).in_use ≡ (task_at control j).in_use)
       → ((one.stamp i < one.stamp j) ↔ CameBefore b i j)
   delay_order : (i j : ℕ) → i < tasks → j < tasks → IsSome (one.left i) × (one.left i ≡ one.left j) → ((one.stamp i < one.stamp j) ↔ CameBefore b i j)
-  queue_order : (i j : ℕ) → i < tasks → j < tasks → IsSome (one.waits i) × (one.waits i ≡ one.waits j) → ((one.stamp i < one.stamp j) ↔ CameBefore b i j)
 
 -- a table that is moved in time is alike another just where the table is, but for the tick counts
 to_pairs : (by : ℕ) (a b : Table) → SamePairwise (later by a) b → SamePairwiseShifted a b
@@ -68,11 +61,9 @@ to_pairs by a b alike =
     let moved : AreAlike a.settings.tasks a.control (tasks_seen (later by a)) b = record {
       ready = alike.ready;
       left = alike.left;
-      waits = alike.waits;
       deadlines = alike.deadlines;
       ready_order = alike.ready_order;
       delay_order = alike.delay_order;
-      queue_order = alike.queue_order;
     } in
     let tasks = subst (λ seen. AreAlike a.settings.tasks a.control seen b) (seen_later by a) moved in
     record {
@@ -84,11 +75,10 @@ to_pairs by a b alike =
       hold = alike.hold;
       ready = tasks.ready;
       left = tasks.left;
-      waits = tasks.waits;
+      waiters = alike.waiters;
       deadlines = tasks.deadlines;
       ready_order = tasks.ready_order;
       delay_order = tasks.delay_order;
-      queue_order = tasks.queue_order;
     }
 
 from_pairs : (by : ℕ) (a b : Table) → (a.orders.tick + by) % 2 ^ 32 ≡ b.orders.tick % 2 ^ 32 → SamePairwiseShifted a b → SamePairwise (later by a) b
@@ -97,11 +87,9 @@ from_pairs by a b ticks alike =
     let there : AreAlike a.settings.tasks a.control (tasks_seen a) b = record {
       ready = alike.ready;
       left = alike.left;
-      waits = alike.waits;
       deadlines = alike.deadlines;
       ready_order = alike.ready_order;
       delay_order = alike.delay_order;
-      queue_order = alike.queue_order;
     } in
     let tasks = subst (λ seen. AreAlike a.settings.tasks a.control seen b) (sym (seen_later by a)) there in
     record {
@@ -114,11 +102,10 @@ from_pairs by a b ticks alike =
       ticks = ticks;
       ready = tasks.ready;
       left = tasks.left;
-      waits = tasks.waits;
+      waiters = alike.waiters;
       deadlines = tasks.deadlines;
       ready_order = tasks.ready_order;
       delay_order = tasks.delay_order;
-      queue_order = tasks.queue_order;
     }
 
 -- the ticks between two tables lead from one to the other

@@ -8,7 +8,7 @@ use Rattle.bench_model.specs.Table.{Stamps, Table}
 -- a wake so many ticks later
 abbrev pub later_standing : ℕ → TaskState → TaskState
 later_standing by Ready = Ready
-later_standing by (Blocked wake wait) = Blocked (option_map (λ wake. wake + by) wake) wait
+later_standing by (Blocked wake) = Blocked (option_map (λ wake. wake + by) wake)
 
 abbrev pub later_row : ℕ → TaskRow → TaskRow
 later_row by row = record row { standing = later_standing by row.standing }

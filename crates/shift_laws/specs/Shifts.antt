@@ -1,7 +1,7 @@
 -- Kernels of which one looks as the other does at another tick count.
 use Rattle.std.specs.Prelude.{◌≡◌, ℕ, ◌<◌, List, take}
 use Rattle.bench_types.specs.declared.step.Step.{Step}
-use Rattle.bench_model.specs.Alike.{InOneReadyList, AreDelayedTogether, InOneWaitQueue, SameOrder, wait_of}
+use Rattle.bench_model.specs.Alike.{InOneReadyList, AreDelayedTogether, SameOrder}
 use Rattle.bench_model.specs.Lists.{view_of}
 use Rattle.bench_model.specs.Looks.{ticks_left}
 use Rattle.bench_model.specs.Session.{state_after, run_results}
@@ -33,15 +33,14 @@ pub record SamePairwiseShifted (a b : Table) : Type 0 where
   pub notes : a.notes ≡ b.notes
   pub holders : a.holders ≡ b.holders
   pub hold : a.hold ≡ b.hold
-  -- each task is ready in both or in none, with equal ticks left to its wake, waits equally at a
-  -- mutex, and has equal ticks left to the deadline of its wait for a mutex
+  -- each task is ready in both or in none, with equal ticks left to its wake and to the deadline of
+  -- its wait for a mutex
   pub ready : (i : ℕ) → i < a.settings.tasks → is_ready i a.orders ≡ is_ready i b.orders
   pub left : (i : ℕ) → i < a.settings.tasks → ticks_left i a.orders ≡ ticks_left i b.orders
-  pub waits : (i : ℕ) → i < a.settings.tasks → wait_of i a ≡ wait_of i b
   pub deadlines :
       (i : ℕ) → i < a.settings.tasks → deadline_left i a.orders ≡ deadline_left i b.orders
-  -- the order of each ready list, of the tasks with one number of ticks left, and of the waiters of
-  -- one waiting priority
+  -- the same tasks wait for mutexes, with the same waiting priorities, in the same order
+  pub waiters : a.orders.waiters ≡ b.orders.waiters
+  -- the order of each ready list, and of the tasks with one number of ticks left
   pub ready_order : SameOrder InOneReadyList a b
   pub delay_order : SameOrder AreDelayedTogether a b
-  pub queue_order : SameOrder InOneWaitQueue a b

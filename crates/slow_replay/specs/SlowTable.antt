@@ -1,5 +1,6 @@
 -- What the slow table keeps of its sizes.
 use Rattle.std.specs.Prelude.{◌≡◌, ℕ, ◌*◌, ◌<◌, ◌≤◌, ◌^◌, length, false, Some, None, slice_index_or}
+use Rattle.std.specs.List.{AllByRecursion}
 use Rattle.bench_types.specs.Limits.{max_cores}
 use Rattle.slow_replay.specs.declared.slow.SlowTable.TheInside.{Inside}
 
@@ -13,6 +14,8 @@ pub record IsFit (table : Inside) : Type 0 where
   pub holders : length table.holders.items ≡ table.settings.mutexes
   pub rows : length table.rows.items ≡ table.settings.tasks
   pub deadlines : length table.deadlines.items ≡ table.settings.tasks
+  pub waiting_tasks :
+      AllByRecursion (λ waiter. waiter.task < table.settings.tasks) table.waiters.items
   pub held_by_tasks :
       (mutex task : ℕ) → slice_index_or table.holders.items mutex None ≡ Some task
       → task < table.settings.tasks

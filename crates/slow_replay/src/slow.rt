@@ -1,9 +1,10 @@
 //! The flat table of the rules as a program, searched whole at each step.
-ghost use Rattle.std.specs.Prelude.{◌≡◌, ℕ, ◌<◌, ◌≤◌, ◌^◌, ◌+◌, ◌==◌, ◌&&◌, length, ◌++◌, map, replicate, option_map, slice_get, All, Some, None, IfOk, IfSome, nat_le, Ok};
+ghost use Rattle.std.specs.Prelude.{◌≡◌, ℕ, ◌<◌, ◌≤◌, ◌^◌, ◌+◌, ◌==◌, ◌&&◌, length, [], ◌++◌, map, replicate, option_map, slice_get, slice_set, All, Some, None, IfOk, IfSome, nat_le, Ok};
 ghost use Rattle.bench_types.specs.Step.{call_check, step_check, settings_of, IsStepOfWords};
 ghost use Rattle.bench_types.specs.Header.{header_check};
 ghost use Rattle.bench_types.specs.declared.step.Call.TheVariants.{Delay};
-ghost use Rattle.bench_model.specs.Control.{is_elsewhere, is_allowed, may_select, is_due, current, run_on, running};
+ghost use Rattle.bench_model.specs.Control.{ask, is_elsewhere, is_allowed, may_select, is_due, current, run_on, running};
+ghost use Rattle.bench_model.specs.declared.row.TaskState.TheVariants.{Blocked};
 ghost use Rattle.bench_model.specs.Notes.{no_note};
 ghost use Rattle.bench_model.specs.State.{queued, after_select, yielded, blocked};
 ghost use Rattle.bench_model.specs.Seek.{wake, after_switch};
@@ -12,7 +13,8 @@ ghost use Rattle.bench_model.specs.Sound.{IsConsistent, IsSound, StepFits};
 ghost use Rattle.bench_model.specs.Session.{step_of, outcome_at};
 ghost use Rattle.bench_types.specs.Reply.{shown};
 ghost use Rattle.bench_types.specs.Limits.{max_cores, max_notes, max_tasks};
-ghost use Rattle.bench_model.specs.Table.{stamp_queues, advance, add_to_ready_list, is_ready, goes_before, pick, row_at, stamp_of, tasks_of, wakes_at};
+ghost use Rattle.bench_model.specs.Table.{stamp_queues, advance, add_to_ready_list, ahead, is_ready, goes_before, pick, restamped, row_at, stamp_of, tasks_of, wakes_at};
+ghost use Rattle.bench_model.specs.Waiters.{without_waiter};
 ghost use Rattle.list_orders.specs.Search.{is_best, numbers};
 ghost use Rattle.bench_model.specs.Start.{first_look, ready_row, idle_control, user_control, first_control, first_stamps, unstarted, start};
 ghost use Rattle.slow_replay.specs.SlowDue.{first_due};
@@ -26,8 +28,8 @@ mod sets;
 use bench_model::until::{is_ahead, next_wake};
 use bench_model::{TaskRow, TaskState};
 use bench_types::{
-    BlockingCall, Call, CoreLook, Header, Hold, MutexWait, NoteState, Notification, Refusal, Reply,
-    Row, Settings, Step, TaskArgs, TaskControl, Unfinished, cores_of_mask,
+    BlockingCall, Call, CoreLook, Header, Hold, NoteState, Notification, Refusal, Reply, Row,
+    Settings, Step, TaskArgs, TaskControl, Unfinished, Waiter, cores_of_mask,
 };
 use std::alloc::{AllocError, Global};
 use std::marker::Model;
@@ -43,6 +45,7 @@ struct SlowTable {
     holders: Vec<Option<u32>>,
     hold: Option<Hold>,
     rows: Vec<TaskRow>,
+    waiters: Vec<Waiter>,
     deadlines: Vec<Option<u128>>,
     tick: u128,
     next: u128,
@@ -60,6 +63,7 @@ impl Drop for SlowTable {
             holders: _,
             hold: _,
             rows: _,
+            waiters: _,
             deadlines: _,
             tick: _,
             next: _,
@@ -83,6 +87,7 @@ impl Model for SlowTable {
       hold = t.hold;
       orders = record {
         rows = t.rows.items;
+        waiters = t.waiters.items;
         deadlines = t.deadlines.items;
         tick = t.tick;
         next = t.next;
@@ -201,11 +206,8 @@ impl SlowTable {
         ensures { result ≡ wakes_at self.now.orders.tick (row_at self.now.orders task).standing }
     {
         match self.rows[task as usize].standing {
-            TaskState::Ready | TaskState::Blocked { wake: None, .. } => false,
-            TaskState::Blocked {
-                wake: Some(wake),
-                ..
-            } => wake == self.tick,
+            TaskState::Ready | TaskState::Blocked { wake: None } => false,
+            TaskState::Blocked { wake: Some(wake) } => wake == self.tick,
         }
     }
 
@@ -229,6 +231,17 @@ impl SlowTable {
         self.task_numbers().find(|task| self.is_first_due(*task))
     }
 
+    // The task waits for no mutex any more.
+    fn leave(&mut self, task: u32)
+        ensures { self.new ≡ record self.old {
+          orders = record self.old.orders {
+            waiters = without_waiter task self.old.orders.waiters;
+          };
+        } }
+    {
+        forget(&mut self.waiters, task);
+    }
+
     #[tactic(auto, unfolding(bench_model::specs::Table::add_to_ready_list))]
     fn add_to_ready_list(&mut self, task: u32)
         requires task { task < length self.old.orders.rows }
@@ -239,6 +252,7 @@ impl SlowTable {
         ensures stamps { self.new.orders.next ≡ self.old.orders.next + 1 }
         ensures tick { self.new.orders.tick ≡ self.old.orders.tick }
     {
+        self.leave(task);
         self.rows[task as usize] = TaskRow {
             stamp: self.next,
             standing: TaskState::Ready,
@@ -337,31 +351,47 @@ impl SlowTable {
         self.slice();
     }
 
-    #[tactic(auto, unfolding(bench_model::specs::State::blocked, bench_model::specs::State::yielded, bench_model::specs::Table::delay))]
-    fn block(
-        &mut self,
-        core: u32,
-        task: u32,
-        call: Unfinished,
-        ticks: Option<u32>,
-        wait: Option<MutexWait>,
-    )
+    // The tick count so many ticks from now.
+    fn ahead(&self, ticks: Option<u32>) -> Option<u128>
+        requires { self.now.orders.tick + 2 ^ 32 < 2 ^ 128 }
+        ensures { result ≡ ahead self.now.orders ticks }
+    {
+        let tick = self.tick;
+        ticks.map(|ticks| tick + u128::from(ticks))
+    }
+
+    // The task waits in its call until the tick count, at no mutex so far.
+    #[tactic(auto, unfolding(bench_model::specs::State::yielded))]
+    fn stand(&mut self, core: u32, task: u32, call: Unfinished, wake: Option<u128>)
+        requires core { core < length self.old.control.cores }
+        requires task { task < length self.old.orders.rows }
+        requires room { self.old.orders.next + 1 < 2 ^ 128 }
+        ensures { self.new ≡ record self.old {
+          control = ask core core self.old.control;
+          calls = slice_set self.old.calls task (Some call);
+          orders = restamped task (Blocked wake) self.old.orders;
+        } }
+    {
+        self.rows[task as usize] = TaskRow {
+            stamp: self.next,
+            standing: TaskState::Blocked { wake },
+        };
+        self.next += 1;
+        self.calls[task as usize] = Some(call);
+        self.ask_itself(core);
+    }
+
+    #[tactic(auto, unfolding(bench_model::specs::State::blocked, bench_model::specs::Table::delay))]
+    fn block(&mut self, core: u32, task: u32, call: Unfinished, ticks: Option<u32>)
         requires core { core < length self.old.control.cores }
         requires task { task < length self.old.orders.rows }
         requires room { self.old.orders.next + 1 < 2 ^ 128 }
         requires time { self.old.orders.tick + 2 ^ 32 < 2 ^ 128 }
-        ensures { self.new ≡ blocked stamp_queues core task call ticks wait self.old }
+        ensures { self.new ≡ blocked stamp_queues core task call ticks None self.old }
     {
-        let tick = self.tick;
-        let wake = ticks.map(|ticks| tick + u128::from(ticks));
-        self.rows[task as usize] = TaskRow {
-            stamp: self.next,
-            standing: TaskState::Blocked { wake, wait },
-        };
-        self.next += 1;
-        self.deadlines[task as usize] = if wait.is_some() { wake } else { None };
-        self.calls[task as usize] = Some(call);
-        self.ask_itself(core);
+        let wake = self.ahead(ticks);
+        self.stand(core, task, call, wake);
+        self.deadlines[task as usize] = None;
     }
 
     #[tactic(auto, unfolding(bench_model::specs::Steps::called))]
@@ -377,7 +407,7 @@ impl SlowTable {
             return Reply::Done;
         }
         let call = Unfinished::Made(BlockingCall::Delay(ticks));
-        self.block(core, task, call, Some(ticks), None);
+        self.block(core, task, call, Some(ticks));
         Reply::Blocked
     }
 
@@ -394,7 +424,7 @@ impl SlowTable {
         let delayed = is_ahead(now, prev, wake);
         if delayed {
             let call = Unfinished::Made(BlockingCall::DelayUntil { prev, inc });
-            self.block(core, task, call, Some(wake.wrapping_sub(now)), None);
+            self.block(core, task, call, Some(wake.wrapping_sub(now)));
         } else {
             self.ask_itself(core);
         }
@@ -402,14 +432,15 @@ impl SlowTable {
     }
 
     #[tactic(auto, unfolding(bench_model::specs::Steps::called))]
-    fn call(&mut self, core: u32, task: u32, call: Call) -> Reply
+    fn call(&mut self, alloc: Global, core: u32, task: u32, call: Call) -> Result<Reply, AllocError>
         requires sound { IsSound self.old }
         requires core { core < length self.old.control.cores }
         requires task { task < length self.old.orders.rows }
         requires checked { call_check self.old.settings call ≡ Ok tt }
         requires room { self.old.orders.next + 2 < 2 ^ 128 }
         requires time { self.old.orders.tick + 2 ^ 32 < 2 ^ 128 }
-        ensures { (result, self.new) ≡ called stamp_queues core task call self.old }
+        ensures { IfOk result
+            (λ reply. (reply, self.new) ≡ called stamp_queues core task call self.old) }
     {
         match call {
             Call::Yield => self.ask_itself(core),
@@ -417,66 +448,69 @@ impl SlowTable {
             Call::AffinitySet { task, mask } => self.set_affinity(core, task, mask),
             Call::PreemptOff(task) => self.preempt_off(task),
             Call::PreemptOn(task) => self.preempt_on(core, task),
-            Call::Delay(ticks) => return self.delay(core, task, ticks),
-            Call::DelayUntil { prev, inc } => return self.delay_until(core, task, prev, inc),
-            Call::Finish => return self.finish(core, task),
+            Call::Delay(ticks) => return Ok(self.delay(core, task, ticks)),
+            Call::DelayUntil { prev, inc } => return Ok(self.delay_until(core, task, prev, inc)),
+            Call::Finish => return self.finish(alloc, core, task),
             Call::HoldOpen => self.open_hold(core),
             Call::HoldClose => self.close_hold(core),
-            Call::Notify(note) => return Reply::Flag(self.notify(core, note)),
+            Call::Notify(note) => return Ok(Reply::Flag(self.notify(core, note))),
             Call::NotifyWait {
                 entry,
                 exit,
                 ticks,
                 index,
-            } => return self.wait(core, task, entry, exit, ticks, index),
+            } => return Ok(self.wait(core, task, entry, exit, ticks, index)),
             Call::NotifyTake {
                 clear,
                 ticks,
                 index,
-            } => return self.take_note(core, task, clear, ticks, index),
-            Call::StateClear { task, index } => return self.clear_state(task, index),
-            Call::ValueClear { task, bits, index } => return self.clear_value(task, bits, index),
-            Call::MutexTake { mutex, ticks } => return self.take(core, task, mutex, ticks),
-            Call::MutexGive(mutex) => return self.give(core, task, mutex),
+            } => return Ok(self.take_note(core, task, clear, ticks, index)),
+            Call::StateClear { task, index } => return Ok(self.clear_state(task, index)),
+            Call::ValueClear { task, bits, index } => {
+                return Ok(self.clear_value(task, bits, index));
+            }
+            Call::MutexTake { mutex, ticks } => return self.take(alloc, core, task, mutex, ticks),
+            Call::MutexGive(mutex) => return Ok(self.give(core, task, mutex)),
         }
-        Reply::Done
+        Ok(Reply::Done)
     }
 
     #[tactic(auto, unfolding(bench_model::specs::Steps::performed))]
-    fn perform(&mut self, step: &Step) -> Reply
+    fn perform(&mut self, alloc: Global, step: &Step) -> Result<Reply, AllocError>
         requires sound { IsSound self.old }
         requires fits { StepFits self.old step.now }
         requires checked { step_check self.old.settings step.now ≡ Ok tt }
         requires room { self.old.orders.next + length self.old.orders.rows + 1 < 2 ^ 128 }
         requires time { self.old.orders.tick + 2 ^ 32 < 2 ^ 128 }
-        ensures { (result, self.new) ≡ performed stamp_queues step.now self.old }
+        ensures { IfOk result
+            (λ reply. (reply, self.new) ≡ performed stamp_queues step.now self.old) }
     {
         match *step {
             Step::Tick => {
                 self.advance();
-                Reply::Done
+                Ok(Reply::Done)
             }
             Step::Switch { core } => {
                 self.switch(core);
-                Reply::Done
+                Ok(Reply::Done)
             }
-            Step::Call { core, task, call } => self.call(core, task, call),
-            Step::Interrupt { core, note } => self.interrupt(core, note),
+            Step::Call { core, task, call } => self.call(alloc, core, task, call),
+            Step::Interrupt { core, note } => Ok(self.interrupt(core, note)),
         }
     }
 
     #[tactic(auto, unfolding(bench_model::specs::Steps::after))]
-    fn step(&mut self, step: Step) -> Reply
+    fn step(&mut self, alloc: Global, step: Step) -> Result<Reply, AllocError>
         requires sound { IsSound self.old }
         requires checked { step_check self.old.settings step ≡ Ok tt }
         requires room { self.old.orders.next + length self.old.orders.rows + 1 < 2 ^ 128 }
         requires time { self.old.orders.tick + 2 ^ 32 < 2 ^ 128 }
-        ensures outcome { (result, self.new) ≡ step_of step self.old }
+        ensures outcome { IfOk result (λ reply. (reply, self.new) ≡ step_of step self.old) }
         ensures words { IsStepOfWords step }
     {
         match self.refusal(&step) {
-            Some(why) => Reply::Refused(why),
-            None => self.perform(&step),
+            Some(why) => Ok(Reply::Refused(why)),
+            None => self.perform(alloc, &step),
         }
     }
 
@@ -546,6 +580,19 @@ fn no_holders(alloc: Global, mutexes: u32) -> Result<Vec<Option<u32>>, AllocErro
     ensures { IfOk result (λ holders. holders.items ≡ replicate mutexes None) }
 {
     vec![in alloc; None; mutexes as usize]
+}
+
+// None of the waiters is the task any more.
+fn forget(waiters: &mut Vec<Waiter>, task: u32)
+    ensures { waiters.new.items ≡ without_waiter task waiters.old.items }
+{
+    waiters.retain(|waiter| waiter.task != task);
+}
+
+fn no_waiters(alloc: Global) -> Vec<Waiter>
+    ensures { result.items ≡ [] }
+{
+    Vec::new(alloc)
 }
 
 fn no_deadlines(alloc: Global, tasks: u32) -> Result<Vec<Option<u128>>, AllocError>
@@ -631,6 +678,7 @@ fn unstarted(alloc: Global, header: &Header) -> Result<SlowTable, AllocError>
     let notes = no_notes(alloc, settings.tasks * settings.notes)?;
     let holders = no_holders(alloc, settings.mutexes)?;
     let rows = first_rows(alloc, settings.cores, users)?;
+    let waiters = no_waiters(alloc);
     let deadlines = no_deadlines(alloc, settings.tasks)?;
     Ok(SlowTable {
         settings,
@@ -641,6 +689,7 @@ fn unstarted(alloc: Global, header: &Header) -> Result<SlowTable, AllocError>
         holders,
         hold: None,
         rows,
+        waiters,
         deadlines,
         tick: u128::from(header.config.tick),
         next: u128::from(settings.tasks),
@@ -681,7 +730,7 @@ pub fn replay_slow(
     let mut table = start(alloc, header)?;
     let mut outcomes = Vec::with_capacity(alloc, steps.len())?;
     for step in steps {
-        let reply = table.step(*step);
+        let reply = table.step(alloc, *step)?;
         let row = table.row(alloc)?;
         outcomes.push((reply, row))?;
     }

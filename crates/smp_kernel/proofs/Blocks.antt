@@ -11,10 +11,11 @@ use Rattle.bench_types.specs.declared.step.Unfinished.TheVariants.{Take}
 use Rattle.list_orders.specs.Search.{placed, without, has}
 use Rattle.bench_model.specs.Control.{task_at, ask}
 use Rattle.bench_model.specs.State.{blocked}
-use Rattle.bench_model.specs.Lists.{list_queues, wakes_first, waits_first, delay}
+use Rattle.bench_model.specs.Lists.{list_queues, wakes_first, delay}
+use Rattle.bench_model.specs.Waiters.{waits_first}
 use Rattle.bench_model.specs.Cores.{cores_rule}
 use Rattle.bench_model.specs.Mutexes.{is_marked, inherited, waited_at}
-use Rattle.bench_model.specs.MutexParts.{wait_of}
+use Rattle.bench_model.specs.Waiters.{wait_of}
 use Rattle.smp_kernel.specs.Kernel.{IsDisjoint, Parts, kernel_view, IsKernelShape, delayed_task, waiting_task}
 use Rattle.smp_kernel.proofs.Sizes.{reshaped}
 use Rattle.smp_kernel.proofs.CoreMoves.{with_cores, inherit_seen, inherit_shape}

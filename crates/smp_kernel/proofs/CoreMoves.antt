@@ -15,7 +15,8 @@ use Rattle.bench_model.specs.Mutexes.{inherited, after_disinherit}
 use Rattle.bench_model.specs.Steps.{woken}
 use Rattle.bench_model.specs.ControlFields.{with_in_use, in_use_set}
 use Rattle.bench_model.specs.Cores.{CoresView, cores_of, bare_view, cores_rule}
-use Rattle.bench_model.specs.Lists.{Lists, View, list_queues, outranks, pick, add_to_ready_list, without_waiter, without_delay}
+use Rattle.bench_model.specs.Lists.{Lists, View, list_queues, outranks, pick, add_to_ready_list, without_delay}
+use Rattle.bench_model.specs.Waiters.{without_waiter}
 use Rattle.order_laws.proofs.SoundSteps.{IsAskedMore}
 use Rattle.rule_laws.proofs.Seeks.{seek_more, each_more}
 use Rattle.smp_kernel.specs.Kernel.{IsDisjoint, Parts, kernel_view, IsKernelShape, delayed_task, waiting_task}

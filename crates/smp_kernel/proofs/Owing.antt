@@ -10,7 +10,8 @@ use Rattle.bench_model.specs.Control.{task_at}
 use Rattle.bench_model.specs.State.{holder_at}
 use Rattle.bench_model.specs.Seek.{wake}
 use Rattle.bench_model.specs.Cores.{CoresView, cores_rule}
-use Rattle.bench_model.specs.Lists.{View, list_queues, first_of, first_waiter}
+use Rattle.bench_model.specs.Lists.{View, list_queues, first_waiter}
+use Rattle.bench_model.specs.Waiters.{first_of}
 use Rattle.bench_model.specs.Mutexes.{held_by, disinherit_priority, after_disinherit, timed_out, disinherited, first_woken, mutex_give}
 use Rattle.smp_kernel.specs.Kernel.{Parts, kernel_view, IsKernelShape}
 use Rattle.smp_kernel.proofs.Sizes.{reshaped, sizes_of}

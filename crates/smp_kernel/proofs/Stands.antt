@@ -39,7 +39,8 @@ use Rattle.bench_model.specs.Looks.{task_look, look_in}
 use Rattle.bench_model.specs.Steps.{woken, ticked, delayed_until, called, performed, after, after_finish}
 use Rattle.bench_model.specs.Table.{Stamps, Table, row_at, stamp_of, is_ready, wake_in, wakes_at, due}
 use Rattle.bench_model.specs.Lists as seen
-use Rattle.bench_model.specs.Lists.{Lists, View, list_queues, lists_of, view_of, first_of, due_tasks}
+use Rattle.bench_model.specs.Lists.{Lists, View, list_queues, lists_of, view_of, due_tasks}
+use Rattle.bench_model.specs.Waiters.{first_of}
 use Rattle.bench_model.specs.Lists.{seen_of}
 use Rattle.bench_model.specs.Sound.{IsConsistent, IsSound, WakesInTime}
 use Rattle.bench_model.specs.Session.{step_of}
@@ -58,8 +59,8 @@ not_yet stamps in_time i low = at (row_at stamps i).standing refl
   where
     at : (s : TaskState) → (row_at stamps i).standing ≡ s → wakes_at stamps.tick s ≡ false
     at standing.Ready ready = refl
-    at (standing.Blocked None wait) waits = refl
-    at (standing.Blocked (Some wake) wait) waits = grind (arith, nat_tests, (in_time i wake low (ap wake_in waits)).0)
+    at (standing.Blocked None) waits = refl
+    at (standing.Blocked (Some wake)) waits = grind (arith, nat_tests, (in_time i wake low (ap wake_in waits)).0)
 
 none_due : (stamps : Stamps) → WakesInTime stamps → due stamps ≡ []
 unfolding due

@@ -21,7 +21,7 @@ use Rattle.bench_types.specs.declared.step.BlockingCall.{BlockingCall}
 use Rattle.bench_types.specs.declared.step.BlockingCall.TheVariants as blocking
 use Rattle.bench_types.specs.declared.step.Unfinished.{Unfinished}
 use Rattle.bench_types.specs.declared.step.Unfinished.TheVariants.{Made, Take}
-use Rattle.bench_types.proofs.Passes.{checked_task, noted_task}
+use Rattle.bench_types.proofs.Passes.{checked_mutex, checked_task, noted_task}
 use Rattle.bench_types.specs.Step.{core_of, IsCheckedCall, IsCheckedStep}
 use Rattle.bench_model.specs.Control.{Control, current, in_mask, running, task_at}
 use Rattle.bench_model.specs.ControlFields.{in_use_set}
@@ -231,7 +231,8 @@ called_currents core task (NotifyTake clear ticks index) table sound place check
 called_currents core task (StateClear other index) table sound place checked = (forgotten_undisturbed other index table).currents
 called_currents core task (ValueClear other bits index) table sound place checked = (bits_undisturbed other bits index table).currents
 called_currents core task (MutexTake mutex ticks) table sound place checked = take_currents core task mutex ticks table place.0
-called_currents core task (MutexGive mutex) table sound place checked = (give_undisturbed core task mutex table place.2).currents
+called_currents core task (MutexGive mutex) table sound place checked = (give_undisturbed core task mutex table sound place.2
+    (checked_mutex table.settings mutex checked.passes)).currents
 called_currents core task HoldOpen table sound place checked = λ c. refl
 called_currents core task HoldClose table sound place checked = λ c. refl
 

@@ -32,7 +32,7 @@ use Rattle.bench_model.specs.Table.{Table, stamp_queues, is_ready, stands_ready,
 use Rattle.bench_model.specs.Sound.{IsCaller, IsConsistent, IsHeldWell}
 use Rattle.std.proofs.lemmas.Bool.{true_from_ne_false}
 use Rattle.std.proofs.lemmas.Option.{same_Some}
-use Rattle.bench_types.proofs.Passes.{both_pass, checked_core, checked_task, noted_index, noted_task}
+use Rattle.bench_types.proofs.Passes.{both_pass, checked_core, checked_mutex, checked_task, noted_index, noted_task}
 use Rattle.bench_types.specs.Step.{IsCheckedStep, IsCheckedCall, step_check, core_check, note_check, task_check, call_check, ◌>>◌}
 use Rattle.bench_types.specs.Limits.{max_depth}
 use Rattle.bench_model.specs.Notes.{wait_entered, take_entered, of_slot, slot_of}
@@ -164,7 +164,8 @@ calm core task (NotifyTake clear ticks index) table sound place checked begins k
 calm core task (StateClear other index) table sound place checked begins keeps goes = forgotten_undisturbed other index table
 calm core task (ValueClear other bits index) table sound place checked begins keeps goes = bits_undisturbed other bits index table
 calm core task (MutexTake mutex ticks) table sound place checked begins keeps goes = take_undisturbed core task mutex ticks table goes
-calm core task (MutexGive mutex) table sound place checked begins keeps goes = give_undisturbed core task mutex table place.2
+calm core task (MutexGive mutex) table sound place checked begins keeps goes = give_undisturbed core task mutex table sound place.2
+    (checked_mutex table.settings mutex checked.passes)
 calm core task HoldOpen table sound place checked begins keeps goes = absurd (cc (keeps))
 calm core task HoldClose table sound place checked begins keeps goes = absurd (cc (keeps))
 
@@ -357,7 +358,7 @@ held_after (steps.Call core task call) table sound checked none =
 blocked_waits : (core task : ℕ) (call : Unfinished) (ticks : Option ℕ) (wait : Option MutexWait) (table : Table) → task < length table.orders.rows → is_ready
     task (blocked stamp_queues core task call ticks wait table).orders ≡ false
 unfolding blocked delay
-blocked_waits core task call ticks wait table below = ap stands_ready (standing_same table.orders task (standings.Blocked (ahead table.orders ticks) wait)
+blocked_waits core task call ticks wait table below = ap stands_ready (standing_same table.orders task (standings.Blocked (ahead table.orders ticks))
     below)
 
 -- a call that begins, where it blocks its task and where it doesn't

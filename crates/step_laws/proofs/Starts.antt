@@ -23,15 +23,16 @@ use Rattle.list_orders.specs.Search.{numbers, by_stamp, ranked}
 use Rattle.bench_model.specs.Control.{core_at, current}
 use Rattle.bench_model.specs.State.{call_at}
 use Rattle.bench_model.specs.Seek.{after_switch}
-use Rattle.bench_model.specs.Table.{Stamps, Table, stamp_queues, row_at, stamp_of, is_ready, stands_ready, wake_in, wait_in, deadline_at, waiter_of}
-use Rattle.bench_model.specs.Lists.{list_queues, lists_of, delayed_of, outranks, wakes_first, waits_first, view_of}
-use Rattle.bench_model.specs.Sound.{IsStamped, HasCurrentTasks, WakesInTime, HasWords, HasMutexes, IsConsistent, IsSound}
+use Rattle.bench_model.specs.Table.{Stamps, Table, stamp_queues, row_at, stamp_of, is_ready, stands_ready, wake_in, deadline_at}
+use Rattle.bench_model.specs.Lists.{list_queues, lists_of, delayed_of, outranks, wakes_first, view_of}
+use Rattle.bench_model.specs.Sound.{IsStamped, HasCurrentTasks, WakesInTime, HasWords, HasMutexes, IsConsistent, IsSound, IsWaiter}
 use Rattle.bench_model.specs.Start.{first_look, first_control, ready_row, first_stamps, first_lists, unstarted, started, start, start_seen}
 use Rattle.list_orders.proofs.Filters.{All-weaker}
 use Rattle.step_laws.proofs.Nears.{turned_hold}
 use Rattle.list_orders.proofs.Stamped.{numbers_below, by_stamp_listed, by_stamp_none, range_parts}
 use Rattle.order_laws.proofs.Restamps.{standing_so, waits}
-use Rattle.order_laws.proofs.SeenMoves.{same_seen, deadline_from, queues}
+use Rattle.bench_model.specs.Turns.{AreInTurn}
+use Rattle.order_laws.proofs.SeenMoves.{same_seen, deadline_from}
 use Rattle.order_laws.proofs.SeenSteps.{same_state}
 use Rattle.rule_laws.proofs.Seeks.{after_switch_seen, after_switch_sound, after_switch_length}
 
@@ -162,7 +163,7 @@ module _ (header : Header) where
       (ap (ranked (outranks (first_control header))) ready_first)
       refl
       (ap (λ ids. ranked wakes_first (map (delayed_of first) ids)) (none_first waits refl))
-      (ap (λ ids. ranked waits_first (map (waiter_of first) ids)) (none_first queues refl))
+      refl
       (no_deadlines first.tick (cores + users))
 
   pub first_cores : length (first_control header).cores ≡ cores
@@ -197,10 +198,19 @@ module _ (header : Header) where
   unfolding first_stamps
   first_deadlines = length-replicate (cores + users) None
 
+  no_waiters : AllByRecursion (IsWaiter (settings_of header) first) first.waiters
+  unfolding first_stamps
+  no_waiters = tt
+
+  no_turns : AreInTurn first first.waiters
+  unfolding first_stamps
+  no_turns = tt
+
   first_mutexes : HasMutexes (settings_of header) (replicate (cores + users) None) (replicate header.config.mutexes None) first
   first_mutexes = record {
     held_by_tasks = λ mutex task held. absurd (cc (none_at {A = ℕ} header.config.mutexes mutex, held));
-    waits = λ i wait low waits. absurd (cc (ap wait_in (standing_first i (omega (arith, first_length))), waits));
+    waits = no_waiters;
+    turns = no_turns;
     deadlines = λ i deadline has. absurd (cc (first_deadline i, has));
   }
 

@@ -24,13 +24,14 @@ use Rattle.bench_model.specs.Notes.{note_at, is_waiting, notified, slot_of}
 use Rattle.bench_model.specs.Notifying.{timeout_of, notify, completed, awaited, state_forgotten, bits_cleared}
 use Rattle.bench_model.specs.Seek.{seek, wake, shares_its_time, sliced}
 use Rattle.bench_model.specs.PriorityAffinity.{capped, in_use_after, yields_after_priority_set, priority_set, affinity_set, preemption_off, preemption_on}
-use Rattle.bench_model.specs.Sound.{IsHeldWell}
+use Rattle.bench_model.specs.Sound.{IsConsistent, IsHeldWell, IsWaiter}
 use Rattle.bench_model.specs.State.{call_at, holder_at, yielded, blocked}
 use Rattle.bench_model.specs.Steps.{woken, ticked, delayed_until}
 use Rattle.bench_model.specs.Until.{next_wake, is_ahead, ticks_to}
 use Rattle.bench_model.specs.Table.{Table, stamp_queues, is_ready, add_to_ready_list, tick_count, advance, due, first_waiter}
 use Rattle.rule_laws.proofs.Awaiting.{completed_notes}
-use Rattle.order_laws.proofs.FirstWaiters.{first_waiter_waits}
+use Rattle.order_laws.proofs.FirstWaiters.{first_waiter_all}
+use Rattle.rule_laws.proofs.Mutexes.{lower_sound}
 use Rattle.list_orders.proofs.Filters.{All-weaker}
 use Rattle.rule_laws.proofs.Seeks.{seek_more, each_more}
 use Rattle.order_laws.proofs.SeenSteps.{due_below}
@@ -216,19 +217,20 @@ disinherited_undisturbed core task table below =
     either_undisturbed table _ table (eqb (held_by table.holders task) 0) (after_disinherit_undisturbed core task (task_at table.control task).base table below)
     (undisturbed table)
 
-first_woken_undisturbed : (acting mutex : ℕ) (table : Table) → IsUndisturbed table (first_woken stamp_queues acting mutex table)
+first_woken_undisturbed : (acting mutex : ℕ) (table : Table) → IsConsistent table → IsUndisturbed table (first_woken stamp_queues acting mutex table)
 unfolding first_woken
-first_woken_undisturbed acting mutex table = at (first_waiter mutex table.orders) refl
+first_woken_undisturbed acting mutex table sound = at (first_waiter mutex table.orders) refl
   where
     at : (first : Option Waiter) → first_waiter mutex table.orders ≡ first → IsUndisturbed table
         (option_map_or (λ (waiter : Waiter). wake stamp_queues acting waiter.task table) first table)
     at None same = undisturbed table
-    at (Some waiter) same = wake_undisturbed acting waiter.task table (first_waiter_waits mutex table.orders waiter same).0
+    at (Some waiter) same = wake_undisturbed acting waiter.task table
+        (first_waiter_all (IsWaiter table.settings table.orders) mutex table.orders waiter sound.mutexes.waits same).0
 
-pub give_undisturbed : (core task mutex : ℕ) (table : Table) → task < length table.orders.rows → IsUndisturbed table
-    (mutex_give stamp_queues core task mutex table).1
+pub give_undisturbed : (core task mutex : ℕ) (table : Table) → IsConsistent table → task < length table.orders.rows → mutex < table.settings.mutexes →
+    IsUndisturbed table (mutex_give stamp_queues core task mutex table).1
 unfolding mutex_give
-give_undisturbed core task mutex table below = at (holder_at table.holders mutex)
+give_undisturbed core task mutex table sound below there = at (holder_at table.holders mutex)
   where
     freed : Table
     freed = record table { holders = slice_set table.holders mutex None }
@@ -241,7 +243,7 @@ give_undisturbed core task mutex table below = at (holder_at table.holders mutex
     at (Some holder) =
         undisturbed_then table lower _
         (undisturbed_then table freed lower (holders_undisturbed table _) (disinherited_undisturbed core task freed below))
-        (first_woken_undisturbed core mutex lower)
+        (first_woken_undisturbed core mutex lower (lower_sound table core task mutex sound (omega (arith, sound.sized.rows)) there))
 
 -- calls that end at once
 pub yielded_undisturbed : (core : ℕ) (table : Table) → core < length table.control.cores → IsUndisturbed table (yielded stamp_queues core table)

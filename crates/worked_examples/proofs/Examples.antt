@@ -1,11 +1,12 @@
 -- The worked sessions and the equal tables, computed on the definitions.
-use Rattle.std.proofs.Common.{◌≡◌, ℕ, ◌+◌, ◌-◌, ◌*◌, ◌<◌, ◌^◌, Option, Some, None, refl, sym, ap, ◌∙◌, arith}
+use Rattle.std.proofs.Common.{◌≡◌, ℕ, ◌+◌, ◌-◌, ◌*◌, ◌<◌, ◌^◌, List, [], ◌∷◌, Option, Some, None, refl, sym, ap, ◌∙◌, arith}
 use Rattle.std.specs.Prelude.{option_map}
 use Rattle.std.proofs.Math.ListN.{get_or-map}
+use Rattle.bench_types.specs.declared.kernel_data.Waiter.{Waiter}
 use Rattle.bench_model.specs.declared.row.TaskState.{TaskState}
 use Rattle.bench_model.specs.declared.row.TaskState.TheVariants.{Ready, Blocked}
 use Rattle.bench_model.specs.declared.row.TaskRow.{TaskRow}
-use Rattle.bench_model.specs.Alike.{SamePairwise, InOneReadyList, AreDelayedTogether, InOneWaitQueue, SameOrder}
+use Rattle.bench_model.specs.Alike.{SamePairwise, InOneReadyList, AreDelayedTogether, SameOrder}
 use Rattle.list_orders.specs.Search.{best, by_stamp, placed, ranked}
 use Rattle.bench_model.specs.Control.{runs_on}
 use Rattle.bench_model.specs.Refusals.{refusal}
@@ -13,7 +14,7 @@ use Rattle.bench_model.specs.State.{after_select, yielded, blocked}
 use Rattle.bench_model.specs.Notifying.{completed}
 use Rattle.bench_model.specs.Steps.{ticked, called, performed, after, after_finish}
 use Rattle.bench_model.specs.Seek.{core_to_yield, seek, wake, after_eviction, after_switch, sliced}
-use Rattle.bench_model.specs.Table.{Table, row_at, stamp_of, stands_ready, wake_in, wait_in, deadline_at, deadline_left, pick, add_to_ready_list, delay}
+use Rattle.bench_model.specs.Table.{Table, row_at, stamp_of, stands_ready, wake_in, deadline_at, deadline_left, pick, add_to_ready_list, delay}
 use Rattle.bench_model.specs.Table.{advance, due, forget_deadline}
 use Rattle.bench_model.specs.Lists.{View, lists_of}
 use Rattle.bench_model.specs.Start.{first_stamps, unstarted, started}
@@ -62,11 +63,7 @@ stamp_so table i = ap (λ (r : TaskRow). r.stamp) (row_so table i)
 
 ready_so : (standing : TaskState) → stands_ready standing ≡ stands_ready (wake_later standing)
 ready_so Ready = refl
-ready_so (Blocked wake wait) = refl
-
-wait_so : (standing : TaskState) → wait_in standing ≡ wait_in (wake_later standing)
-wait_so Ready = refl
-wait_so (Blocked wake wait) = refl
+ready_so (Blocked wake) = refl
 
 left_so : (tick : ℕ) (end : Option ℕ) → option_map (λ end. end - tick) end ≡ option_map (λ end. end - (tick + 2 ^ 32)) (option_map (λ end. end + 2 ^ 32) end)
 left_so tick None = refl
@@ -77,7 +74,7 @@ left_so tick (Some end) =
 wake_so : (tick : ℕ) (standing : TaskState) → option_map (λ wake. wake - tick) (wake_in standing) ≡ option_map (λ wake. wake - (tick + 2 ^ 32))
     (wake_in (wake_later standing))
 wake_so tick Ready = refl
-wake_so tick (Blocked wake wait) = left_so tick wake
+wake_so tick (Blocked wake) = left_so tick wake
 
 came_so : (together : Table → ℕ → ℕ → Type 0) (table : Table) → SameOrder together table (later table)
 came_so together table i j low below stand = (
@@ -99,17 +96,20 @@ alike_later table = let tick = table.orders.tick in record {
   ready = λ i low. ready_so (row_at table.orders i).standing ∙ sym (ap (λ (r : TaskRow). stands_ready r.standing) (row_so table i));
   left = λ i low. wake_so tick (row_at table.orders i).standing ∙ sym (ap (λ (r : TaskRow). option_map (λ wake. wake - (tick + 2 ^ 32)) (wake_in r.standing))
       (row_so table i));
-  waits = λ i low. wait_so (row_at table.orders i).standing ∙ sym (ap (λ (r : TaskRow). wait_in r.standing) (row_so table i));
+  waiters = refl;
   deadlines = λ i low. left_so tick (deadline_at table.orders i) ∙ sym (ap (option_map (λ end. end - (tick + 2 ^ 32)))
       (get_or-map (option_map (λ end. end + 2 ^ 32)) table.orders.deadlines i None));
   ready_order = came_so InOneReadyList table;
   delay_order = came_so AreDelayedTogether table;
-  queue_order = came_so InOneWaitQueue table;
 }
 
 -- of two stamps the lesser is not the greater too
 crossed : (m n : ℕ) → m < n → (m < n → n < m) → ⊥
 crossed m n first other = omega (arith, first, other first)
+
+abbrev first_waiting : List Waiter → ℕ
+first_waiting [] = 0
+first_waiting (waiter ∷ waiters) = waiter.task
 
 pub alike_tables : AlikeTables
 unfolding computed
@@ -117,5 +117,5 @@ alike_tables = record {
   other_stamps = alike_later;
   other_ready_order = λ alike. crossed 1 2 (omega arith) (alike.ready_order 3 4 (omega arith) (omega arith) (refl, refl, refl)).0;
   other_delay_order = λ alike. crossed 7 8 (omega arith) (alike.delay_order 3 4 (omega arith) (omega arith) (refl, refl)).0;
-  other_queue_order = λ alike. crossed 7 8 (omega arith) (alike.queue_order 3 4 (omega arith) (omega arith) (refl, refl)).0;
+  other_queue_order = λ alike. omega (arith, ap first_waiting alike.waiters);
 }

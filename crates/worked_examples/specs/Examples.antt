@@ -1,5 +1,5 @@
 -- Worked sessions, without time slicing and with it, and tables that are equal or not.
-use Rattle.std.specs.Prelude.{◌≡◌, ℕ, ◌+◌, ◌*◌, ◌^◌, List, Bool, [], ◌∷◌, length, map, Option, Some, None, option_map, true, false, codes, slice_set}
+use Rattle.std.specs.Prelude.{◌≡◌, ℕ, ◌+◌, ◌*◌, ◌^◌, List, Bool, [], ◌∷◌, length, map, Option, Some, None, option_map, reverse, true, false, codes, slice_set}
 use Rattle.bench_types.specs.declared.header.Header.{Header}
 use Rattle.bench_types.specs.declared.header.TaskArgs.{TaskArgs}
 use Rattle.bench_types.specs.declared.kernel_data.Delayed.{Delayed}
@@ -137,7 +137,7 @@ waiting = state_at three_tasks (Call 0 2 (Delay 2) ∷ []) 1
 -- one turn of the tick count later, every stamp twice what it was
 abbrev pub wake_later : TaskState → TaskState
 wake_later Ready = Ready
-wake_later (Blocked wake wait) = Blocked (option_map (λ wake. wake + 2 ^ 32) wake) wait
+wake_later (Blocked wake) = Blocked (option_map (λ wake. wake + 2 ^ 32) wake)
 
 abbrev pub row_later : TaskRow → TaskRow
 row_later row = record { stamp = 2 * row.stamp; standing = wake_later row.standing }
@@ -148,6 +148,7 @@ later table =
     record table {
       orders = record {
         rows = map row_later stamps.rows;
+        waiters = stamps.waiters;
         deadlines = map (option_map (λ deadline. deadline + 2 ^ 32)) stamps.deadlines;
         tick = stamps.tick + 2 ^ 32;
         next = 2 * stamps.next;
@@ -168,6 +169,11 @@ pub record EqualTables : Type 0 where
   pub other_stamps : Same waiting (later waiting)
   pub other_order : ¬ Same waiting (exchanged 3 4 waiting)
 
+-- the waiters in the opposite order
+abbrev pub turned : Table → Table
+turned table =
+    record table { orders = record table.orders { waiters = reverse table.orders.waiters } }
+
 -- the tasks 3 and 4, of one priority, wait in turn
 abbrev pub both_wait : Option ℕ → Option MutexWait → Table
 both_wait ticks wait =
@@ -181,4 +187,4 @@ pub record AlikeTables : Type 0 where
       ¬ SamePairwise (both_wait (Some 1) None) (exchanged 3 4 (both_wait (Some 1) None))
   pub other_queue_order :
       let table = both_wait None (Some (record { mutex = 0; priority = 1 })) in
-      ¬ SamePairwise table (exchanged 3 4 table)
+      ¬ SamePairwise table (turned table)

@@ -1,4 +1,6 @@
 use Rattle.order_laws.proofs.FirstWaiters.{first_waiter_seen}
+use Rattle.order_laws.proofs.Served.{first_is_served}
+use Rattle.bench_model.specs.Table.{first_waiter}
 use Rattle.order_laws.proofs.SeenMoves.{deadline_left_seen, forget_deadline_seen}
 use Rattle.rule_laws.proofs.Mutexes.{inherited_seen, inherited_sound, take_seen, take_sound, finished_seen, finished_sound, give_seen, give_sound}
 use Rattle.rule_laws.proofs.Mutexes.{after_disinherit_seen, after_disinherit_sound}
@@ -8,6 +10,10 @@ use Rattle.rule_laws.proofs.laws_of_mutexes.Goals as goal
 
 pub returns-clause-first_waiter_simulates : goal.returns-clause-first_waiter_simulates
 returns-clause-first_waiter_simulates c = λ control mutex stamps. first_waiter_seen mutex stamps control
+
+pub returns-clause-first_waiter_is_served_first : goal.returns-clause-first_waiter_is_served_first
+unfolding first_waiter
+returns-clause-first_waiter_is_served_first c = λ table mutex waiter sound. first_is_served table.orders mutex table.orders.waiters waiter sound.mutexes.turns
 
 pub returns-clause-deadline_simulates : goal.returns-clause-deadline_simulates
 returns-clause-deadline_simulates c = λ control task stamps. deadline_left_seen control stamps task

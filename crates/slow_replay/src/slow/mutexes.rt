@@ -1,16 +1,17 @@
 //! Mutexes with priority inheritance, each rule as it is defined.
-ghost use Rattle.std.specs.Prelude.{◌≡◌, ◌<◌, ◌≤◌, ◌+◌, ◌^◌, length, IfSome, option_map, slice_set};
+ghost use Rattle.std.specs.Prelude.{◌≡◌, ◌<◌, ◌≤◌, ◌+◌, ◌^◌, length, IfOk, IfSome, OnOk, Some, filter, not, slice_set};
 ghost use Rattle.bench_types.specs.declared.step.Call.TheVariants.{Finish};
 ghost use Rattle.bench_model.specs.Mutexes.{held_by, is_marked, inherited, waited_at, mutex_take, owed, after_disinherit, timed_out, take_finished, disinherited, first_woken, mutex_give};
-ghost use Rattle.list_orders.specs.Search.{is_best};
 ghost use Rattle.bench_model.specs.Sound.{IsConsistent};
-ghost use Rattle.bench_model.specs.State.{holder_at, after_return};
+ghost use Rattle.bench_model.specs.State.{holder_at, after_return, blocked};
 ghost use Rattle.bench_model.specs.Steps.{called};
-ghost use Rattle.bench_model.specs.Table.{stamp_queues, row_at, tasks_of, wait_in, waits_at, waiter_of, waits_before, first_waiter, deadline_at, deadline_left};
+ghost use Rattle.bench_model.specs.Table.{stamp_queues, first_waiter, deadline_at, deadline_left};
+ghost use Rattle.std.specs.List.{AllByRecursion};
+ghost use Rattle.bench_model.specs.Waiters.{first_of, waits_first, with_waiter};
 
 use super::{SlowTable, notes};
-use bench_model::TaskState;
 use bench_types::{MutexWait, Reply, Unfinished, Waiter};
+use std::alloc::{AllocError, Global};
 
 impl SlowTable {
     pub(super) fn holder(&self, mutex: u32) -> Option<u32>
@@ -70,105 +71,128 @@ impl SlowTable {
         }
     }
 
+    fn waiters(&self) -> &[Waiter]
+        ensures waiters { result.now ≡ self.now.orders.waiters }
+        ensures tasks { AllByRecursion (λ waiter. waiter.task < length self.now.orders.rows)
+            result.now }
+    {
+        &self.waiters
+    }
+
+    fn set_waiters(&mut self, waiters: Vec<Waiter>)
+        requires { AllByRecursion (λ waiter. waiter.task < length self.old.orders.rows)
+            waiters.items }
+        ensures { self.new ≡ record self.old {
+          orders = record self.old.orders { waiters = waiters.items };
+        } }
+    {
+        self.waiters = waiters;
+    }
+
+    fn set_deadline(&mut self, task: u32, deadline: Option<u128>)
+        requires { task < length self.old.orders.rows }
+        ensures { self.new ≡ record self.old {
+          orders = record self.old.orders {
+            deadlines = slice_set self.old.orders.deadlines task deadline;
+          };
+        } }
+    {
+        self.deadlines[task as usize] = deadline;
+    }
+
+    // The task waits in its call for a mutex.
+    #[tactic(auto, unfolding(bench_model::specs::State::blocked, bench_model::specs::Table::delay))]
+    fn block_at(
+        &mut self,
+        alloc: Global,
+        core: u32,
+        task: u32,
+        call: Unfinished,
+        ticks: Option<u32>,
+        wait: MutexWait,
+    ) -> Result<(), AllocError>
+        requires core { core < length self.old.control.cores }
+        requires task { task < length self.old.orders.rows }
+        requires room { self.old.orders.next + 1 < 2 ^ 128 }
+        requires time { self.old.orders.tick + 2 ^ 32 < 2 ^ 128 }
+        ensures { OnOk result
+            (self.new ≡ blocked stamp_queues core task call ticks (Some wait) self.old) }
+    {
+        let waiters = with_waiter(alloc, Waiter { task, wait }, self.waiters())?;
+        let wake = self.ahead(ticks);
+        self.stand(core, task, call, wake);
+        self.set_deadline(task, wake);
+        self.set_waiters(waiters);
+        Ok(())
+    }
+
     #[tactic(auto, unfolding(bench_model::specs::Mutexes::waited_at))]
-    fn wait_at(&mut self, core: u32, task: u32, mutex: u32, holder: u32, ticks: Option<u32>)
+    fn wait_at(
+        &mut self,
+        alloc: Global,
+        core: u32,
+        task: u32,
+        mutex: u32,
+        holder: u32,
+        ticks: Option<u32>,
+    ) -> Result<(), AllocError>
         requires core { core < length self.old.control.cores }
         requires task { task < length self.old.orders.rows }
         requires holder { holder < length self.old.orders.rows }
         requires room { self.old.orders.next + 2 < 2 ^ 128 }
         requires time { self.old.orders.tick + 2 ^ 32 < 2 ^ 128 }
-        ensures { self.new ≡ waited_at stamp_queues core task mutex holder ticks self.old }
+        ensures { OnOk result
+            (self.new ≡ waited_at stamp_queues core task mutex holder ticks self.old) }
     {
         let priority = self.tasks[task as usize].in_use;
         let mark = self.is_marked(task, holder);
         self.inherit(core, holder, priority);
         let call = Unfinished::Take { mutex, mark };
-        self.block(core, task, call, ticks, Some(MutexWait { mutex, priority }));
+        self.block_at(
+            alloc,
+            core,
+            task,
+            call,
+            ticks,
+            MutexWait { mutex, priority },
+        )
     }
 
     #[tactic(auto, unfolding(bench_model::specs::Mutexes::mutex_take, bench_model::specs::Mutexes::taken))]
-    pub(super) fn take(&mut self, core: u32, task: u32, mutex: u32, ticks: u32) -> Reply
+    pub(super) fn take(
+        &mut self,
+        alloc: Global,
+        core: u32,
+        task: u32,
+        mutex: u32,
+        ticks: u32,
+    ) -> Result<Reply, AllocError>
         requires core { core < length self.old.control.cores }
         requires task { task < length self.old.orders.rows }
         requires mutex { mutex < self.old.settings.mutexes }
         requires room { self.old.orders.next + 2 < 2 ^ 128 }
         requires time { self.old.orders.tick + 2 ^ 32 < 2 ^ 128 }
-        ensures { (result, self.new) ≡ mutex_take stamp_queues core task mutex ticks self.old }
+        ensures { IfOk result
+            (λ reply. (reply, self.new) ≡ mutex_take stamp_queues core task mutex ticks self.old) }
     {
         let Some(holder) = self.holder(mutex) else {
             self.set_holder(mutex, Some(task));
-            return Reply::Flag(true);
+            return Ok(Reply::Flag(true));
         };
         if ticks == 0 {
-            return Reply::Flag(false);
+            return Ok(Reply::Flag(false));
         }
-        self.wait_at(core, task, mutex, holder, notes::timeout_of(ticks));
-        Reply::Blocked
+        self.wait_at(alloc, core, task, mutex, holder, notes::timeout_of(ticks))?;
+        Ok(Reply::Blocked)
     }
 
-    fn wait_in(&self, task: u32) -> Option<MutexWait>
-        requires { task < length self.now.orders.rows }
-        ensures { result ≡ wait_in (row_at self.now.orders task).standing }
+    // The first waiter of the mutex.
+    #[tactic(auto, unfolding(bench_model::specs::Table::first_waiter))]
+    fn first_waiting(&self, mutex: u32) -> Option<Waiter>
+        ensures first { result ≡ first_waiter mutex self.now.orders }
+        ensures task { IfSome result (λ waiter. waiter.task < length self.now.orders.rows) }
     {
-        match self.rows[task as usize].standing {
-            TaskState::Ready => None,
-            TaskState::Blocked { wait, .. } => wait,
-        }
-    }
-
-    fn waits_at(&self, mutex: u32, task: u32) -> bool
-        requires { task < length self.now.orders.rows }
-        ensures { result ≡ waits_at mutex (row_at self.now.orders task).standing }
-    {
-        match self.wait_in(task) {
-            None => false,
-            Some(wait) => wait.mutex == mutex,
-        }
-    }
-
-    fn waiter(&self, task: u32) -> Waiter
-        requires { task < length self.now.orders.rows }
-        ensures { result ≡ waiter_of self.now.orders task }
-    {
-        let none = MutexWait {
-            mutex: 0,
-            priority: 0,
-        };
-        Waiter {
-            task,
-            wait: self.wait_in(task).unwrap_or(none),
-        }
-    }
-
-    fn waits_before(&self, one: u32, other: u32) -> bool
-        requires one { one < length self.now.orders.rows }
-        requires other { other < length self.now.orders.rows }
-        ensures { result ≡ waits_before self.now.orders one other }
-    {
-        let a = self.waiter(one).wait.priority;
-        let b = self.waiter(other).wait.priority;
-        b < a || (a == b && self.is_no_later(one, other))
-    }
-
-    // Whether the task waits for the mutex and none that does goes before it.
-    fn is_first_waiter(&self, mutex: u32, task: u32) -> bool
-        requires { task < length self.now.orders.rows }
-        ensures { result
-            ≡ is_best (λ i. waits_at mutex (row_at self.now.orders i).standing)
-            (waits_before self.now.orders) (tasks_of self.now.orders) task }
-    {
-        self.waits_at(mutex, task)
-            && self.task_numbers().all(|other| !self.waits_at(mutex, other)
-                || self.waits_before(task, other))
-    }
-
-    fn first_waiting(&self, mutex: u32) -> Option<u32>
-        ensures first { option_map (waiter_of self.now.orders) result
-            ≡ first_waiter mutex self.now.orders }
-        ensures task { IfSome result (λ task. task < length self.now.orders.rows) }
-    {
-        self.task_numbers()
-            .find(|task| self.is_first_waiter(mutex, *task))
+        first_of(mutex, self.waiters())
     }
 
     fn owed(&self, task: u32, mutex: u32) -> u32
@@ -178,7 +202,7 @@ impl SlowTable {
         let base = self.tasks[task as usize].base;
         match self.first_waiting(mutex) {
             None => base,
-            Some(first) => self.waiter(first).wait.priority.max(base),
+            Some(first) => first.wait.priority.max(base),
         }
     }
 
@@ -235,7 +259,14 @@ impl SlowTable {
     }
 
     #[tactic(auto, unfolding(bench_model::specs::Mutexes::take_finished, bench_model::specs::Mutexes::taken))]
-    fn finish_take(&mut self, core: u32, task: u32, mutex: u32, mark: bool) -> Reply
+    fn finish_take(
+        &mut self,
+        alloc: Global,
+        core: u32,
+        task: u32,
+        mutex: u32,
+        mark: bool,
+    ) -> Result<Reply, AllocError>
         requires core { core < length self.old.control.cores }
         requires task { task < length self.old.orders.rows }
         requires mutex { mutex < self.old.settings.mutexes }
@@ -243,39 +274,49 @@ impl SlowTable {
             (λ deadline. deadline < self.old.orders.tick + 2 ^ 32) }
         requires room { self.old.orders.next + 2 < 2 ^ 128 }
         requires time { self.old.orders.tick + 2 ^ 32 < 2 ^ 128 }
-        ensures { (result, self.new) ≡ take_finished stamp_queues core task mutex mark self.old }
+        ensures { IfOk result
+            (λ reply. (reply, self.new)
+            ≡ take_finished stamp_queues core task mutex mark self.old) }
     {
         let left = self.deadline_left(task);
         let Some(holder) = self.holder(mutex) else {
             self.end_call(task);
             self.set_holder(mutex, Some(task));
-            return Reply::Flag(true);
+            return Ok(Reply::Flag(true));
         };
         if left == Some(0) {
             self.end_call(task);
             self.time_out(core, task, mutex, mark, holder);
-            return Reply::Flag(false);
+            return Ok(Reply::Flag(false));
         }
-        self.wait_at(core, task, mutex, holder, left);
-        Reply::Blocked
+        self.wait_at(alloc, core, task, mutex, holder, left)?;
+        Ok(Reply::Blocked)
     }
 
     #[tactic(auto, unfolding(bench_model::specs::Steps::called, bench_model::specs::Steps::after_finish))]
-    pub(super) fn finish(&mut self, core: u32, task: u32) -> Reply
+    pub(super) fn finish(
+        &mut self,
+        alloc: Global,
+        core: u32,
+        task: u32,
+    ) -> Result<Reply, AllocError>
         requires sound { IsConsistent self.old }
         requires core { core < length self.old.control.cores }
         requires task { task < length self.old.orders.rows }
         requires room { self.old.orders.next + 2 < 2 ^ 128 }
         requires time { self.old.orders.tick + 2 ^ 32 < 2 ^ 128 }
-        ensures { (result, self.new) ≡ called stamp_queues core task Finish self.old }
+        ensures { IfOk result
+            (λ reply. (reply, self.new) ≡ called stamp_queues core task Finish self.old) }
     {
         match self.calls[task as usize] {
-            None => Reply::Done,
+            None => Ok(Reply::Done),
             Some(Unfinished::Made(call)) => {
                 self.end_call(task);
-                self.complete(task, call)
+                Ok(self.complete(task, call))
             }
-            Some(Unfinished::Take { mutex, mark }) => self.finish_take(core, task, mutex, mark),
+            Some(Unfinished::Take { mutex, mark }) => {
+                self.finish_take(alloc, core, task, mutex, mark)
+            }
         }
     }
 
@@ -298,8 +339,8 @@ impl SlowTable {
         requires room { self.old.orders.next + 1 < 2 ^ 128 }
         ensures { self.new ≡ first_woken stamp_queues acting mutex self.old }
     {
-        if let Some(task) = self.first_waiting(mutex) {
-            self.wake(acting, task);
+        if let Some(waiter) = self.first_waiting(mutex) {
+            self.wake(acting, waiter.task);
         }
     }
 
@@ -318,4 +359,58 @@ impl SlowTable {
         self.wake_first(core, mutex);
         Reply::Flag(true)
     }
+}
+
+// The first of the waiters that waits for the mutex.
+fn first_of(mutex: u32, waiters: &[Waiter]) -> Option<Waiter>
+    ensures { result ≡ first_of mutex waiters.now }
+{
+    waiters
+        .iter()
+        .copied()
+        .find(|waiter| waiter.wait.mutex == mutex)
+}
+
+// The waiters with one more, which stands after those that stay in front of it.
+#[tactic(auto, unfolding(list_orders::specs::Search::placed))]
+fn with_waiter(alloc: Global, waiter: Waiter, waiters: &[Waiter]) -> Result<Vec<Waiter>, AllocError>
+    ensures { IfOk result (λ all. all.items ≡ with_waiter waiter waiters.now) }
+{
+    let mut all = in_front(alloc, waiters, &waiter)?;
+    let mut others = behind(alloc, waiters, &waiter)?;
+    all.push(waiter)?;
+    all.append(&mut others)?;
+    Ok(all)
+}
+
+// The waiters that stay in front of one.
+fn in_front(alloc: Global, waiters: &[Waiter], waiter: &Waiter) -> Result<Vec<Waiter>, AllocError>
+    ensures { IfOk result
+        (λ some. some.items ≡ filter (λ other. waits_first other waiter.now) waiters.now) }
+{
+    waiters
+        .iter()
+        .copied()
+        .filter(|other| waits_first(other, waiter))
+        .collect(alloc)
+}
+
+// The others.
+fn behind(alloc: Global, waiters: &[Waiter], waiter: &Waiter) -> Result<Vec<Waiter>, AllocError>
+    ensures { IfOk result
+        (λ some. some.items ≡ filter (λ other. not (waits_first other waiter.now)) waiters.now) }
+{
+    waiters
+        .iter()
+        .copied()
+        .filter(|other| !waits_first(other, waiter))
+        .collect(alloc)
+}
+
+// Whether the one stays in front of the other.
+fn waits_first(one: &Waiter, other: &Waiter) -> bool
+    ensures { result ≡ waits_first one.now other.now }
+{
+    let (a, b) = (one.wait, other.wait);
+    a.mutex < b.mutex || (a.mutex == b.mutex && b.priority <= a.priority)
 }

@@ -146,7 +146,7 @@ impl SlowTable {
             ≡ awaited stamp_queues core task call ticks (waits, self.old.notes) self.old }
     {
         if waits && 0 < ticks {
-            self.block(core, task, Unfinished::Made(call), timeout_of(ticks), None);
+            self.block(core, task, Unfinished::Made(call), timeout_of(ticks));
             return Reply::Blocked;
         }
         self.complete(task, call)

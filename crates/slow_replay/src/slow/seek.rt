@@ -1,6 +1,6 @@
 //! Seeking a core and ending time slices, each as it is defined: over all cores and all tasks at
 //! once.
-ghost use Rattle.std.specs.Prelude.{◌≡◌, ℕ, ◌<◌, not, ◌&&◌, length, filter, nat_lt, Some, IfSome, ◌==◌};
+ghost use Rattle.std.specs.Prelude.{◌≡◌, ◌≢◌, ℕ, ◌<◌, not, ◌&&◌, length, filter, nat_lt, Some, IfSome, ◌==◌};
 ghost use Rattle.bench_model.specs.Control.{in_mask, is_due, core_at, current, task_at, with_core, ask, asked_where};
 ghost use Rattle.list_orders.specs.Search.{is_best, numbers};
 ghost use Rattle.bench_model.specs.Seek.{effective, is_running, is_preemptible_by, yields_first, core_to_yield, seek, after_eviction, ready_in, shares_its_time, sliced};
@@ -126,17 +126,26 @@ impl SlowTable {
             .find(|core| self.is_asked_first(task, lost, *core))
     }
 
+    #[tactic(auto, unfolding(bench_model::specs::State::yielded))]
     pub(super) fn ask(&mut self, acting: u32, core: u32)
         requires { core < length self.old.control.cores }
         ensures asked { self.new ≡ record self.old { control = ask acting core self.old.control } }
         ensures cores { length self.new.control.cores ≡ length self.old.control.cores }
     {
-        let look = &mut self.cores[core as usize];
         if core == acting {
-            look.pend = true;
+            self.ask_itself(core);
         } else {
-            look.asked = true;
+            self.ask_other(acting, core);
         }
+    }
+
+    // Another core asks this one.
+    fn ask_other(&mut self, acting: u32, core: u32)
+        requires core { core < length self.old.control.cores }
+        requires other { core ≢ acting }
+        ensures { self.new ≡ record self.old { control = ask acting core self.old.control } }
+    {
+        self.cores[core as usize].asked = true;
     }
 
     #[tactic(auto, unfolding(bench_model::specs::Seek::seek))]

@@ -1,6 +1,8 @@
-use Rattle.std.proofs.Common.{◌≡◌, ℕ, zero, suc, ◌+◌, ◌-◌, ◌*◌, ◌<◌, ◌≤◌, ◌^◌, false, List, ◌++◌, length, map, replicate, Option, Some, None, refl, ap, sym}
+use Rattle.std.proofs.Common.{◌≡◌, ℕ, zero, suc, ◌+◌, ◌-◌, ◌*◌, ◌<◌, ◌≤◌, ◌^◌, false, List, [], ◌++◌, length, map, replicate, Option, Some, None, refl, ap, sym, subst}
 use Rattle.std.proofs.Common.{◌∙◌, arith}
 use Rattle.std.specs.Prelude.{slice_index_or}
+use Rattle.std.specs.List.{AllByRecursion}
+use Rattle.bench_types.specs.declared.kernel_data.Waiter.{Waiter}
 use Rattle.std.proofs.lemmas.List.{length-replicate}
 use Rattle.std.proofs.lemmas.List.FromFn.{length-map-range_with_len, get_or-map-range_with_len}
 use Rattle.std.proofs.Math.Nat.{mul-le-mul}
@@ -56,6 +58,7 @@ invariant_of-result c =
       holders = ap length c.in_ok-holders.ensures ∙ length-replicate settings.mutexes _;
       rows = ap length c.in_ok-rows.ensures ∙ length_ranges _ _ settings.cores (settings.tasks - settings.cores) ∙ sum;
       deadlines = ap length c.in_ok-deadlines.ensures ∙ length-replicate settings.tasks _;
+      waiting_tasks = subst (AllByRecursion (λ (waiter : Waiter). waiter.task < settings.tasks)) (sym c.no_waiters-waiters.ensures) tt;
       held_by_tasks = λ mutex task held. absurd (none_held settings.mutexes mutex task
           (ap (λ holders. slice_index_or holders mutex None) (sym c.in_ok-holders.ensures) ∙ held));
       runs_tasks = λ core low.
@@ -64,22 +67,22 @@ invariant_of-result c =
           omega (arith, ap (λ (l : CoreLook). l.current) look, cores, tasks);
     }
 
-abbrev table_of : Settings → List CoreLook → List TaskControl → List (Option Unfinished) → List Notification → List (Option ℕ) → List TaskRow → List (Option ℕ)
-    → ℕ → ℕ → Table
-table_of settings cores tasks calls notes holders rows deadlines tick next = record {
+abbrev table_of : Settings → List CoreLook → List TaskControl → List (Option Unfinished) → List Notification → List (Option ℕ) → List TaskRow → List Waiter → List
+    (Option ℕ) → ℕ → ℕ → Table
+table_of settings cores tasks calls notes holders rows waiters deadlines tick next = record {
   settings = settings;
   control = record { cores = cores; tasks = tasks };
   calls = calls;
   notes = notes;
   holders = holders;
   hold = None;
-  orders = record { rows = rows; deadlines = deadlines; tick = tick; next = next };
+  orders = record { rows = rows; waiters = waiters; deadlines = deadlines; tick = tick; next = next };
 }
 
 same_table : {s t : Settings} {cs ds : List CoreLook} {bs es : List TaskControl} {us vs : List (Option Unfinished)} {ns ms : List Notification}
-    {hs gs : List (Option ℕ)} {rs qs : List TaskRow} {xs ys : List (Option ℕ)} {i j k l : ℕ} → s ≡ t → cs ≡ ds → bs ≡ es → us ≡ vs → ns ≡ ms → hs ≡ gs → rs ≡ qs
-    → xs ≡ ys → i ≡ j → k ≡ l → table_of s cs bs us ns hs rs xs i k ≡ table_of t ds es vs ms gs qs ys j l
-same_table a b c d e f g h i j = cc
+    {hs gs : List (Option ℕ)} {rs qs : List TaskRow} {ws vs₂ : List Waiter} {xs ys : List (Option ℕ)} {i j k l : ℕ} → s ≡ t → cs ≡ ds → bs ≡ es → us ≡ vs → ns ≡ ms → hs ≡ gs → rs ≡ qs
+    → ws ≡ vs₂ → xs ≡ ys → i ≡ j → k ≡ l → table_of s cs bs us ns hs rs ws xs i k ≡ table_of t ds es vs ms gs qs vs₂ ys j l
+same_table a b c d e f g h w i j = cc
 
 abbrev rows_for : ℕ → ℕ → List TaskRow
 rows_for cores users = map (λ core. ready_row (users + core)) (numbers cores) ++ map ready_row (numbers users)
@@ -98,5 +101,6 @@ returns c =
     (c.in_ok-notes.ensures ∙ ap (λ (s : Settings). replicate (s.tasks * s.notes) no_note) same)
     (c.in_ok-holders.ensures ∙ ap (λ n. replicate n None) (ap (λ (s : Settings). s.mutexes) same))
     (c.in_ok-rows.ensures ∙ ap (λ n. rows_for n (settings.tasks - settings.cores)) cores ∙ ap (rows_for header.config.cores) users)
+    c.no_waiters-waiters.ensures
     (c.in_ok-deadlines.ensures ∙ ap (λ n. replicate n None) tasks)
     c.from.ensures (c.from-2.ensures ∙ tasks)

@@ -1,0 +1,30 @@
+-- The turn in which the waiters of a mutex are served.
+use Rattle.std.specs.Prelude.{◌≡◌, ◌≢◌, ℕ, List, [], ◌∷◌, Bool, true, ◌&&◌, ◌||◌, ◌==◌, nat_lt}
+use Rattle.std.specs.List.{AllByRecursion}
+use Rattle.bench_types.specs.declared.kernel_data.Waiter.{Waiter}
+use Rattle.bench_model.specs.Table.{Stamps, stamp_of}
+
+-- A waiter of a greater waiting priority is served before another, and of one priority the one that
+-- began to wait before the other (FreeRTOS Reference Manual, xSemaphoreTake).
+abbrev pub is_served_before : Stamps → Waiter → Waiter → Bool
+is_served_before stamps a b =
+    nat_lt b.wait.priority a.wait.priority
+    || (a.wait.priority == b.wait.priority
+    && nat_lt (stamp_of stamps a.task) (stamp_of stamps b.task))
+
+-- the same, where both wait for one mutex
+abbrev pub IsServedBefore : Stamps → Waiter → Waiter → Type 0
+IsServedBefore stamps a b = a.wait.mutex ≡ b.wait.mutex → is_served_before stamps a b ≡ true
+
+-- each waiter stands in front of those of its mutex that are served after it
+abbrev pub AreInTurn : Stamps → List Waiter → Type 0
+AreInTurn stamps [] = Unit {0}
+AreInTurn stamps (waiter ∷ waiters) =
+    AllByRecursion (IsServedBefore stamps waiter) waiters × AreInTurn stamps waiters
+
+-- it waits for the mutex, and is served before all others that do
+abbrev pub IsServedFirst : Stamps → ℕ → List Waiter → Waiter → Type 0
+IsServedFirst stamps mutex waiters waiter =
+    (waiter.wait.mutex ≡ mutex)
+    × AllByRecursion (λ other. other ≢ waiter → other.wait.mutex ≡ mutex
+    → is_served_before stamps waiter other ≡ true) waiters

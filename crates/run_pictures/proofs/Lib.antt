@@ -8,12 +8,11 @@ pub mod Legends
 pub mod LegendsOf
 pub mod LinedUp
 pub mod Members
-pub mod Merging
 pub mod Numbered
 pub mod Opened
 pub mod Placed
 pub mod Replayed
-pub mod RowStates
+pub mod RowStretches
 pub mod Rows
 pub mod Seen
 pub mod Tiling

@@ -20,7 +20,7 @@ pub mod MutexLines
 pub mod Picture
 pub mod Poses
 pub mod Preemption
-pub mod RowStates
+pub mod RowStretches
 pub mod Same
 pub mod StretchValues
 pub mod Shown

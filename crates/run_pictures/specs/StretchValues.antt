@@ -10,14 +10,12 @@ use Rattle.run_pictures.specs.declared.hindrance.Hindrance.{Hindrance}
 use Rattle.run_pictures.specs.declared.hindrance.Obstacle.{Obstacle}
 use Rattle.run_pictures.specs.declared.hindrance.Obstacle.TheVariants as obstacle
 use Rattle.run_pictures.specs.declared.pose.Pose.{Pose}
-use Rattle.run_pictures.specs.declared.row_states.RowState.{RowState}
 use Rattle.run_pictures.specs.declared.shown.Due.{Due}
 use Rattle.run_pictures.specs.declared.shown.Priorities.{Priorities}
 use Rattle.run_pictures.specs.declared.stance.Stance.{Stance}
 use Rattle.run_pictures.specs.declared.stance.Stance.TheVariants.{Runs, Ready, Blocked}
 use Rattle.run_pictures.specs.declared.task_names.Terms.{Terms}
 use Rattle.run_views.specs.Changes.{are_same_causes, are_same_numbers}
-use Rattle.run_pictures.specs.RowStates.{are_same_row_states}
 use Rattle.run_pictures.specs.Same.{are_same_dues, are_same_hindrances, are_same_obstacles, are_same_poses, are_same_priorities, are_same_stances}
 use Rattle.run_pictures.specs.Same.{are_same_terms}
 
@@ -144,19 +142,3 @@ poses_decided a b = Decides-like (are_same_poses a b)
     (λ e i. record { stance = e.0 i; hindrances = e.1 i })
     (λ e. (λ i. (e i).stance, λ i. (e i).hindrances))
     (Decides-and _ _ (stances_decided a.stance b.stance) (lists_decided a.hindrances b.hindrances))
-
-pub row_states_decided : (a b : RowState) → Decides (are_same_row_states a b) (a ≡ b)
-row_states_decided a b = Decides-like (are_same_row_states a b)
-    (λ e i. record {
-      stance = e.0.0.0 i;
-      priorities = e.0.0.1 i;
-      mask = e.0.1 i;
-      preempt = e.1 i;
-    })
-    (λ e. (((λ i. (e i).stance, λ i. (e i).priorities), λ i. (e i).mask), λ i. (e i).preempt))
-    (Decides-and _ _
-    (Decides-and _ _
-    (Decides-and _ _ (stances_decided a.stance b.stance)
-    (priorities_decided a.priorities b.priorities))
-    (Decides-eqb a.mask b.mask))
-    (tests.bools_decided a.preempt b.preempt))

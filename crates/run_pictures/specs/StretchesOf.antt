@@ -17,19 +17,6 @@ stretches_of same place [] = []
 stretches_of same place (value ∷ values) =
     extended same place value (stretches_of same (suc place) values)
 
--- the stretches with one stretch more in front of them: it and the first of them are one where
--- their values are the same
-abbrev pub joined : {X : Type 0} → (X → X → Bool) → Stretch X → List (Stretch X) → List (Stretch X)
-joined same stretch [] = stretch ∷ []
-joined same stretch (next ∷ stretches) =
-    if same next.value stretch.value then record next { first = stretch.first } ∷ stretches
-    else stretch ∷ next ∷ stretches
-
--- the stretches, of which neighbours that have the same value are one
-abbrev pub merged : {X : Type 0} → (X → X → Bool) → List (Stretch X) → List (Stretch X)
-merged same [] = []
-merged same (stretch ∷ stretches) = joined same stretch (merged same stretches)
-
 -- the same places, with what the function gives for their value
 abbrev pub with_value : {X Y : Type 0} → (X → Y) → Stretch X → Stretch Y
 with_value f stretch =

@@ -17,7 +17,7 @@ mod panel;
 mod picture;
 mod pose;
 mod preemption;
-mod row_states;
+mod row_stretches;
 mod run_looks;
 mod shown;
 mod signs;

@@ -17,7 +17,7 @@ use crate::marks::push_steps;
 use crate::mutex_lines::{push_taken_rows, taken_mutexes};
 use crate::panel::Panel;
 use crate::pose::detail_for;
-use crate::row_states::all_row_stretches;
+use crate::row_stretches::all_row_stretches;
 use crate::run_looks::RunLooks;
 use crate::signs::{Sign, legend_height, push_entries, signs_of, signs_of_both};
 use crate::style::{OPENING, STYLE};
@@ -227,7 +227,6 @@ fn push_tasks(
     let rows = all_row_stretches(alloc, header, frame.first, looks)?;
     for user in 0..header.tasks.as_slice().len() as u32 {
         let below = y + TASK_ROW * user as u64;
-        let states = rows[user as usize].to_vec(alloc)?;
         push_task_row(
             alloc,
             text,
@@ -237,7 +236,7 @@ fn push_tasks(
             looks,
             detail,
             cores + user,
-            states.as_slice(),
+            &rows[user as usize],
         )?;
     }
     Ok(())

@@ -95,7 +95,7 @@ pub(crate) fn is_same_number(number: Option<u32>, other: Option<u32>) -> bool
     }
 }
 
-pub(crate) fn is_same_flag(flag: bool, other: bool) -> bool
+fn is_same_flag(flag: bool, other: bool) -> bool
     ensures { result ≡ are_same_bools flag other }
 {
     if flag { other } else { !other }

@@ -82,13 +82,15 @@ fn core_of(look: &Look, task: u32) -> Option<usize>
     cores.iter().position(|core| core.current == task)
 }
 
-/// How a task stands whose unfinished call waits for this, and of which this core is the first that
-/// runs it.
-pub(crate) fn stance_with(standing: Standing, cause: Option<Cause>, core: Option<usize>) -> Stance
-    ensures { result ≡ stance_with standing cause core }
+/// How a task stands of which a look shows this, and of which this core is the first that runs it.
+pub(crate) fn stance_with(status: TaskStatus, core: Option<usize>) -> Stance
+    ensures { result ≡ stance_with status.standing status.cause core }
 {
-    match (standing, core) {
-        (Standing::Blocked(wake), _) => Stance::Blocked { wake, cause },
+    match (status.standing, core) {
+        (Standing::Blocked(wake), _) => Stance::Blocked {
+            wake,
+            cause: status.cause,
+        },
         (Standing::Ready, Some(core)) => Stance::Runs { core },
         (Standing::Ready, None) => Stance::Ready,
     }
@@ -100,13 +102,7 @@ pub(crate) fn stance_in(look: &Look, task: u32) -> Stance
 {
     let status = status_in(look, task);
     match status.standing {
-        Standing::Blocked(wake) => Stance::Blocked {
-            wake,
-            cause: status.cause,
-        },
-        Standing::Ready => match core_of(look, task) {
-            Some(core) => Stance::Runs { core },
-            None => Stance::Ready,
-        },
+        Standing::Blocked(_) => stance_with(status, None),
+        Standing::Ready => stance_with(status, core_of(look, task)),
     }
 }

@@ -1,6 +1,6 @@
 //! Stretches of places at which a value stays the same.
 ghost use Rattle.std.specs.Prelude.{◌≡◌, ◌+◌, ◌≤◌, ◌^◌, Bool, Decides, IfOk, OnOk, length, nat_eq};
-ghost use Rattle.run_pictures.specs.StretchesOf.{extended, joined, merged, stretches_of, with_value, Tiles};
+ghost use Rattle.run_pictures.specs.StretchesOf.{extended, stretches_of, Tiles};
 ghost use Rattle.run_pictures.specs.StretchValues.{numbers_decided};
 
 use std::alloc::{AllocError, Global};
@@ -36,19 +36,6 @@ pub struct Stretch<T> {
     /// The last place.
     pub last: u32,
     pub value: T,
-}
-
-impl<T> Stretch<T> {
-    /// The same places, with another value.
-    pub(crate) fn with_value<U>(&self, value: U) -> Stretch<U>
-        ensures { result ≡ record { first = self.now.first; last = self.now.last; value = value } }
-    {
-        Stretch {
-            first: self.first,
-            last: self.last,
-            value,
-        }
-    }
 }
 
 /// The stretches of values that stay the same, of which the first stands at the place: they follow
@@ -94,35 +81,12 @@ pub(crate) fn extend<T: StretchValue>(
     }
 }
 
-// One stretch more in front of the stretches: it and the first of them are one where their values
-// are the same.
-fn join<T: StretchValue>(
-    stretches: &mut VecDeque<Stretch<T>>,
-    stretch: Stretch<T>,
-) -> Result<(), AllocError>
-    ensures { OnOk result (stretches.new.items ≡ joined T.same stretch stretches.old.items) }
-{
-    if !stretches.is_empty() && stretches[0].value.is_same(&stretch.value) {
-        stretches[0].first = stretch.first;
-        return Ok(());
-    }
-    match stretches.push_front(stretch) {
-        Ok(()) => Ok(()),
-        Err(_) => Err(AllocError),
-    }
-}
-
-/// The stretches, of which neighbours that have the same value are one.
-pub(crate) fn merged<T: StretchValue>(
+/// The stretches, the first one first.
+pub(crate) fn to_vec<T: Copy>(
     alloc: Global,
-    stretches: Vec<Stretch<T>>,
+    stretches: &VecDeque<Stretch<T>>,
 ) -> Result<Vec<Stretch<T>>, AllocError>
-    ensures { IfOk result (λ fewer. fewer.items ≡ merged T.same stretches.items) }
+    ensures { IfOk result (λ all. all.items ≡ stretches.now.items) }
 {
-    let mut fewer = VecDeque::new(alloc);
-    let mut left = stretches;
-    while let Some(stretch) = left.pop() {
-        join(&mut fewer, stretch)?;
-    }
-    Ok(Vec::from(fewer))
+    stretches.iter().copied().collect(alloc)
 }

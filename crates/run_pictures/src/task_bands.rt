@@ -1,7 +1,7 @@
 //! The bands of the tasks: where each runs, is ready or is blocked, and where it inherits a
 //! priority.
 ghost use Rattle.std.specs.Prelude.{◌≡◌, ◌++◌, ◌+◌, ◌<◌, ◌≤◌, ◌^◌, OnOk, flat_map, length, string_bytes};
-ghost use Rattle.run_pictures.specs.RowStates.{row_stretches};
+ghost use Rattle.run_pictures.specs.RowStretches.{row_of};
 ghost use Rattle.run_pictures.specs.TaskBands.{blocked_label, cause_name, inherited_bar, pose_bar, pose_words, reason_text, stance_label, stance_shape, stance_stretch, stance_text, stance_words, task_row};
 
 use crate::bar::{Bar, Letters, push_bar, push_label, push_over};
@@ -10,7 +10,7 @@ use crate::hindrance_words::push_hindered;
 use crate::ink::Ink;
 use crate::pose::{Detail, Pose};
 use crate::preemption::push_offs;
-use crate::row_states::RowState;
+use crate::row_stretches::RowStretches;
 use crate::shown::Priorities;
 use crate::stance::Stance;
 use crate::stretch::Stretch;
@@ -282,7 +282,7 @@ fn push_inheritances(
     Ok(())
 }
 
-/// Writes the row of a task that shows these stretches.
+/// Writes the row of a task that has these stretches.
 #[tactic(auto, unfolding(crate::specs::Preemption::off_bars, crate::specs::TaskBands::task_row, crate::specs::TaskNames::task_name))]
 pub(crate) fn push_task_row(
     alloc: Global,
@@ -293,16 +293,16 @@ pub(crate) fn push_task_row(
     looks: &[Look],
     detail: Detail,
     task: u32,
-    states: &[Stretch<RowState>],
+    row: &RowStretches,
 ) -> Result<(), AllocError>
     requires y { y < 2 ^ 40 }
     requires few { frame.now.first + length looks.now ≤ 2 ^ 32 }
-    requires states { states.now ≡ row_stretches frame.now.first looks.now task }
+    requires row { row.now ≡ row_of frame.now.first looks.now task }
     ensures { OnOk result
         (string_bytes text.new
         ≡ string_bytes text.old ++ task_row header.now frame.now y looks.now detail task) }
 {
-    let stretches = TaskStretches::of_states(alloc, detail, frame.first, looks, task, states)?;
+    let stretches = TaskStretches::of_row(alloc, detail, frame.first, looks, task, row)?;
     push_task_name(alloc, text, header, y, task, stretches.terms.as_slice())?;
     let poses = stretches.poses.as_slice();
     push_poses(alloc, text, header, frame, y, task, detail, poses)?;

@@ -1,8 +1,9 @@
-use Rattle.std.proofs.Common.{◌≡◌, ◌∙◌, ◌+◌, ◌*◌, ◌<◌, [], ap, arith, get_or, length, string_bytes}
+use Rattle.std.proofs.Common.{◌≡◌, ◌∙◌, ◌+◌, ◌*◌, ◌<◌, ap, arith, get_or, length, string_bytes}
 use Rattle.std.proofs.lemmas.List.{get_or_read}
 use Rattle.run_pictures.specs.declared.frame.TheConstants.{TASK_ROW}
+use Rattle.run_pictures.specs.RowStretches.{empty_row}
 use Rattle.run_pictures.specs.TaskBands.{task_row}
-use Rattle.run_pictures.proofs.RowStates.{row_at, rows_count}
+use Rattle.run_pictures.proofs.RowStretches.{row_at, rows_count}
 use Rattle.run_pictures.proofs.Rows.{row_more}
 use Rattle.run_pictures.proofs.picture.push_tasks.Goals as goal
 
@@ -19,8 +20,8 @@ index-requires c =
     let count : length c.in_ok-rows.rows.items ≡ length header.tasks = ap length c.in_ok-rows.ensures ∙ all in
     omega (arith, count, ap length c.as_slice.ensures, c.loop-user-test.true)
 
-pub push_task_row-requires-clause-states : goal.push_task_row-requires-clause-states
-push_task_row-requires-clause-states c =
+pub push_task_row-requires-clause-row : goal.push_task_row-requires-clause-row
+push_task_row-requires-clause-row c =
     let header = c.args.header.now in
     let first = c.args.frame.now.first in
     let user = c.loop-user.user in
@@ -28,7 +29,6 @@ push_task_row-requires-clause-states c =
     let count : length c.in_ok-rows.rows.items ≡ length header.tasks = ap length c.in_ok-rows.ensures ∙ all in
     let known : user < length header.tasks = omega (arith, ap length c.as_slice.ensures, c.loop-user-test.true) in
     let low : user < length c.in_ok-rows.rows.items = omega (arith, count, known) in
-    c.as_slice-in-loop-user.ensures.value ∙ c.in_ok-states.ensures
-    ∙ get_or_read c.in_ok-rows.rows.items user c.index.result.now low c.index.ensures []
-    ∙ ap (λ rows. get_or rows user []) c.in_ok-rows.ensures
+    get_or_read c.in_ok-rows.rows.items user c.index.result.now low c.index.ensures empty_row
+    ∙ ap (λ rows. get_or rows user empty_row) c.in_ok-rows.ensures
     ∙ row_at header first c.args.looks.now user known

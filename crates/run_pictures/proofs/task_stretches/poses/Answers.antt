@@ -1,9 +1,8 @@
 use Rattle.std.proofs.Common.{◌≡◌, ◌∙◌, ap, subst, sym}
 use Rattle.std.specs.Prelude.{IfOk}
 use Rattle.run_pictures.specs.Poses.{openings, detailed_stretches}
-use Rattle.run_pictures.specs.RowStates.{row_stances}
+use Rattle.run_pictures.specs.RowStretches.{Row}
 use Rattle.run_pictures.specs.TaskStretches.{stance_stretches}
-use Rattle.run_pictures.proofs.RowStates.{stances_same}
 use Rattle.run_pictures.proofs.task_stretches.poses.Goals as goal
 
 pub returns-in_ok-stances-in-FirstPlace : goal.returns-in_ok-stances-in-FirstPlace
@@ -12,6 +11,6 @@ returns-in_ok-stances-in-FirstPlace c =
     let looks = c.args.looks.now in
     let task = c.args.task in
     let stances : c.as_slice.result.now ≡ stance_stretches first looks task =
-    c.as_slice.ensures.value ∙ c.in_ok-stances-in-FirstPlace.ensures ∙ ap row_stances c.requires.states ∙ stances_same first looks task in
+    c.as_slice.ensures.value ∙ c.in_ok-stances-in-FirstPlace.ensures ∙ ap (λ (row : Row). row.stances) (c.row.view_is ∙ c.requires.row) in
     subst (λ detail. IfOk c.openings.result (λ stretches. stretches.items ≡ detailed_stretches detail first looks task)) (sym c.in-FirstPlace.is)
     (subst (λ stretches. IfOk c.openings.result (λ poses. poses.items ≡ openings first looks task stretches)) stances c.openings.ensures)

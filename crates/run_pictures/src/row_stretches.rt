@@ -1,82 +1,79 @@
-//! What the rows of tasks show, and its stretches, which are found for all tasks look by look.
-ghost use Rattle.std.specs.Prelude.{◌≡◌, [], ◌+◌, ◌<◌, ◌≤◌, ◌^◌, IfOk, None, OnOk, Some, length, map, slice_index_or, slice_set};
+//! The stretches of what the rows of tasks show, which are found for all tasks look by look.
+ghost use Rattle.std.specs.Prelude.{◌≡◌, ◌+◌, ◌<◌, ◌≤◌, ◌^◌, IfOk, None, OnOk, Some, length, map, slice_index_or, slice_set};
 ghost use Rattle.list_orders.specs.Search.{numbers};
 ghost use Rattle.bench_types.specs.Limits.{max_cores, max_tasks};
-ghost use Rattle.run_pictures.specs.RowStates.{all_row_stretches, all_runners, are_same_row_states, row_state_in};
+ghost use Rattle.run_pictures.specs.RowStretches.{all_row_stretches, all_runners, empty_row, extended_row};
 ghost use Rattle.run_pictures.specs.Stances.{core_of};
-ghost use Rattle.run_pictures.specs.StretchesOf.{extended};
 
-use crate::shown::{Priorities, is_same_flag};
-use crate::stance::{Stance, is_same_stance, stance_with, status_in};
-use crate::stretch::{Stretch, StretchValue, extend};
+use crate::shown::Priorities;
+use crate::stance::{Stance, stance_with, status_in};
+use crate::stretch::{Stretch, extend};
+use crate::task_names::Terms;
 use bench_types::Header;
-use run_views::Look;
+use run_views::{Look, TaskStatus};
 use std::alloc::{AllocError, Global};
 use std::collections::VecDeque;
 use std::marker::Model;
 
-/// What the row of a task shows of a look.
-#[derive(Clone, Copy, Debug, Drop, PartialEq, Eq)]
-pub(crate) struct RowState {
-    pub(crate) stance: Stance,
-    pub(crate) priorities: Priorities,
-    pub(crate) mask: u32,
-    /// Whether its preemption is on.
-    pub(crate) preempt: bool,
-}
-
-impl StretchValue for RowState {
-    ghost use Rattle.run_pictures.specs.StretchValues.{row_states_decided};
-
-    ghost same = { are_same_row_states };
-
-    ghost tells = { row_states_decided };
-
-    fn is_same(&self, other: &Self) -> bool {
-        is_same_stance(self.stance, other.stance)
-            && self.priorities.is_same(&other.priorities)
-            && self.mask == other.mask
-            && is_same_flag(self.preempt, other.preempt)
-    }
-}
-
 /// The stretches of what one row shows, from some place on to the last.
 #[derive(Drop)]
 pub(crate) struct RowStretches {
-    queue: VecDeque<Stretch<RowState>>,
+    pub(crate) stances: VecDeque<Stretch<Stance>>,
+    pub(crate) priorities: VecDeque<Stretch<Priorities>>,
+    pub(crate) terms: VecDeque<Stretch<Terms>>,
+    /// Whether the task's preemption is on.
+    pub(crate) preempts: VecDeque<Stretch<bool>>,
 }
 
 impl Model for RowStretches {
-    ghost use Rattle.std.specs.Prelude.{List};
-    ghost use Rattle.run_pictures.specs.declared.row_states.RowState.{RowState};
-    ghost use Rattle.run_pictures.specs.declared.stretch.Stretch.{Stretch};
+    ghost use Rattle.run_pictures.specs.RowStretches.{Row};
 
-    ghost Value = { List (Stretch RowState) };
+    ghost Value = { Row };
 
-    ghost view = { λ stretches. stretches.queue.items };
+    ghost view = { λ row.
+        record {
+          stances = row.stances.items;
+          priorities = row.priorities.items;
+          terms = row.terms.items;
+          preempts = row.preempts.items;
+        } };
 }
 
 impl RowStretches {
     fn new(alloc: Global) -> RowStretches
-        ensures { result ≡ [] }
+        ensures { result ≡ empty_row }
     {
         RowStretches {
-            queue: VecDeque::new(alloc),
+            stances: VecDeque::new(alloc),
+            priorities: VecDeque::new(alloc),
+            terms: VecDeque::new(alloc),
+            preempts: VecDeque::new(alloc),
         }
     }
 
-    // One place more in front of them.
-    fn extend(&mut self, place: u32, state: RowState) -> Result<(), AllocError>
-        ensures { OnOk result (self.new ≡ extended are_same_row_states place state self.old) }
+    // The place of the look more in front of them, where this core is the first that runs the task.
+    fn extend(
+        &mut self,
+        place: u32,
+        look: &Look,
+        task: u32,
+        core: Option<usize>,
+    ) -> Result<(), AllocError>
+        requires { core ≡ core_of task look.now.cores }
+        ensures { OnOk result (self.new ≡ extended_row place look.now task self.old) }
     {
-        extend(&mut self.queue, place, state)
-    }
-
-    /// The stretches, the first one first.
-    pub(crate) fn to_vec(&self, alloc: Global) -> Result<Vec<Stretch<RowState>>, AllocError>
-        ensures { IfOk result (λ stretches. stretches.items ≡ self.now) }
-    {
-        self.queue.iter().copied().collect(alloc)
+        let status = status_in(look, task);
+        let TaskStatus {
+            in_use,
+            base,
+            mask,
+            preempt,
+            ..
+        } = status;
+        extend(&mut self.stances, place, stance_with(status, core))?;
+        extend(&mut self.priorities, place, Priorities { in_use, base })?;
+        extend(&mut self.terms, place, Terms { base, mask })?;
+        extend(&mut self.preempts, place, preempt)
     }
 }
 
@@ -108,23 +105,6 @@ fn all_runners(alloc: Global, look: &Look, tasks: usize) -> Result<Vec<Option<us
     Ok(runners)
 }
 
-// What is shown of the task, where this core is the first that runs it.
-fn row_state_on(look: &Look, task: u32, core: Option<usize>) -> RowState
-    requires { core ≡ core_of task look.now.cores }
-    ensures { result ≡ row_state_in task look.now }
-{
-    let status = status_in(look, task);
-    RowState {
-        stance: stance_with(status.standing, status.cause, core),
-        priorities: Priorities {
-            in_use: status.in_use,
-            base: status.base,
-        },
-        mask: status.mask,
-        preempt: status.preempt,
-    }
-}
-
 // The place of the look more in front of the stretches of each user task.
 fn extend_rows(
     rows: &mut Vec<RowStretches>,
@@ -138,21 +118,20 @@ fn extend_rows(
     ensures { OnOk result
         (rows.new.items
         ≡ map
-        (λ user. extended are_same_row_states place (row_state_in (cores + user) look.now)
-        (slice_index_or rows.old.items user []))
+        (λ user. extended_row place look.now (cores + user)
+        (slice_index_or rows.old.items user empty_row))
         (numbers (length rows.old.items))) }
 {
     for user in 0..rows.len() {
         let task = cores + user as u32;
-        let state = row_state_on(look, task, runners[task as usize]);
-        rows[user].extend(place, state)?;
+        rows[user].extend(place, look, task, runners[task as usize])?;
     }
     Ok(())
 }
 
 // The rows of so many tasks of which no place is known.
 fn no_rows(alloc: Global, users: usize) -> Result<Vec<RowStretches>, AllocError>
-    ensures { IfOk result (λ rows. rows.items ≡ map (λ user. []) (numbers users)) }
+    ensures { IfOk result (λ rows. rows.items ≡ map (λ user. empty_row) (numbers users)) }
 {
     let mut rows = Vec::with_capacity(alloc, users)?;
     for _ in 0..users {
@@ -178,15 +157,10 @@ pub(crate) fn all_row_stretches(
     let users = header.tasks.as_slice().len();
     let mut rows = no_rows(alloc, users)?;
     for index in (0..looks.len()).rev() {
+        let place = first + index as u32;
         let look = &looks[index];
         let runners = all_runners(alloc, look, cores as usize + users)?;
-        extend_rows(
-            &mut rows,
-            first + index as u32,
-            look,
-            cores,
-            runners.as_slice(),
-        )?;
+        extend_rows(&mut rows, place, look, cores, runners.as_slice())?;
     }
     Ok(rows)
 }

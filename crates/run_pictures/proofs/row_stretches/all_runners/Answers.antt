@@ -2,8 +2,8 @@ use Rattle.std.proofs.Common.{◌≡◌, ◌∙◌, ◌+◌, ◌-◌, Some, ap, 
 use Rattle.std.specs.Prelude.{slice_set}
 use Rattle.bench_types.specs.declared.kernel_data.CoreLook.{CoreLook}
 use Rattle.list_orders.specs.Search.{numbers}
-use Rattle.run_pictures.proofs.RowStates.{core_from, each_runner, no_runner, one_runner}
-use Rattle.run_pictures.proofs.row_states.all_runners.Goals as goal
+use Rattle.run_pictures.proofs.RowStretches.{core_from, each_runner, no_runner, one_runner}
+use Rattle.run_pictures.proofs.row_stretches.all_runners.Goals as goal
 
 pub loop-core-init : goal.loop-core-init
 loop-core-init c = c.in_ok-runners.ensures ∙ no_runner c.as_slice-cores.result.now c.args.tasks

@@ -1,7 +1,0 @@
-use Rattle.std.proofs.Common.{[]}
-use Rattle.run_pictures.proofs.Numbered.{IsSetTo}
-use Rattle.run_pictures.proofs.RowStates.{with_place}
-use Rattle.run_pictures.proofs.row_states.extend_rows.Given as goal
-
-abbrev pub invariant-loop-user : goal.invariant-loop-user
-invariant-loop-user l = IsSetTo (with_place l.place l.look l.cores l.fn.rows.items) [] l.fn.rows.items l.user l.rows.items

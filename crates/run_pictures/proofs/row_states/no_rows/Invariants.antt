@@ -1,6 +1,0 @@
-use Rattle.std.proofs.Common.{◌≡◌, [], map}
-use Rattle.list_orders.specs.Search.{numbers}
-use Rattle.run_pictures.proofs.row_states.no_rows.Given as goal
-
-abbrev pub invariant-loop : goal.invariant-loop
-invariant-loop l = l.rows.items ≡ map (λ user. []) (numbers l.counter)

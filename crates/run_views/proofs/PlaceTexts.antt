@@ -21,47 +21,39 @@ use Rattle.run_views.specs.declared.look.Look.{Look}
 use Rattle.run_views.specs.declared.places.Places.{Places}
 use Rattle.run_views.specs.Changes.{changes}
 use Rattle.run_views.specs.Looks.{look_of}
-use Rattle.run_views.specs.PlaceTexts.{everything, lines_of_step, place_text, place_texts, shown_text}
+use Rattle.run_views.specs.PlaceTexts.{everything, lines_of_step, place_text, place_texts, shown_text, text_at}
 use Rattle.run_views.specs.Trace.{place_line, place_part, shows, step_lines, step_part, printed_at, printed_from, printed_part, trace_text, Shows}
 use Rattle.run_views.proofs.States.{made_of, made_of_more, next_state, shown_few}
 
 -- ---- a loop over the steps
 
-pub record TextsSoFar (places : Places) (header : Header) (first : View) (steps : List Step) (old texts : List (List ℕ)) (kernel : View) (look : Look)
+pub record TextsSoFar (places : Places) (header : Header) (first : View) (steps : List Step) (old texts : List (List ℕ)) (kernel : View)
     (place : ℕ) : Type 0 where
-  pub seen : Shows kernel look
   pub settings : kernel.settings ≡ first.settings
   pub stands : StandsFor kernel (state_at header steps place)
   pub printed : texts ≡ old ++ made_of (shows places) (place_text places header steps) place
 
-pub none_printed : (places : Places) (header : Header) (first : View) (steps : List Step) (texts : List (List ℕ)) (look : Look) → StandsFor first (start header)
-    → Shows first look → TextsSoFar places header first steps texts texts first look 0
+pub none_printed : (places : Places) (header : Header) (first : View) (steps : List Step) (texts : List (List ℕ)) → StandsFor first (start header)
+    → TextsSoFar places header first steps texts texts first 0
 unfolding state_at
-none_printed places header first steps texts look starts seen = record { seen = seen; settings = refl; stands = starts; printed = sym (append-nil texts) }
+none_printed places header first steps texts starts = record { settings = refl; stands = starts; printed = sym (append-nil texts) }
 
 -- a place at which a step is made
-text_here : (places : Places) (header : Header) (steps : List Step) (place : ℕ) (d : Step) (look : Look) (reply : Reply) (some : List Change) → place < length
-    steps → look ≡ look_of (state_at header steps place) → reply ≡ (step_of (get_or steps place d) (state_at header steps place)).0
-    → some ≡ changes (look_of (state_at header steps place)) (look_of (step_of (get_or steps place d) (state_at header steps place)).1) → place_line header
-    place look ++ step_part places header place (get_or steps place d) reply some ≡ place_text places header steps place
+text_here : (places : Places) (header : Header) (steps : List Step) (place : ℕ) (d : Step) → place < length steps
+    → text_at places header place (state_at header steps place) (get_or steps place d) ≡ place_text places header steps place
 unfolding place_text
-text_here places header steps place d look reply some early look_is reply_is some_is =
+text_here places header steps place d early =
     let state = state_at header steps place in
-    let step = get_or steps place d in
-    ap (λ (l : Look). place_line header place l ++ step_part places header place step reply some) look_is
-    ∙ ap (λ (r : Reply). place_line header place (look_of state) ++ step_part places header place step r some) reply_is
-    ∙ ap (λ (cs : List Change). place_line header place (look_of state) ++ step_part places header place step (step_of step state).0 cs) some_is
-    ∙ ap (λ (one : Option Step). place_line header place (look_of state) ++ lines_of_step places header place state one)
+    ap (λ (one : Option Step). place_line header place (look_of state) ++ lines_of_step places header place state one)
     (sym (slice_get-get_or steps place d early))
 
 -- the end, at which none is made
-text_there : (places : Places) (header : Header) (steps : List Step) (place : ℕ) (look : Look) → length steps ≤ place → look ≡ look_of
-    (state_at header steps place) → place_line header place look ≡ place_text places header steps place
+text_there : (places : Places) (header : Header) (steps : List Step) (place : ℕ) → length steps ≤ place
+    → place_line header place (look_of (state_at header steps place)) ≡ place_text places header steps place
 unfolding place_text
-text_there places header steps place look late look_is =
+text_there places header steps place late =
     let state = state_at header steps place in
-    ap (place_line header place) look_is
-    ∙ sym (append-nil (place_line header place (look_of state)))
+    sym (append-nil (place_line header place (look_of state)))
     ∙ ap (λ (one : Option Step). place_line header place (look_of state) ++ lines_of_step places header place state one) (sym (slice_get_past steps place late))
 
 -- the text of one place more
@@ -74,38 +66,31 @@ one_more places header steps old texts next place text were pushed is =
     ∙ append_assoc old (made_of (shows places) f place) (shown_text places place (f place))
     ∙ ap (λ ts. old ++ ts) (sym (made_of_more (shows places) f place))
 
-pub step_printed : {places : Places} {header : Header} {first : View} {steps : List Step} {old texts : List (List ℕ)} {kernel : View} {look : Look} {place : ℕ}
-    (later : View) (later_look before : Look) (next : List (List ℕ)) (d : Step) (reply : Reply) (some : List Change) → TextsSoFar places header first steps old
-    texts kernel look place → place < length steps
-    → before ≡ look
-    → ((table : Table) → StandsFor kernel table → reply ≡ (step_of (get_or steps place d) table).0)
-    → ((table : Table) → StandsFor kernel table → some ≡ changes (look_of table) (look_of (step_of (get_or steps place d) table).1))
-    → ((table : Table) → StandsFor kernel table → StandsFor later (step_of (get_or steps place d) table).1)
-    → Shows later later_look → later.settings ≡ kernel.settings
-    → next ≡ texts ++ shown_text places place (place_line header place before ++ step_part places header place (get_or steps place d) reply some)
-    → TextsSoFar places header first steps old next later later_look (place + 1)
-step_printed {places} {header} {first} {steps} {old} {texts} {kernel} {look} {place} later later_look before next d reply some were early same replied changed
-    moves seen settings pushed =
+pub step_printed : {places : Places} {header : Header} {first : View} {steps : List Step} {old texts : List (List ℕ)} {kernel : View} {place : ℕ} (later : View)
+    (next : List (List ℕ)) (d : Step) → TextsSoFar places header first steps old texts kernel place → place < length steps
+    → ((table : Table) → StandsFor kernel table → next ≡ texts ++ shown_text places place (text_at places header place table (get_or steps place d)))
+    → ((table : Table) → StandsFor kernel table → StandsFor later (step_of (get_or steps place d) table).1) → later.settings ≡ kernel.settings
+    → TextsSoFar places header first steps old next later (place + 1)
+step_printed {places} {header} {first} {steps} {old} {texts} {kernel} {place} later next d were early pushed moves settings =
     let now = state_at header steps place in
     record {
-      seen = seen;
       settings = settings ∙ were.settings;
       stands = rw add-one (subst (λ (t : Table). StandsFor later t) (sym (next_state header steps place d early)) (moves now were.stands));
-      printed = one_more places header steps old texts next place (place_line header place before ++ step_part places header place (get_or steps place d) reply
-          some) were.printed pushed
-          (text_here places header steps place d before reply some early (same ∙ were.seen.shown now were.stands) (replied now were.stands)
-          (changed now were.stands));
+      printed = one_more places header steps old texts next place (text_at places header place now (get_or steps place d)) were.printed (pushed now were.stands)
+          (text_here places header steps place d early);
     }
 
-pub end_printed : {places : Places} {header : Header} {first : View} {steps : List Step} {old texts : List (List ℕ)} {kernel : View} {look : Look} {place : ℕ}
-    (next : List (List ℕ)) → TextsSoFar places header first steps old texts kernel look place → place ≡ length steps
-    → next ≡ texts ++ shown_text places (length steps) (place_line header (length steps) look) → next ≡ old ++ place_texts places header steps
+pub end_printed : {places : Places} {header : Header} {first : View} {steps : List Step} {old texts : List (List ℕ)} {kernel : View} {place : ℕ}
+    (next : List (List ℕ)) → TextsSoFar places header first steps old texts kernel place → place ≡ length steps
+    → ((table : Table) → StandsFor kernel table → next ≡ texts ++ shown_text places (length steps) (place_line header (length steps) (look_of table))) → next ≡
+    old ++ place_texts places header steps
 unfolding place_texts
-end_printed {places} {header} {first} {steps} {old} {texts} {kernel} {look} {place} next were end pushed =
+end_printed {places} {header} {first} {steps} {old} {texts} {kernel} {place} next were end pushed =
     let f = place_text places header steps in
-    one_more places header steps old texts next place (place_line header place look) were.printed
-    (pushed ∙ ap (λ n. texts ++ shown_text places n (place_line header n look)) (sym end))
-    (text_there places header steps place look (omega (arith, end)) (were.seen.shown (state_at header steps place) were.stands))
+    let now = state_at header steps place in
+    one_more places header steps old texts next place (place_line header place (look_of now)) were.printed
+    (pushed now were.stands ∙ ap (λ n. texts ++ shown_text places n (place_line header n (look_of now))) (sym end))
+    (text_there places header steps place (omega (arith, end)))
     ∙ ap (λ n. old ++ made_of (shows places) f n) (add-one place ∙ ap suc end)
 
 -- ---- one after another they are the trace
@@ -142,7 +127,7 @@ printed_here places header steps place d early =
     let step = get_or steps place d in
     let outcome = step_of step state in
     let some = changes (look_of state) (look_of outcome.1) in
-    ap (λ (t : List ℕ). if shows places place then t else []) (sym (text_here places header steps place d (look_of state) outcome.0 some early refl refl refl))
+    ap (λ (t : List ℕ). if shows places place then t else []) (sym (text_here places header steps place d early))
     ∙ shown_parts (shows places place) (shows places (suc place)) (place_line header place (look_of state)) (step_lines header place step outcome.0 some)
 
 printed_so_far : (places : Places) (header : Header) (steps : List Step) (d : Step) (place : ℕ) → place ≤ length steps → printed_before places header steps
@@ -182,7 +167,7 @@ unfolding place_part state_at
 printed_last places header steps =
     let place = length steps in
     ap (λ (t : List ℕ). if shows places place then t else [])
-    (sym (text_there places header steps place (look_of (state_at header steps place)) (omega arith) refl)
+    (sym (text_there places header steps place (omega arith))
     ∙ ap (λ ss. place_line header place (look_of (state_after (start header) ss))) (take_all place steps (omega arith)))
 
 -- the whole trace

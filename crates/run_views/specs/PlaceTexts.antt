@@ -15,6 +15,14 @@ use Rattle.run_views.specs.Trace.{place_line, shows, step_part}
 abbrev pub everything : Interest
 everything = record { tasks = []; cores = [] }
 
+-- what is told of a place in a state at which the step is made: its line, and the lines of the
+-- step, where the next place is shown too
+abbrev pub text_at : Places → Header → ℕ → Table → Step → List ℕ
+text_at places header place state step =
+    let outcome = step_of step state in
+    place_line header place (look_of state)
+    ++ step_part places header place step outcome.0 (changes (look_of state) (look_of outcome.1))
+
 -- the lines of the step that is made there, where the next place is shown too; none at the end
 abbrev pub lines_of_step : Places → Header → ℕ → Table → Option Step → List ℕ
 lines_of_step places header place state None = []

@@ -5,7 +5,7 @@ ghost use Rattle.bench_model.specs.Equal.{StandsFor};
 ghost use Rattle.bench_model.specs.Session.{step_of};
 ghost use Rattle.bench_model.specs.Start.{start};
 ghost use Rattle.bench_model.specs.Table.{Table};
-ghost use Rattle.run_views.specs.Changes.{changes};
+ghost use Rattle.run_views.specs.Changes.{changes, IsNumbered};
 ghost use Rattle.run_views.specs.Looks.{look_of};
 ghost use Rattle.run_views.specs.Trace.{Shows};
 
@@ -20,6 +20,49 @@ pub(crate) struct Seen {
     pub(crate) before: Look,
     pub(crate) reply: Reply,
     pub(crate) changes: Items<Change>,
+}
+
+// All that changed in the kernel since this was seen of it.
+fn changes_since(alloc: Global, before: &Look, kernel: &Kernel) -> Result<Vec<Change>, AllocError>
+    requires { IsNumbered before.now }
+    ensures { IfOk result (λ found. (table : Table) → StandsFor kernel.now table
+        → found.items ≡ changes before.now (look_of table)) }
+{
+    let look = Look::of_kernel(alloc, kernel)?;
+    before.changes_to(alloc, &look)
+}
+
+impl Seen {
+    /// Makes the step, and looks at the kernel before it and after it.
+    pub(crate) fn of_step(
+        alloc: Global,
+        meter: &mut Meter,
+        kernel: &mut Kernel,
+        step: &Step,
+    ) -> Result<Seen, AllocError>
+        requires { step_check kernel.old.settings step.now ≡ Ok tt }
+        ensures before { IfOk result
+            (λ seen. (table : Table) → StandsFor kernel.old table → seen.before ≡ look_of table) }
+        ensures numbered { IfOk result (λ seen. IsNumbered seen.before) }
+        ensures reply { IfOk result
+            (λ seen. (table : Table) → StandsFor kernel.old table
+            → seen.reply ≡ (step_of step.now table).0) }
+        ensures changes { IfOk result
+            (λ seen. (table : Table) → StandsFor kernel.old table
+            → seen.changes ≡ changes (look_of table) (look_of (step_of step.now table).1)) }
+        ensures state { OnOk result ((table : Table) → StandsFor kernel.old table
+            → StandsFor kernel.new (step_of step.now table).1) }
+        ensures settings { OnOk result (kernel.new.settings ≡ kernel.old.settings) }
+    {
+        let before = Look::of_kernel(alloc, kernel)?;
+        let reply = kernel.step(meter, step);
+        let changes = Items::new(changes_since(alloc, &before, kernel)?);
+        Ok(Seen {
+            before,
+            reply,
+            changes,
+        })
+    }
 }
 
 /// A kernel with what can be seen of it.

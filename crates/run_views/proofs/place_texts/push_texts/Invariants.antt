@@ -3,5 +3,5 @@ use Rattle.run_views.proofs.PlaceTexts.{TextsSoFar}
 use Rattle.run_views.proofs.place_texts.push_texts.Given as goal
 
 abbrev pub invariant-loop-place : goal.invariant-loop-place
-invariant-loop-place l = TextsSoFar l.places l.header l.fn.watch.kernel l.steps (map string_bytes l.fn.texts.items) (map string_bytes l.texts.items)
-    l.watch.kernel l.watch.look l.place
+invariant-loop-place l = TextsSoFar l.places l.header l.fn.kernel l.steps (map string_bytes l.fn.texts.items) (map string_bytes l.texts.items)
+    l.kernel l.place

@@ -860,6 +860,22 @@ for done in 64 128 192 256 320 384 448 504; do told+=$'\r'"$done of 504 tried"; 
 on_terminal 'progress of 504 changes' 126 "$told"$'\r\n' $'T0.run is 1; 504 changes tried\n'
 run 'no progress in a file' 0 $'T0.run is 1; 504 changes tried\n' '' advise --task T0 --less run --over priority --best 0
 
+# A report on so many ticks of one task, with a terminal for standard error, which is told the parts of a long command alone.
+parts_on_terminal() { # NAME TICKS TOLD
+    {
+        printf '{"format":1,"cores":2,"priorities":5,"slicing":false,"tick":0,"mutexes":0,'
+        printf '"tasks":[{"name":"T0","priority":1,"mask":1}],"steps":['
+        yes '{"do":"tick"}' | head -n "$2" | paste -sd,
+        printf ']}\n'
+    } >"$folder/in"
+    script -qec "'$program' report --settle <'$folder/in' >'$folder/printed'" /dev/null \
+        </dev/null >"$folder/out" 2>"$folder/err"
+    status=$?
+    compare "$1" 0 "$3" ''
+}
+parts_on_terminal 'no parts of a short report' 99999 ''
+parts_on_terminal 'the parts of a long report' 100000 $'part 1 of 2: settling\r\npart 2 of 2: measuring\r\n'
+
 # ---- refused input
 
 : >"$folder/in"

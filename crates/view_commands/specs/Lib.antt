@@ -7,6 +7,7 @@ pub mod Families
 pub mod Interests
 pub mod Options
 pub mod PageViews
+pub mod Parts
 pub mod Progress
 pub mod Refused
 pub mod ReportViews

@@ -12,6 +12,7 @@ use crate::advice::printed_advice;
 use crate::checks::printed_check;
 use crate::edited::shown;
 use crate::pages::printed_page;
+use crate::parts::{Course, PartProgress};
 use crate::reports::printed_report;
 use crate::request::{Command, Job};
 use crate::settled::printed_settled;
@@ -20,7 +21,6 @@ use bench_types::{CheckedSession, MAX_INPUT};
 use program_io::{
     Output, explained, too_long, too_many_steps, twice_note, twice_note_of_refused, warned,
 };
-use ranked_changes::Progress;
 use session_edits::EditedSession;
 use session_text::{Bench, Noted, TextFault, read_bench_noted};
 use smp_kernel::Meter;
@@ -37,10 +37,10 @@ fn refused_text(alloc: Global, input: &[u8], fault: TextFault) -> Result<Output,
 }
 
 // What the command tells of the session and its edits.
-fn printed_of_command<T: Threads + Sync, P: Progress>(
+fn printed_of_command<T: Threads + Sync, P: PartProgress>(
     rt: &T,
     host: &HostRuntime,
-    progress: &mut P,
+    course: &mut Course<P>,
     alloc: Global,
     meter: &mut Meter,
     edited: &EditedSession,
@@ -50,19 +50,19 @@ fn printed_of_command<T: Threads + Sync, P: Progress>(
         (λ printed. IsPrinted command.now edited.now.session edited.now.edits printed) }
 {
     match command {
-        Command::Plain(view) => shown(alloc, meter, edited, view),
-        Command::Settled(view) => printed_settled(alloc, meter, edited, view),
-        Command::Report(view) => printed_report(alloc, meter, edited, *view),
-        Command::Check(view) => printed_check(alloc, meter, edited, view),
-        Command::Page(view) => printed_page(alloc, meter, edited, *view),
+        Command::Plain(view) => shown(course, alloc, meter, edited, view),
+        Command::Settled(view) => printed_settled(course, alloc, meter, edited, view),
+        Command::Report(view) => printed_report(course, alloc, meter, edited, *view),
+        Command::Check(view) => printed_check(course, alloc, meter, edited, view),
+        Command::Page(view) => printed_page(course, alloc, meter, edited, *view),
         Command::Advise(question) => {
-            printed_advice(rt, host, alloc, meter, progress, edited, question)
+            printed_advice(rt, host, alloc, meter, course.progress, edited, question)
         }
     }
 }
 
 // The same, judged where refusals count.
-fn judged_of_job<T: Threads + Sync, P: Progress>(
+fn judged_of_job<T: Threads + Sync, P: PartProgress>(
     rt: &T,
     host: &HostRuntime,
     progress: &mut P,
@@ -77,16 +77,24 @@ fn judged_of_job<T: Threads + Sync, P: Progress>(
         × IsJudged job.now.strict
         (IsRefusing job.now.command edited.now.session edited.now.edits) alone judged) }
 {
+    let mut course = Course::new(progress, edited, job);
     let command = &job.command;
-    let printed = printed_of_command(rt, host, progress, alloc, meter, edited, command)?;
+    let printed = printed_of_command(rt, host, &mut course, alloc, meter, edited, command)?;
     if !job.strict {
         return Ok(printed);
     }
-    judged_strictly(alloc, meter, edited, command.is_settled(), printed)
+    judged_strictly(
+        &mut course,
+        alloc,
+        meter,
+        edited,
+        command.is_settled(),
+        printed,
+    )
 }
 
 // What the job tells of the session and its edits.
-fn printed_of_job<T: Threads + Sync, P: Progress>(
+fn printed_of_job<T: Threads + Sync, P: PartProgress>(
     rt: &T,
     host: &HostRuntime,
     progress: &mut P,
@@ -113,7 +121,7 @@ fn refused_length(alloc: Global, lines: String) -> Result<Output, AllocError>
 
 // What is told of a document that was read, after these lines. Texts may have any number of steps,
 // so J2 is found here.
-fn printed_of_bench<T: Threads + Sync, P: Progress>(
+fn printed_of_bench<T: Threads + Sync, P: PartProgress>(
     rt: &T,
     host: &HostRuntime,
     progress: &mut P,
@@ -141,7 +149,7 @@ fn printed_of_bench<T: Threads + Sync, P: Progress>(
 }
 
 // What is told, but for H3.
-fn printed_of_text<T: Threads + Sync, P: Progress>(
+fn printed_of_text<T: Threads + Sync, P: PartProgress>(
     rt: &T,
     host: &HostRuntime,
     progress: &mut P,
@@ -163,7 +171,7 @@ fn printed_of_text<T: Threads + Sync, P: Progress>(
 
 /// All that is told of the input.
 #[tactic(auto, unfolding(crate::specs::Commands::IsView))]
-pub(crate) fn printed_of<T: Threads + Sync, P: Progress>(
+pub(crate) fn printed_of<T: Threads + Sync, P: PartProgress>(
     rt: &T,
     host: &HostRuntime,
     progress: &mut P,

@@ -2,6 +2,7 @@
 ghost use Rattle.std.specs.Prelude.{◌≡◌, IfOk, string_bytes};
 ghost use Rattle.view_commands.specs.CheckViews.{IsCheckView, printed_of_check};
 
+use crate::parts::{Course, Part, PartProgress};
 use crate::request::CheckView;
 use crate::settled::not_settled;
 use program_io::{Output, OutputStatus};
@@ -36,7 +37,8 @@ fn printed_of_check(alloc: Global, status: CheckStatus, text: String) -> Output
 }
 
 /// Whether the run of the session with its edits made keeps the limits.
-pub(crate) fn printed_check(
+pub(crate) fn printed_check<P: PartProgress>(
+    course: &mut Course<P>,
     alloc: Global,
     meter: &mut Meter,
     edited: &EditedSession,
@@ -45,6 +47,7 @@ pub(crate) fn printed_check(
     ensures { IfOk result
         (λ printed. IsCheckView view.now edited.now.session edited.now.edits printed) }
 {
+    course.begin(Part::Measuring);
     let (session, limits) = (edited.edited(), view.limits.as_slice());
     match check(alloc, meter, session, view.settled, limits) {
         Ok(Checked { status, text }) => Ok(printed_of_check(alloc, status, text)),

@@ -6,6 +6,7 @@ ghost use Rattle.view_commands.specs.Views.{answer_output, columns_by, document_
 ghost use Rattle.program_io.specs.Outputs.{fine};
 
 use crate::interest::{interest_of, unknown_core, unknown_task};
+use crate::parts::{Course, Part, PartProgress};
 use crate::{Selection, View};
 use bench_types::{CheckedSession, Items, Step};
 use program_io::Output;
@@ -58,7 +59,8 @@ fn refused_core(alloc: Global, core: u32) -> Result<Output, AllocError>
 }
 
 /// A trace of a session, or that it has no such task or core.
-pub(crate) fn trace_output(
+pub(crate) fn trace_output<P: PartProgress>(
+    course: &mut Course<P>,
     alloc: Global,
     meter: &mut Meter,
     session: &CheckedSession,
@@ -73,6 +75,7 @@ pub(crate) fn trace_output(
     if let Some(core) = unknown_core(session.header(), selection.cores.as_slice()) {
         return refused_core(alloc, core);
     }
+    course.begin(Part::Tracing);
     let text = trace_of(alloc, meter, session, selection)?;
     Ok(Output::fine(alloc, text))
 }
@@ -175,7 +178,8 @@ fn picture_of_both(
 }
 
 /// The picture of the run, and with edits that of the run after them below it.
-pub(crate) fn picture_of(
+pub(crate) fn picture_of<P: PartProgress>(
+    course: &mut Course<P>,
     alloc: Global,
     meter: &mut Meter,
     edited: &EditedSession,
@@ -184,6 +188,7 @@ pub(crate) fn picture_of(
     ensures { IfOk result
         (λ shown. shown ≡ picture_of extent edited.now.session edited.now.edits) }
 {
+    course.begin(Part::Drawing);
     if edited.edits().len() == 0 {
         return picture_of_run(alloc, meter, edited.session(), extent);
     }
@@ -191,7 +196,8 @@ pub(crate) fn picture_of(
 }
 
 /// What the view shows of the session and its edits; those that are refused are passed over.
-pub(crate) fn shown(
+pub(crate) fn shown<P: PartProgress>(
+    course: &mut Course<P>,
     alloc: Global,
     meter: &mut Meter,
     edited: &EditedSession,
@@ -201,12 +207,13 @@ pub(crate) fn shown(
         (λ answer. answer ≡ shown view.now edited.now.session edited.now.edits) }
 {
     match view {
-        View::Trace(selection) => trace_output(alloc, meter, edited.edited(), selection),
+        View::Trace(selection) => trace_output(course, alloc, meter, edited.edited(), selection),
         View::Session => document_output(alloc, edited.edited()),
         View::Compare => {
+            course.begin(Part::Comparing);
             let text = compare(alloc, meter, edited)?;
             Ok(Output::fine(alloc, text.into_bytes()))
         }
-        View::Timeline(extent) => picture_of(alloc, meter, edited, *extent),
+        View::Timeline(extent) => picture_of(course, alloc, meter, edited, *extent),
     }
 }

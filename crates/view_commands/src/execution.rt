@@ -4,15 +4,15 @@ ghost use Rattle.view_commands.specs.Commands.{IsView};
 
 use crate::Job;
 use crate::answer::printed_of;
+use crate::parts::PartProgress;
 use program_io::{CountedRead, CountedWrite, Ending, tell_of_input};
-use ranked_changes::Progress;
 use std::alloc::Global;
 use std::thread::Threads;
 
 /// Reads a document to its end, or one byte past the most that it is, and then writes what the
 /// job tells of it. Changes are tried in several threads, and how far that is goes to
 /// `progress`.
-pub fn run<T: Threads + Sync, P: Progress, R: CountedRead, W: CountedWrite>(
+pub fn run<T: Threads + Sync, P: PartProgress, R: CountedRead, W: CountedWrite>(
     rt: &T,
     host: &HostRuntime,
     progress: &mut P,

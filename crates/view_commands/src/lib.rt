@@ -13,6 +13,7 @@ mod interest;
 mod limits;
 mod options;
 mod pages;
+mod parts;
 mod program;
 mod progress;
 mod reports;
@@ -27,6 +28,7 @@ pub use command_line::request_of;
 pub use edited::law_of_texts;
 pub use examples::examples_of_command_lines;
 pub use execution::run;
+pub use parts::{Part, PartProgress};
 pub use program::{carry_out, run_program};
 pub use progress::Telling;
 pub use request::{

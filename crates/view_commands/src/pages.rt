@@ -7,6 +7,7 @@ ghost use Rattle.session_runs.specs.Run.{IsRunOf};
 ghost use Rattle.view_commands.specs.PageViews.{counts_text, made_page, page_of, run_word, title_text, with_comparison, with_report, AreDrawn, IsCompared, IsPage};
 
 use crate::edited::picture_of;
+use crate::parts::{Course, Part, PartProgress};
 use crate::reports::{pair_reported, printed_report, run_reported};
 use crate::settled::{pair_compared, run_pictured, session_not_settled};
 use crate::settled_pictures::pair_pictured;
@@ -33,7 +34,8 @@ struct Drawn {
 
 // What `compare` tells, where there are edits.
 #[tactic(auto, using(crate::proofs::ComparedParts::compared_some))]
-fn comparison_part(
+fn comparison_part<P: PartProgress>(
+    course: &mut Course<P>,
     alloc: Global,
     meter: &mut Meter,
     edited: &EditedSession,
@@ -44,12 +46,14 @@ fn comparison_part(
     if edited.edits().is_empty() {
         return Ok(None);
     }
+    course.begin(Part::Comparing);
     let text = compare(alloc, meter, edited)?;
     Ok(Some(Output::fine(alloc, text.into_bytes())))
 }
 
 // What the other commands tell of the session and its edits as they stand.
-fn plain_parts(
+fn plain_parts<P: PartProgress>(
+    course: &mut Course<P>,
     alloc: Global,
     meter: &mut Meter,
     edited: &EditedSession,
@@ -61,14 +65,15 @@ fn plain_parts(
 {
     let (settled, form) = (view.settled, Form::Table);
     Ok(Drawn {
-        picture: picture_of(alloc, meter, edited, view.extent)?,
-        comparison: comparison_part(alloc, meter, edited)?,
-        report: printed_report(alloc, meter, edited, ReportView { settled, form })?,
+        picture: picture_of(course, alloc, meter, edited, view.extent)?,
+        comparison: comparison_part(course, alloc, meter, edited)?,
+        report: printed_report(course, alloc, meter, edited, ReportView { settled, form })?,
     })
 }
 
 // What they tell of a settled run, where there are no edits.
-fn run_parts(
+fn run_parts<P: PartProgress>(
+    course: &mut Course<P>,
     alloc: Global,
     meter: &mut Meter,
     run: &Run,
@@ -80,14 +85,15 @@ fn run_parts(
         → AreDrawn view session [] drawn) }
 {
     Ok(Drawn {
-        picture: run_pictured(alloc, meter, run, view.extent)?,
+        picture: run_pictured(course, alloc, meter, run, view.extent)?,
         comparison: None,
-        report: run_reported(alloc, meter, run, Form::Table)?,
+        report: run_reported(course, alloc, meter, run, Form::Table)?,
     })
 }
 
 // What they tell of two settled runs.
-fn pair_parts(
+fn pair_parts<P: PartProgress>(
+    course: &mut Course<P>,
     alloc: Global,
     meter: &mut Meter,
     edited: &EditedSession,
@@ -102,9 +108,9 @@ fn pair_parts(
         (λ drawn. AreDrawn view edited.now.session edited.now.edits drawn) }
 {
     Ok(Drawn {
-        picture: pair_pictured(alloc, meter, edited, pair, view.extent)?,
-        comparison: Some(pair_compared(alloc, edited, pair)?),
-        report: pair_reported(alloc, meter, pair, Form::Table)?,
+        picture: pair_pictured(course, alloc, meter, edited, pair, view.extent)?,
+        comparison: Some(pair_compared(course, alloc, edited, pair)?),
+        report: pair_reported(course, alloc, meter, pair, Form::Table)?,
     })
 }
 
@@ -212,7 +218,8 @@ fn with_comparison(
 
 // The page of these parts and of the trace of the session's run as it stands; the first of the
 // parts that is refused is told in its place.
-fn page_of_run(
+fn page_of_run<P: PartProgress>(
+    course: &mut Course<P>,
     alloc: Global,
     meter: &mut Meter,
     session: &CheckedSession,
@@ -230,6 +237,7 @@ fn page_of_run(
     let _steps = session.steps();
     match picture.status {
         OutputStatus::Fine => {
+            course.begin(Part::Tracing);
             with_comparison(alloc, meter, session, view, picture, comparison, report)
         }
         OutputStatus::Failed | OutputStatus::Unknown => Ok(picture),
@@ -237,7 +245,8 @@ fn page_of_run(
 }
 
 // The page of the run after the edits as it stands.
-fn plain_page(
+fn plain_page<P: PartProgress>(
+    course: &mut Course<P>,
     alloc: Global,
     meter: &mut Meter,
     edited: &EditedSession,
@@ -247,12 +256,13 @@ fn plain_page(
     ensures { IfOk result
         (λ printed. IsPage view edited.now.session edited.now.edits printed) }
 {
-    let drawn = plain_parts(alloc, meter, edited, view)?;
-    page_of_run(alloc, meter, edited.edited(), view, drawn)
+    let drawn = plain_parts(course, alloc, meter, edited, view)?;
+    page_of_run(course, alloc, meter, edited.edited(), view, drawn)
 }
 
 // The page of the settled run of a session without edits.
-fn run_page(
+fn run_page<P: PartProgress>(
+    course: &mut Course<P>,
     alloc: Global,
     meter: &mut Meter,
     session: &CheckedSession,
@@ -261,17 +271,19 @@ fn run_page(
     requires { view.settled ≡ true }
     ensures { IfOk result (λ printed. IsPage view session.now [] printed) }
 {
+    course.begin(Part::Settling);
     match settle(alloc, session, meter) {
         Ok(run) => {
-            let drawn = run_parts(alloc, meter, &run, view)?;
-            page_of_run(alloc, meter, run.session(), view, drawn)
+            let drawn = run_parts(course, alloc, meter, &run, view)?;
+            page_of_run(course, alloc, meter, run.session(), view, drawn)
         }
         Err(fault) => session_not_settled(alloc, session, fault),
     }
 }
 
 // The page of the settled run after the edits, with that before them.
-fn pair_page(
+fn pair_page<P: PartProgress>(
+    course: &mut Course<P>,
     alloc: Global,
     meter: &mut Meter,
     edited: &EditedSession,
@@ -282,17 +294,19 @@ fn pair_page(
     ensures { IfOk result
         (λ printed. IsPage view edited.now.session edited.now.edits printed) }
 {
+    course.begin(Part::Settling);
     match settle_both(alloc, meter, edited) {
         Ok(pair) => {
-            let drawn = pair_parts(alloc, meter, edited, &pair, view)?;
-            page_of_run(alloc, meter, pair.after.session(), view, drawn)
+            let drawn = pair_parts(course, alloc, meter, edited, &pair, view)?;
+            page_of_run(course, alloc, meter, pair.after.session(), view, drawn)
         }
         Err(fault) => session_not_settled(alloc, edited.edited(), fault),
     }
 }
 
 /// The page of the session and its edits; those that are refused are passed over.
-pub(crate) fn printed_page(
+pub(crate) fn printed_page<P: PartProgress>(
+    course: &mut Course<P>,
     alloc: Global,
     meter: &mut Meter,
     edited: &EditedSession,
@@ -302,10 +316,10 @@ pub(crate) fn printed_page(
         (λ printed. IsPage view edited.now.session edited.now.edits printed) }
 {
     if !view.settled {
-        return plain_page(alloc, meter, edited, view);
+        return plain_page(course, alloc, meter, edited, view);
     }
     if edited.edits().is_empty() {
-        return run_page(alloc, meter, edited.session(), view);
+        return run_page(course, alloc, meter, edited.session(), view);
     }
-    pair_page(alloc, meter, edited, view)
+    pair_page(course, alloc, meter, edited, view)
 }

@@ -8,10 +8,10 @@ ghost use Rattle.view_commands.specs.ViewProgram.{Ends, EndsAsked, EndsFile, End
 
 use crate::command_line::{VERSION, request_of};
 use crate::execution::run;
+use crate::parts::PartProgress;
 use crate::request::{FileName, Job, Request};
 use crate::source::Source;
 use program_io::{CountedWrite, Ending, RunFault, end_process, given_words, show_text};
-use ranked_changes::Progress;
 use std::alloc::{AllocError, Global};
 use std::convert::AsStr;
 use std::env::Args;
@@ -27,7 +27,7 @@ fn open_line(alloc: Global, name: &str) -> Result<String, AllocError>
 }
 
 // A view of the file of this name.
-fn show_file<T: Threads + Sync, P: Progress, R: Source, W: CountedWrite>(
+fn show_file<T: Threads + Sync, P: PartProgress, R: Source, W: CountedWrite>(
     rt: &T,
     host: &HostRuntime,
     progress: &mut P,
@@ -50,7 +50,7 @@ fn show_file<T: Threads + Sync, P: Progress, R: Source, W: CountedWrite>(
 }
 
 // A view of the file that is named, or of standard input.
-fn show_document<T: Threads + Sync, P: Progress, R: Source, W: CountedWrite>(
+fn show_document<T: Threads + Sync, P: PartProgress, R: Source, W: CountedWrite>(
     rt: &T,
     host: &HostRuntime,
     progress: &mut P,
@@ -100,7 +100,7 @@ fn show_version<W: CountedWrite>(alloc: Global, writer: &mut W) -> Ending
 
 /// Does what the command line asks for. Only a view reads, of standard input or of the file that
 /// is named.
-pub fn carry_out<T: Threads + Sync, P: Progress, R: Source, W: CountedWrite>(
+pub fn carry_out<T: Threads + Sync, P: PartProgress, R: Source, W: CountedWrite>(
     rt: &T,
     host: &HostRuntime,
     progress: &mut P,
@@ -124,7 +124,7 @@ pub fn carry_out<T: Threads + Sync, P: Progress, R: Source, W: CountedWrite>(
 }
 
 // How the program ends with these words: they are `None` where one of them is no text.
-fn end_of_words<T: Threads + Sync, P: Progress, S: AsStr, R: Source, W: CountedWrite>(
+fn end_of_words<T: Threads + Sync, P: PartProgress, S: AsStr, R: Source, W: CountedWrite>(
     rt: &T,
     host: &HostRuntime,
     progress: &mut P,
@@ -143,7 +143,7 @@ fn end_of_words<T: Threads + Sync, P: Progress, S: AsStr, R: Source, W: CountedW
 }
 
 // How the program ends with the words that the system hands over.
-fn ending_of<T: Threads + Sync, P: Progress, R: Source, W: CountedWrite>(
+fn ending_of<T: Threads + Sync, P: PartProgress, R: Source, W: CountedWrite>(
     rt: &T,
     host: &HostRuntime,
     progress: &mut P,
@@ -168,7 +168,7 @@ fn ending_of<T: Threads + Sync, P: Progress, R: Source, W: CountedWrite>(
 ///
 /// The words are those of [`std::env::args`]. Where standard error takes nothing, the exit status
 /// still tells.
-pub fn run_program<T: Threads + Sync, P: Progress, R: Source, W: CountedWrite, E: CountedWrite>(
+pub fn run_program<T: Threads + Sync, P: PartProgress, R: Source, W: CountedWrite, E: CountedWrite>(
     rt: &T,
     host: &HostRuntime,
     progress: &mut P,

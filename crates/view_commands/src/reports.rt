@@ -7,6 +7,7 @@ ghost use Rattle.program_io.specs.Outputs.{fine};
 ghost use Rattle.view_commands.specs.ReportViews.{IsReported, IsReportedAlone, IsReportedBeside};
 
 use crate::ReportView;
+use crate::parts::{Course, Part, PartProgress};
 use crate::settled::not_settled;
 use bench_types::CheckedSession;
 use program_io::Output;
@@ -20,7 +21,8 @@ use smp_kernel::Meter;
 use std::alloc::{AllocError, Global};
 
 /// The report of a settled run.
-pub(crate) fn run_reported(
+pub(crate) fn run_reported<P: PartProgress>(
+    course: &mut Course<P>,
     alloc: Global,
     meter: &mut Meter,
     run: &Run,
@@ -30,12 +32,14 @@ pub(crate) fn run_reported(
         ≡ fine (run_text form true run.now.session.header
         (run_figures run.now.session.header run.now.session.steps run.now.left))) }
 {
+    course.begin(Part::Measuring);
     let text = report_of_run(alloc, meter, run.session(), run.left(), true, form)?;
     Ok(Output::fine(alloc, text.into_bytes()))
 }
 
 /// The report of both settled runs.
-pub(crate) fn pair_reported(
+pub(crate) fn pair_reported<P: PartProgress>(
+    course: &mut Course<P>,
     alloc: Global,
     meter: &mut Meter,
     pair: &SettledPair,
@@ -50,12 +54,14 @@ pub(crate) fn pair_reported(
 {
     let (before, left) = (pair.before.session(), pair.before.left());
     let (after, rest) = (pair.after.session(), pair.after.left());
+    course.begin(Part::Measuring);
     let text = report_of_runs(alloc, meter, before, left, after, rest, true, form)?;
     Ok(Output::fine(alloc, text.into_bytes()))
 }
 
 // The report of the settled run of the session.
-fn settled_report(
+fn settled_report<P: PartProgress>(
+    course: &mut Course<P>,
     alloc: Global,
     meter: &mut Meter,
     session: &CheckedSession,
@@ -64,14 +70,16 @@ fn settled_report(
     ensures { IfOk result
         (λ printed. IsReportedAlone (record { settled = true; form = form }) session.now printed) }
 {
+    course.begin(Part::Settling);
     match settle(alloc, session, meter) {
-        Ok(run) => run_reported(alloc, meter, &run, form),
+        Ok(run) => run_reported(course, alloc, meter, &run, form),
         Err(fault) => not_settled(alloc, fault),
     }
 }
 
 // The report of the session's run.
-fn report_alone(
+fn report_alone<P: PartProgress>(
+    course: &mut Course<P>,
     alloc: Global,
     meter: &mut Meter,
     session: &CheckedSession,
@@ -80,15 +88,17 @@ fn report_alone(
     ensures { IfOk result (λ printed. IsReportedAlone view session.now printed) }
 {
     if view.settled {
-        return settled_report(alloc, meter, session, view.form);
+        return settled_report(course, alloc, meter, session, view.form);
     }
+    course.begin(Part::Measuring);
     let none: [WaitingCall; 0] = [];
     let text = report_of_run(alloc, meter, session, &none, false, view.form)?;
     Ok(Output::fine(alloc, text.into_bytes()))
 }
 
 // The report of the settled run of the session, and of that of the session after the edits.
-fn settled_reports(
+fn settled_reports<P: PartProgress>(
+    course: &mut Course<P>,
     alloc: Global,
     meter: &mut Meter,
     edited: &EditedSession,
@@ -98,14 +108,16 @@ fn settled_reports(
         (λ printed. IsReportedBeside (record { settled = true; form = form }) edited.now.session
         (after_edits edited.now.session edited.now.edits) printed) }
 {
+    course.begin(Part::Settling);
     match settle_both(alloc, meter, edited) {
-        Ok(pair) => pair_reported(alloc, meter, &pair, form),
+        Ok(pair) => pair_reported(course, alloc, meter, &pair, form),
         Err(fault) => not_settled(alloc, fault),
     }
 }
 
 // The report of the session's run, and of that of the session after the edits.
-fn reports_beside(
+fn reports_beside<P: PartProgress>(
+    course: &mut Course<P>,
     alloc: Global,
     meter: &mut Meter,
     edited: &EditedSession,
@@ -116,8 +128,9 @@ fn reports_beside(
         (after_edits edited.now.session edited.now.edits) printed) }
 {
     if view.settled {
-        return settled_reports(alloc, meter, edited, view.form);
+        return settled_reports(course, alloc, meter, edited, view.form);
     }
+    course.begin(Part::Measuring);
     let none: [WaitingCall; 0] = [];
     let (before, after) = (edited.session(), edited.edited());
     let text = report_of_runs(alloc, meter, before, &none, after, &none, false, view.form)?;
@@ -125,7 +138,8 @@ fn reports_beside(
 }
 
 /// The report of the session's run, and with edits that of the run after them beside it.
-pub(crate) fn printed_report(
+pub(crate) fn printed_report<P: PartProgress>(
+    course: &mut Course<P>,
     alloc: Global,
     meter: &mut Meter,
     edited: &EditedSession,
@@ -135,7 +149,7 @@ pub(crate) fn printed_report(
         (λ printed. IsReported view edited.now.session edited.now.edits printed) }
 {
     if edited.edits().is_empty() {
-        return report_alone(alloc, meter, edited.session(), view);
+        return report_alone(course, alloc, meter, edited.session(), view);
     }
-    reports_beside(alloc, meter, edited, view)
+    reports_beside(course, alloc, meter, edited, view)
 }

@@ -9,6 +9,7 @@ ghost use Rattle.program_io.specs.Outputs.{fine, noted};
 ghost use Rattle.view_commands.specs.Views.{document_of, picture_of_run, trace_output};
 
 use crate::edited::{document_output, picture_of_run, trace_output};
+use crate::parts::{Course, Part, PartProgress};
 use crate::settled_pictures::pictures_printed;
 use crate::{Selection, SettledView};
 use bench_types::{CheckedSession, EditFault, Header, MAX_STEPS};
@@ -81,7 +82,8 @@ pub(crate) fn session_not_settled(
 }
 
 // The trace of the settled run of the session.
-fn trace_printed(
+fn trace_printed<P: PartProgress>(
+    course: &mut Course<P>,
     alloc: Global,
     meter: &mut Meter,
     session: &CheckedSession,
@@ -90,9 +92,10 @@ fn trace_printed(
     ensures { IfOk result
         (λ printed. IsPrintedOfSettled (trace_output selection.now) session.now printed) }
 {
+    course.begin(Part::Settling);
     match settle(alloc, session, meter) {
         Ok(run) => {
-            let shown = trace_output(alloc, meter, run.session(), selection)?;
+            let shown = trace_output(course, alloc, meter, run.session(), selection)?;
             with_left(alloc, &run, shown)
         }
         Err(fault) => session_not_settled(alloc, session, fault),
@@ -100,7 +103,8 @@ fn trace_printed(
 }
 
 // That run as a document.
-fn document_printed(
+fn document_printed<P: PartProgress>(
+    course: &mut Course<P>,
     alloc: Global,
     meter: &mut Meter,
     session: &CheckedSession,
@@ -108,6 +112,7 @@ fn document_printed(
     ensures { IfOk result
         (λ printed. IsPrintedOfSettled (λ run. fine (document_of run)) session.now printed) }
 {
+    course.begin(Part::Settling);
     match settle(alloc, session, meter) {
         Ok(run) => {
             let shown = document_output(alloc, run.session())?;
@@ -118,7 +123,8 @@ fn document_printed(
 }
 
 /// Both settled runs beside each other.
-pub(crate) fn pair_compared(
+pub(crate) fn pair_compared<P: PartProgress>(
+    course: &mut Course<P>,
     alloc: Global,
     edited: &EditedSession,
     pair: &SettledPair,
@@ -128,12 +134,14 @@ pub(crate) fn pair_compared(
     ensures { IfOk result
         (λ printed. IsPrintedOfBoth edited.now.session edited.now.edits printed) }
 {
+    course.begin(Part::Comparing);
     let text = compare_settled(alloc, edited, pair)?;
     Ok(Output::fine(alloc, text.into_bytes()))
 }
 
 // The settled runs of the session and of the session after the edits, beside each other.
-fn comparison_printed(
+fn comparison_printed<P: PartProgress>(
+    course: &mut Course<P>,
     alloc: Global,
     meter: &mut Meter,
     edited: &EditedSession,
@@ -141,14 +149,16 @@ fn comparison_printed(
     ensures { IfOk result
         (λ printed. IsPrintedOfBoth edited.now.session edited.now.edits printed) }
 {
+    course.begin(Part::Settling);
     match settle_both(alloc, meter, edited) {
-        Ok(pair) => pair_compared(alloc, edited, &pair),
+        Ok(pair) => pair_compared(course, alloc, edited, &pair),
         Err(fault) => not_settled(alloc, fault),
     }
 }
 
 /// The picture of a settled run, and the calls that were not made.
-pub(crate) fn run_pictured(
+pub(crate) fn run_pictured<P: PartProgress>(
+    course: &mut Course<P>,
     alloc: Global,
     meter: &mut Meter,
     run: &Run,
@@ -159,12 +169,14 @@ pub(crate) fn run_pictured(
         (note_of run.now.session.header run.now.left)) }
     ensures few { OnOk result (length run.now.session.steps ≤ max_steps) }
 {
+    course.begin(Part::Drawing);
     let shown = picture_of_run(alloc, meter, run.session(), extent)?;
     with_left(alloc, run, shown)
 }
 
 // The picture of the settled run of the session.
-fn picture_printed(
+fn picture_printed<P: PartProgress>(
+    course: &mut Course<P>,
     alloc: Global,
     meter: &mut Meter,
     session: &CheckedSession,
@@ -173,14 +185,16 @@ fn picture_printed(
     ensures { IfOk result
         (λ printed. IsPrintedOfSettled (picture_of_run extent) session.now printed) }
 {
+    course.begin(Part::Settling);
     match settle(alloc, session, meter) {
-        Ok(run) => run_pictured(alloc, meter, &run, extent),
+        Ok(run) => run_pictured(course, alloc, meter, &run, extent),
         Err(fault) => session_not_settled(alloc, session, fault),
     }
 }
 
 // The picture of the settled run, and with edits that of the settled run after them below it.
-fn pictured(
+fn pictured<P: PartProgress>(
+    course: &mut Course<P>,
     alloc: Global,
     meter: &mut Meter,
     edited: &EditedSession,
@@ -190,14 +204,15 @@ fn pictured(
         (λ printed. IsSettledPicture extent edited.now.session edited.now.edits printed) }
 {
     if edited.edits().len() == 0 {
-        return picture_printed(alloc, meter, edited.session(), extent);
+        return picture_printed(course, alloc, meter, edited.session(), extent);
     }
-    pictures_printed(alloc, meter, edited, extent)
+    pictures_printed(course, alloc, meter, edited, extent)
 }
 
 /// What the view tells of the session and its edits, settled; those that are refused are passed
 /// over.
-pub(crate) fn printed_settled(
+pub(crate) fn printed_settled<P: PartProgress>(
+    course: &mut Course<P>,
     alloc: Global,
     meter: &mut Meter,
     edited: &EditedSession,
@@ -207,9 +222,11 @@ pub(crate) fn printed_settled(
         (λ printed. IsSettledView view.now edited.now.session edited.now.edits printed) }
 {
     match view {
-        SettledView::Trace(selection) => { trace_printed(alloc, meter, edited.edited(), selection) }
-        SettledView::Session => document_printed(alloc, meter, edited.edited()),
-        SettledView::Compare => comparison_printed(alloc, meter, edited),
-        SettledView::Timeline(extent) => pictured(alloc, meter, edited, *extent),
+        SettledView::Trace(selection) => {
+            trace_printed(course, alloc, meter, edited.edited(), selection)
+        }
+        SettledView::Session => document_printed(course, alloc, meter, edited.edited()),
+        SettledView::Compare => comparison_printed(course, alloc, meter, edited),
+        SettledView::Timeline(extent) => pictured(course, alloc, meter, edited, *extent),
     }
 }

@@ -7,6 +7,7 @@ ghost use Rattle.view_commands.specs.SettledViews.{columns_after, columns_before
 ghost use Rattle.program_io.specs.Outputs.{noted};
 
 use crate::edited::answer_output;
+use crate::parts::{Course, Part, PartProgress};
 use crate::settled::not_settled;
 use bench_types::Items;
 use program_io::Output;
@@ -80,7 +81,8 @@ fn picture_of_pair(
 
 /// What is told of the settled runs of a session and of the session after edits of it: a picture of
 /// both, and the calls that were not made.
-pub(crate) fn pair_pictured(
+pub(crate) fn pair_pictured<P: PartProgress>(
+    course: &mut Course<P>,
     alloc: Global,
     meter: &mut Meter,
     edited: &EditedSession,
@@ -91,12 +93,14 @@ pub(crate) fn pair_pictured(
     ensures { IfOk result
         (IsPrintedOfPictures extent edited.now.session edited.now.edits) }
 {
+    course.begin(Part::Drawing);
     let shown = picture_of_pair(alloc, meter, pair, extent)?;
     noted_pair(alloc, pair, shown)
 }
 
 /// The picture of the settled run before the edits and of that after them.
-pub(crate) fn pictures_printed(
+pub(crate) fn pictures_printed<P: PartProgress>(
+    course: &mut Course<P>,
     alloc: Global,
     meter: &mut Meter,
     edited: &EditedSession,
@@ -105,8 +109,9 @@ pub(crate) fn pictures_printed(
     ensures { IfOk result
         (IsPrintedOfPictures extent edited.now.session edited.now.edits) }
 {
+    course.begin(Part::Settling);
     match settle_both(alloc, meter, edited) {
-        Ok(pair) => pair_pictured(alloc, meter, edited, &pair, extent),
+        Ok(pair) => pair_pictured(course, alloc, meter, edited, &pair, extent),
         Err(fault) => not_settled(alloc, fault),
     }
 }

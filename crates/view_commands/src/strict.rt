@@ -3,6 +3,7 @@ ghost use Rattle.std.specs.Prelude.{◌≡◌, IfOk};
 ghost use Rattle.run_comparisons.specs.Refusals.{HasRefusal};
 ghost use Rattle.view_commands.specs.Strict.{IsStrict};
 
+use crate::parts::{Course, Part, PartProgress};
 use program_io::{Output, OutputStatus};
 use run_comparisons::has_refusal;
 use session_edits::EditedSession;
@@ -22,7 +23,8 @@ fn failed(output: Output) -> Output
 
 /// What is told where refusals count: the status fails where it was fine and an edit of the session
 /// is refused, or a step of the run after the edits.
-pub(crate) fn judged_strictly(
+pub(crate) fn judged_strictly<P: PartProgress>(
+    course: &mut Course<P>,
     alloc: Global,
     meter: &mut Meter,
     edited: &EditedSession,
@@ -35,6 +37,7 @@ pub(crate) fn judged_strictly(
 {
     match output.status {
         OutputStatus::Fine => {
+            course.begin(Part::Refusals);
             if has_refusal(alloc, meter, edited, settled)? {
                 return Ok(failed(output));
             }

@@ -5,7 +5,7 @@ use Rattle.view_commands.proofs.ReportsPrinted.{pair_report}
 use Rattle.view_commands.proofs.pages.pair_parts.Goals as goal
 
 pub returns : goal.returns
-returns c =
+returns g c =
     let session = c.args.edited.now.session in
     let edits = c.args.edited.now.edits in
     pair_parts c.args.view session edits c.in_ok-pair_pictured.field-0 c.in_ok-pair_compared.field-0 c.in_ok-pair_reported.field-0 c.requires.settled

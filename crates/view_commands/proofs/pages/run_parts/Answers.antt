@@ -7,7 +7,7 @@ use Rattle.view_commands.proofs.SettledPrinted.{run_printed}
 use Rattle.view_commands.proofs.pages.run_parts.Goals as goal
 
 pub returns : goal.returns
-returns c session is =
+returns g c session is =
     let run' = c.args.run.now in
     let few = c.in_ok-run_pictured.ensures.few in
     let shown = picture_of_run c.args.view.extent in

@@ -161,8 +161,8 @@ views_of() { # CORES TASKS EVENTS
 views() {
     echo '| session | command of `smp_view` | elapsed | peak memory | output |'
     echo '|---|---|---|---|---|'
-    views_of 8 64 300000
-    views_of 32 512 100000
+    views_of 8 64 240000
+    views_of 32 512 74000
 }
 
 [ "$what" = views ] || texts

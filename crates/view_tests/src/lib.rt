@@ -19,6 +19,8 @@ mod opened;
 #[cfg(test)]
 mod pages;
 #[cfg(test)]
+mod parts;
+#[cfg(test)]
 mod pictures;
 #[cfg(test)]
 mod processes;

@@ -45,9 +45,9 @@ fn a_file_is_told_nothing(rt: HostRuntime) -> Result<(), Fail> {
 
 /// A device that is a screen, or a file.
 #[derive(Drop)]
-struct Device<'a> {
-    sink: &'a mut Sink,
-    is_screen: bool,
+pub(crate) struct Device<'a> {
+    pub(crate) sink: &'a mut Sink,
+    pub(crate) is_screen: bool,
 }
 
 impl Write for Device<'_> {

@@ -135,10 +135,10 @@ show() { # SIZE FILE WORD..: a command of smp_view over the file
         'BEGIN { printf "| %s | `%s` | %.1f s | %.2f GB | %.1f MB |%s\n", s, w, e, k / 1000000, b / 1000000, v }'
 }
 
-# Each command, with the words that it takes.
-show_each() { # SIZE FILE WORD..
-    local size="$1" file="$2" places=(--from 50000 --to 53999)
-    shift 2
+# Each command, with the words that it takes; pictures, traces and pages are of the places from 50,000 to this one.
+show_each() { # SIZE LAST FILE WORD..
+    local size="$1" places=(--from 50000 --to "$2") file="$3"
+    shift 3
     show "$size" "$file" trace "$@" "${places[@]}"
     show "$size" "$file" compare "$@"
     show "$size" "$file" timeline "$@" "${places[@]}"
@@ -154,8 +154,9 @@ views_of() { # CORES TASKS EVENTS
     show "$size" events settle
     { printf '{"session":' && cat "$folder/out" && printf ',"edits":%s}' "$edits"; } >"$folder/steps"
     { printf '{"session":' && cat "$folder/events" && printf ',"edits":%s}' "$edits"; } >"$folder/edited"
-    show_each "$size" steps
-    show_each "$size" edited --settle
+    show_each "$size" 53999 steps
+    # Where steps of either run stand alone a picture has more columns than places.
+    show_each "$size" 52499 edited --settle
 }
 
 views() {

@@ -1,4 +1,5 @@
 mod Aligned
+mod AlikePrinted
 mod AlikeRows
 mod AlikeSteps
 mod BothRuns
@@ -16,5 +17,6 @@ pub mod RowsCounted
 mod RefusalsFound
 mod SameCalls
 mod SharedPlaces
+mod ShownRows
 mod Tiling
 mod Walks

@@ -1,15 +1,17 @@
 -- The run of a session beside the run after edits of it.
-use Rattle.std.specs.Prelude.{◌≡◌, ◌↔◌, ℕ, List, [], ◌∷◌, ◌++◌, All, filter, flat_map, codes, decimal, false, Some, None}
+use Rattle.std.specs.Prelude.{◌≡◌, ◌↔◌, ℕ, List, [], ◌∷◌, ◌++◌, All, filter, flat_map, codes, decimal, false, Option, Some, None}
 use Rattle.bench_types.specs.declared.edit.Edit.{Edit}
 use Rattle.bench_types.specs.Session.{Session}
 use Rattle.bench_model.specs.Edits.{after_edits}
 use Rattle.bench_model.specs.Tally.{tallies}
 use Rattle.session_edits.specs.Refused.{refused_places}
+use Rattle.run_views.specs.declared.places.Places.{Places}
 use Rattle.run_comparisons.specs.declared.rows.Row.{Row}
 use Rattle.run_comparisons.specs.declared.rows.Row.TheVariants.{Both, Removed, Inserted}
 use Rattle.run_comparisons.specs.Gains.{gains_text}
 use Rattle.run_comparisons.specs.Rows.{rows_of}
-use Rattle.run_comparisons.specs.RowWords.{differs, place_text, row_line}
+use Rattle.run_comparisons.specs.RowWords.{differs, place_text}
+use Rattle.run_comparisons.specs.Shown.{lines_text}
 
 -- the places of a row before and after the edits
 abbrev pub places_text : Row → List ℕ
@@ -67,10 +69,11 @@ NoDifferenceIsSaid =
     → SaysNoDifference (differences_text refused (filter (differs before after) rows))
     ↔ All (λ row. differs before after row ≡ false) rows
 
--- rows of a session and an edited one, and the places of the edits that are refused
-abbrev pub rows_text : Session → Session → List ℕ → List Row → List ℕ
-rows_text before after refused rows =
-    flat_map (row_line before after) rows
+-- Rows of a session and an edited one, all of them or those at the places alone, and the places of
+-- the edits that are refused. Where the runs differ first and last is told of all rows.
+abbrev pub rows_text : Option Places → Session → Session → List ℕ → List Row → List ℕ
+rows_text shown before after refused rows =
+    lines_text shown before after rows
     ++ differences_text refused (filter (differs before after) rows)
 
 -- a line for each task that fared otherwise
@@ -79,10 +82,18 @@ fared_text before after =
     gains_text before.header (tallies before.header before.steps)
     (tallies after.header after.steps)
 
--- A line a row, then where the two runs differ first and last, then what each task gained and lost.
--- The edits are made one after another, and those that are refused are passed over.
-unfoldable pub compare_text : Session → List Edit → List ℕ
-compare_text session edits =
+-- Lines of rows, then where the two runs differ first and last, then what each task gained and
+-- lost. The edits are made one after another, and those that are refused are passed over.
+abbrev pub comparison_text : Option Places → Session → List Edit → List ℕ
+comparison_text shown session edits =
     let after = after_edits session edits in
-    rows_text session after (refused_places session edits) (rows_of session edits)
+    rows_text shown session after (refused_places session edits) (rows_of session edits)
     ++ fared_text session after
+
+-- a line for each row
+unfoldable pub compare_text : Session → List Edit → List ℕ
+compare_text session edits = comparison_text None session edits
+
+-- a line for each row at the places, and how many are left out
+unfoldable pub compare_text_at : Places → Session → List Edit → List ℕ
+compare_text_at places session edits = comparison_text (Some places) session edits

@@ -2,6 +2,7 @@ pub mod Alike
 pub mod Columns
 pub mod Comparison
 pub mod Gains
+pub mod Made
 pub mod Refusals
 pub mod RowLaws
 pub mod RowWords
@@ -9,5 +10,7 @@ pub mod Rows
 pub mod Settled
 pub mod SettledRowLaws
 pub mod Shared
+pub mod Shown
+pub mod ShownLaws
 pub mod SideBySide
 pub mod Printed

@@ -1,14 +1,17 @@
 //! Both runs, row by row, and how the tasks fared.
 ghost use Rattle.std.specs.Prelude.{◌≡◌, ◌++◌, IfOk, OnOk, filter, flat_map, string_bytes};
 ghost use Rattle.session_edits.specs.Refused.{refused_places};
-ghost use Rattle.run_comparisons.specs.Comparison.{compare_text, differences_text, ends_text, fared_text, first_text, further_text, last_text, no_difference_text, not_made_line, not_made_text, places_text, rows_text};
-ghost use Rattle.run_comparisons.specs.RowWords.{differs, row_line};
+ghost use Rattle.run_comparisons.specs.Comparison.{compare_text, compare_text_at, comparison_text, differences_text, ends_text, fared_text, first_text, further_text, last_text, no_difference_text, not_made_line, not_made_text, places_text, rows_text};
+ghost use Rattle.run_comparisons.specs.RowWords.{differs};
 ghost use Rattle.run_comparisons.specs.Rows.{rows_of};
+ghost use Rattle.run_comparisons.specs.Shown.{line_shown};
 
 use crate::gains::push_gains;
-use crate::row_words::{push_place, push_row};
+use crate::row_words::{push_place, push_row_shown};
 use crate::rows::{Row, push_rows};
 use crate::run_reader::RunReader;
+use crate::shown::push_left_out;
+use run_views::Places;
 use session_edits::EditedSession;
 use session_runs::Run;
 use smp_kernel::Meter;
@@ -34,23 +37,25 @@ fn refused_places(alloc: Global, edited: &EditedSession) -> Result<Vec<usize>, A
     refused.iter().map(|one| one.index).collect(alloc)
 }
 
-// Writes the rows, and gives those in which the runs differ.
+// Writes the rows that are shown, and gives those in which the runs differ, shown or not.
 fn push_lines(
     alloc: Global,
     text: &mut String,
     before: &mut RunReader<'_>,
     after: &mut RunReader<'_>,
+    shown: Option<Places>,
     rows: &[Row],
 ) -> Result<Vec<Row>, AllocError>
     ensures lines { OnOk result
         (string_bytes text.new
-        ≡ string_bytes text.old ++ flat_map (row_line before.old after.old) rows.now) }
+        ≡ string_bytes text.old ++ flat_map (line_shown shown before.old after.old) rows.now) }
     ensures differing { IfOk result
         (λ differing. differing.items ≡ filter (differs before.old after.old) rows.now) }
 {
+    let named_alike = before.is_named_alike(after);
     let mut differing = Vec::new(alloc);
     for row in rows {
-        if push_row(alloc, text, before, after, *row)? {
+        if push_row_shown(alloc, text, before, after, shown, named_alike, *row)? {
             differing.push(*row)?;
         }
     }
@@ -150,24 +155,26 @@ fn push_differences(text: &mut String, refused: &[usize], rows: &[Row]) -> Resul
     }
 }
 
-// Writes the rows, and where the runs differ first and last. Where they do not, the edits that
-// were refused are told.
+// Writes the rows, all of them or those at the places alone, and where the runs differ first and
+// last. Where they do not, the edits that were refused are told.
 fn push_rows_text(
     alloc: Global,
     text: &mut String,
     before: &Run,
     after: &Run,
     refused: &[usize],
+    shown: Option<Places>,
     rows: &[Row],
 ) -> Result<(), AllocError>
     ensures { OnOk result
         (string_bytes text.new
         ≡ string_bytes text.old
-        ++ rows_text before.now.session after.now.session refused.now rows.now) }
+        ++ rows_text shown before.now.session after.now.session refused.now rows.now) }
 {
     let mut earlier = RunReader::of(alloc, before)?;
     let mut later = RunReader::of(alloc, after)?;
-    let differing = push_lines(alloc, text, &mut earlier, &mut later, rows)?;
+    let differing = push_lines(alloc, text, &mut earlier, &mut later, shown, rows)?;
+    push_left_out(text, shown, rows)?;
     push_differences(text, refused, differing.as_slice())
 }
 
@@ -181,26 +188,54 @@ fn push_fared(alloc: Global, text: &mut String, before: &Run, after: &Run) -> Re
     push_gains(alloc, text, header, before.tallies(), after.tallies())
 }
 
-/// Writes what is told of two runs by their rows: the rows, and what each task gained and lost. The
-/// edits that were refused stand at these places.
+/// Writes what is told of two runs by their rows: the rows, all of them or those at the places
+/// alone, and what each task gained and lost. The edits that were refused stand at these places.
 pub(crate) fn push_compared(
     alloc: Global,
     text: &mut String,
     edited: &EditedSession,
     before: &Run,
     after: &Run,
+    shown: Option<Places>,
     rows: &[Row],
 ) -> Result<(), AllocError>
     ensures { OnOk result
         (string_bytes text.new
         ≡ string_bytes text.old
-        ++ rows_text before.now.session after.now.session
+        ++ rows_text shown before.now.session after.now.session
         (refused_places edited.now.session edited.now.edits) rows.now
         ++ fared_text before.now.session after.now.session) }
 {
     let refused = refused_places(alloc, edited)?;
-    push_rows_text(alloc, text, before, after, refused.as_slice(), rows)?;
+    push_rows_text(alloc, text, before, after, refused.as_slice(), shown, rows)?;
     push_fared(alloc, text, before, after)
+}
+
+// Both runs with all their rows, or with those at the places alone.
+fn compared(
+    alloc: Global,
+    meter: &mut Meter,
+    edited: &EditedSession,
+    shown: Option<Places>,
+) -> Result<String, AllocError>
+    ensures { IfOk result
+        (λ text. string_bytes text
+        ≡ comparison_text shown edited.now.session edited.now.edits) }
+{
+    let before = Run::of_session(alloc, edited.session().copy(alloc)?, meter)?;
+    let after = Run::of_session(alloc, edited.edited().copy(alloc)?, meter)?;
+    let rows = rows_of(alloc, edited)?;
+    let mut text = String::new(alloc);
+    push_compared(
+        alloc,
+        &mut text,
+        edited,
+        &before,
+        &after,
+        shown,
+        rows.as_slice(),
+    )?;
+    Ok(text)
 }
 
 /// The run of the session before the edits beside the run after them: a line for each step of
@@ -215,10 +250,22 @@ pub fn compare(
     ensures { IfOk result
         (λ text. string_bytes text ≡ compare_text edited.now.session edited.now.edits) }
 {
-    let before = Run::of_session(alloc, edited.session().copy(alloc)?, meter)?;
-    let after = Run::of_session(alloc, edited.edited().copy(alloc)?, meter)?;
-    let rows = rows_of(alloc, edited)?;
-    let mut text = String::new(alloc);
-    push_compared(alloc, &mut text, edited, &before, &after, rows.as_slice())?;
-    Ok(text)
+    compared(alloc, meter, edited, None)
+}
+
+/// The same with lines for the steps at the places alone, by their places before the edits or after
+/// them, and how many lines are left out. Where the runs differ, and what each task gained and
+/// lost, is told of the whole runs.
+#[tactic(auto, unfolding(crate::specs::Comparison::compare_text_at))]
+pub fn compare_at(
+    alloc: Global,
+    meter: &mut Meter,
+    edited: &EditedSession,
+    places: Places,
+) -> Result<String, AllocError>
+    ensures { IfOk result
+        (λ text. string_bytes text
+        ≡ compare_text_at places edited.now.session edited.now.edits) }
+{
+    compared(alloc, meter, edited, Some(places))
 }

@@ -2,6 +2,7 @@
 ghost use Rattle.run_comparisons.specs.Comparison.{NoDifferenceIsSaid};
 ghost use Rattle.run_comparisons.specs.RowLaws.{EachAfter, EachBefore, MovedStandTogether, RowsAreOfOne};
 ghost use Rattle.run_comparisons.specs.SettledRowLaws.{AlikeAreNotApart, EachSettledAfter, EachSettledBefore, SettledComparisonIsOne, SettledRowsAreAlike, SharedStandTogether};
+ghost use Rattle.run_comparisons.specs.ShownLaws.{AllShownAreWhole, AllShownIsCompared, SettledComparisonAtIsOne, ShownAndLeftOutAreAll, ShownHavePlaces};
 
 /// The rows of a session and of the edited session. It does nothing: its contract is the laws.
 pub fn laws_of_rows()
@@ -31,4 +32,18 @@ pub fn laws_of_settled_rows()
     ensures apart { AlikeAreNotApart }
     // One text is told of both.
     ensures one { SettledComparisonIsOne }
+{}
+
+/// The rows at some places alone. It does nothing: its contract is the laws.
+pub fn laws_of_shown_rows()
+    // A row is shown exactly where it has a place among the places, before the edits or after them.
+    ensures places { ShownHavePlaces }
+    // Those that are shown and those that are left out are all rows.
+    ensures counted { ShownAndLeftOutAreAll }
+    // Where each row is shown, the lines are those of all rows, and the comparison is that of
+    // `compare`.
+    ensures whole { AllShownAreWhole }
+    ensures compared { AllShownIsCompared }
+    // One text is told of both settled runs and of places.
+    ensures one { SettledComparisonAtIsOne }
 {}

@@ -1,10 +1,15 @@
 //! A row in words.
-ghost use Rattle.std.specs.Prelude.{◌≡◌, ◌++◌, IfOk, OnOk, not, string_bytes};
+ghost use Rattle.std.specs.Prelude.{◌≡◌, ◌++◌, true, IfOk, OnOk, not, string_bytes};
+ghost use Rattle.run_comparisons.specs.Made.{AreNamedAlike};
+ghost use Rattle.run_comparisons.specs.Printed.{printed_at};
 ghost use Rattle.run_comparisons.specs.RowWords.{alone_line, are_same, both_line, both_text, differs, head_text, later_text, line_of, place_text, row_line, same_mark};
+ghost use Rattle.run_comparisons.specs.Shown.{line_shown};
 
 use crate::printed::Printed;
 use crate::rows::Row;
 use crate::run_reader::RunReader;
+use crate::shown::is_row_shown;
+use run_views::Places;
 use std::alloc::{AllocError, Global};
 
 /// Writes a place after a space, and a dash where there is none.
@@ -115,8 +120,8 @@ fn push_alone_line(
     text.push_str("\n")
 }
 
-/// Writes the line of the row, and gives whether the runs differ in it.
-pub(crate) fn push_row(
+// Writes the line of the row, and gives whether the runs differ in it.
+fn push_row(
     alloc: Global,
     text: &mut String,
     before: &mut RunReader<'_>,
@@ -149,4 +154,113 @@ pub(crate) fn push_row(
             Ok(true)
         }
     }
+}
+
+// Whether both made one step there, and it led to the same. Then the same is told of it, where each
+// task has one name in both.
+fn are_made_alike(
+    alloc: Global,
+    before: &mut RunReader<'_>,
+    after: &mut RunReader<'_>,
+    old: u32,
+    new: u32,
+) -> Result<bool, AllocError>
+    ensures alike { IfOk result (λ alike. alike ≡ true
+        → AreNamedAlike before.old.header after.old.header
+        → printed_at before.old old ≡ printed_at after.old new) }
+    ensures before { before.new ≡ before.old }
+    ensures after { after.new ≡ after.old }
+{
+    let Some(made) = before.made_at(alloc, old)? else {
+        return Ok(false);
+    };
+    let Some(other) = after.made_at(alloc, new)? else {
+        return Ok(false);
+    };
+    Ok(made.is_alike(&other))
+}
+
+// Whether other words are told of the two steps.
+fn differ_in_words(
+    alloc: Global,
+    before: &mut RunReader<'_>,
+    after: &mut RunReader<'_>,
+    old: u32,
+    new: u32,
+) -> Result<bool, AllocError>
+    ensures differ { IfOk result (λ differ. differ
+        ≡ not (are_same (printed_at before.old old) (printed_at after.old new))) }
+    ensures before { before.new ≡ before.old }
+    ensures after { after.new ≡ after.old }
+{
+    let earlier = before.printed_at(alloc, old)?;
+    let later = after.printed_at(alloc, new)?;
+    Ok(!are_same(&earlier, &later))
+}
+
+// Whether the runs differ in a step of both. Words are made only where the steps are not alike.
+fn differ_at(
+    alloc: Global,
+    before: &mut RunReader<'_>,
+    after: &mut RunReader<'_>,
+    named_alike: bool,
+    old: u32,
+    new: u32,
+) -> Result<bool, AllocError>
+    requires { named_alike ≡ true → AreNamedAlike before.old.header after.old.header }
+    ensures differ { IfOk result (λ differ. differ
+        ≡ not (are_same (printed_at before.old old) (printed_at after.old new))) }
+    ensures before { before.new ≡ before.old }
+    ensures after { after.new ≡ after.old }
+{
+    if named_alike && are_made_alike(alloc, before, after, old, new)? {
+        return Ok(false);
+    }
+    differ_in_words(alloc, before, after, old, new)
+}
+
+// Whether the runs differ in the row.
+fn differs(
+    alloc: Global,
+    before: &mut RunReader<'_>,
+    after: &mut RunReader<'_>,
+    named_alike: bool,
+    row: Row,
+) -> Result<bool, AllocError>
+    requires { named_alike ≡ true → AreNamedAlike before.old.header after.old.header }
+    ensures differ { IfOk result (λ differ. differ ≡ differs before.old after.old row) }
+    ensures before { before.new ≡ before.old }
+    ensures after { after.new ≡ after.old }
+{
+    match row {
+        Row::Both {
+            before: old,
+            after: new,
+        } => differ_at(alloc, before, after, named_alike, old, new),
+        Row::Removed(_) | Row::Inserted(_) => Ok(true),
+    }
+}
+
+/// Writes the line of the row where it is shown, and gives whether the runs differ in it.
+pub(crate) fn push_row_shown(
+    alloc: Global,
+    text: &mut String,
+    before: &mut RunReader<'_>,
+    after: &mut RunReader<'_>,
+    shown: Option<Places>,
+    named_alike: bool,
+    row: Row,
+) -> Result<bool, AllocError>
+    requires { named_alike ≡ true → AreNamedAlike before.old.header after.old.header }
+    ensures line { OnOk result
+        (string_bytes text.new
+        ≡ string_bytes text.old ++ line_shown shown before.old after.old row) }
+    ensures differ { IfOk result (λ differ. differ ≡ differs before.old after.old row) }
+    ensures before { before.new ≡ before.old }
+    ensures after { after.new ≡ after.old }
+{
+    if is_row_shown(shown, row) {
+        return push_row(alloc, text, before, after, row);
+    }
+    differs(alloc, before, after, named_alike, row)
 }

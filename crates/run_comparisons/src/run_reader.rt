@@ -1,7 +1,9 @@
 //! What a run tells of its steps, one place after another.
-ghost use Rattle.std.specs.Prelude.{◌≡◌, IfOk};
+ghost use Rattle.std.specs.Prelude.{◌≡◌, true, IfOk};
+ghost use Rattle.run_comparisons.specs.Made.{printed_made, AreNamedAlike};
 ghost use Rattle.run_comparisons.specs.Printed.{printed_at};
 
+use crate::made::{MadeStep, are_named_alike};
 use crate::printed::{Printed, no_step, printed_of};
 use crate::shared::step_at;
 use session_runs::{Run, RunWalk};
@@ -36,21 +38,44 @@ impl<'a> RunReader<'a> {
         Ok(RunReader { run, walk })
     }
 
+    /// Whether each task has one name in both runs.
+    pub(crate) fn is_named_alike(&self, other: &RunReader<'_>) -> bool
+        ensures { result ≡ true → AreNamedAlike self.now.header other.now.header }
+    {
+        are_named_alike(self.run.session().header(), other.run.session().header())
+    }
+
+    /// The step at the place, and what it led to; none past the last.
+    pub(crate) fn made_at(
+        &mut self,
+        alloc: Global,
+        place: u32,
+    ) -> Result<Option<MadeStep>, AllocError>
+        ensures made { IfOk result
+            (λ made. printed_made self.old.header made ≡ printed_at self.old place) }
+        ensures session { self.new ≡ self.old }
+    {
+        let Some(step) = step_at(self.run.session().steps(), place) else {
+            return Ok(None);
+        };
+        let Some(reply) = self.run.reply(place) else {
+            return Ok(None);
+        };
+        let Some(tasks) = self.walk.row_at(alloc, place + 1)? else {
+            return Ok(None);
+        };
+        Ok(Some(MadeStep { step, reply, tasks }))
+    }
+
     /// What the run tells of its step at the place; nothing past the last.
     pub(crate) fn printed_at(&mut self, alloc: Global, place: u32) -> Result<Printed, AllocError>
         ensures printed { IfOk result (λ printed. printed ≡ printed_at self.old place) }
         ensures session { self.new ≡ self.old }
     {
-        let session = self.run.session();
-        let Some(step) = step_at(session.steps(), place) else {
+        let Some(made) = self.made_at(alloc, place)? else {
             return Ok(no_step(alloc));
         };
-        let Some(reply) = self.run.reply(place) else {
-            return Ok(no_step(alloc));
-        };
-        let Some(tasks) = self.walk.row_at(alloc, place + 1)? else {
-            return Ok(no_step(alloc));
-        };
-        printed_of(alloc, session.header(), step, reply, &tasks)
+        let header = self.run.session().header();
+        printed_of(alloc, header, made.step, made.reply, made.tasks.as_slice())
     }
 }

@@ -2,7 +2,7 @@
 ghost use Rattle.std.specs.Prelude.{◌≡◌, ◌≤◌, ◌++◌, IfOk, OnOk, Err, length, string_bytes};
 ghost use Rattle.bench_types.specs.Limits.{max_steps};
 ghost use Rattle.bench_model.specs.Edits.{after_edits};
-ghost use Rattle.run_comparisons.specs.Settled.{left_line, left_lines, IsComparisonTooLong, IsSettledComparison, IsSettledPair};
+ghost use Rattle.run_comparisons.specs.Settled.{left_line, left_lines, IsComparisonOfSettled, IsComparisonTooLong, IsSettledComparison, IsSettledComparisonAt, IsSettledPair};
 ghost use Rattle.run_comparisons.specs.Shared.{shared_among, AreEventsOf};
 ghost use Rattle.run_comparisons.specs.SideBySide.{first_places, AreSettledRows, AreSideBySide};
 
@@ -11,6 +11,7 @@ use crate::comparison::{push_compared, rows_of};
 use crate::shared::shared_among;
 use crate::side_by_side::side_by_side;
 use bench_types::Header;
+use run_views::Places;
 use session_edits::EditedSession;
 use session_runs::Run;
 use settled_runs::WaitingCall;
@@ -107,6 +108,32 @@ pub fn settle_both(
     })
 }
 
+// Both settled runs with all their rows, or with those at the places alone.
+fn compared_settled(
+    alloc: Global,
+    edited: &EditedSession,
+    pair: &SettledPair,
+    shown: Option<Places>,
+) -> Result<String, AllocError>
+    requires { IsSettledPair edited.now.session edited.now.edits pair.now }
+    ensures { IfOk result (λ text. IsComparisonOfSettled shown edited.now.session
+        edited.now.edits (string_bytes text)) }
+{
+    let mut text = String::new(alloc);
+    let (before, after) = (&pair.before, &pair.after);
+    push_compared(
+        alloc,
+        &mut text,
+        edited,
+        before,
+        after,
+        shown,
+        pair.rows.as_slice(),
+    )?;
+    push_left_lines(&mut text, before, after)?;
+    Ok(text)
+}
+
 /// The settled run of the session before the edits beside that of the session after them: a line
 /// for each step of either, where they differ first and last, what each task gained and lost, and
 /// the calls that were not made.
@@ -119,16 +146,20 @@ pub fn compare_settled(
     ensures { IfOk result
         (λ text. IsSettledComparison edited.now.session edited.now.edits (string_bytes text)) }
 {
-    let mut text = String::new(alloc);
-    let (before, after) = (&pair.before, &pair.after);
-    push_compared(
-        alloc,
-        &mut text,
-        edited,
-        before,
-        after,
-        pair.rows.as_slice(),
-    )?;
-    push_left_lines(&mut text, before, after)?;
-    Ok(text)
+    compared_settled(alloc, edited, pair, None)
+}
+
+/// The same with lines for the steps at the places alone, by their places before the edits or after
+/// them, and how many lines are left out.
+pub fn compare_settled_at(
+    alloc: Global,
+    edited: &EditedSession,
+    pair: &SettledPair,
+    places: Places,
+) -> Result<String, AllocError>
+    requires { IsSettledPair edited.now.session edited.now.edits pair.now }
+    ensures { IfOk result (λ text. IsSettledComparisonAt places edited.now.session
+        edited.now.edits (string_bytes text)) }
+{
+    compared_settled(alloc, edited, pair, Some(places))
 }

@@ -6,7 +6,10 @@ ghost use Rattle.bench_types.specs.Edit.{IsCheckedEdit};
 use crate::settled::{TICK, call, session_of};
 use bench_samples::three_tasks;
 use bench_types::{Call, Edit, Header, Step};
-use run_comparisons::{Side, columns_of, compare, compare_settled, settle_both};
+use run_comparisons::{
+    Side, columns_of, compare, compare_at, compare_settled, compare_settled_at, settle_both,
+};
+use run_views::Places;
 use session_edits::EditedSession;
 use smp_kernel::Meter;
 use std::alloc::Global;
@@ -31,6 +34,22 @@ const COMPARED: &str = "- 0 - delay core 0 by A ticks 1: blocked; A B
 + - 8 finish core 0 by B: done; B C
 + - 9 preempt_off core 0 by B to B: done; B C
 + - 10 tick: done; B C
+the runs differ first at 0 - and last at - 10
+task IDLE0 run on core 0 +1 in +1
+task IDLE1 wait +1
+task A in -1
+task B run on core 0 +1 run on core 1 -1 in +1
+task C run on core 0 -1 run on core 1 +2
+not made before: B 1
+not made after: A 1
+";
+
+/// The lines with place 2 or 3 before the edits or after them, four of seventeen.
+const COMPARED_AT: &str = "+ - 2 delay core 0 by A ticks 3: blocked; A C
+| 1 3 switch core 0: done; C B -> done; IDLE0 C
+| 2 4 yield core 0 by C: done; C B -> yield core 1 by C: done; IDLE0 C
+- 3 - switch core 0: done; C B
+rows at other places, left out: 13
 the runs differ first at 0 - and last at - 10
 task IDLE0 run on core 0 +1 in +1
 task IDLE1 wait +1
@@ -80,6 +99,21 @@ no step differs; refused and not made: edit 0, edit 2
 const GAINED: &str = "  0 0 tick: done; A B
 no step differs
 task A top +1
+";
+
+/// The same without the step, which is the only one.
+const GAINED_AT: &str = "rows at other places, left out: 1
+no step differs
+task A top +1
+";
+
+/// Without edits the places of both runs are the same.
+const UNEDITED_AT: &str = "  7 7 yield core 1 by A: done; C A
+  8 8 switch core 1: done; C A
+rows at other places, left out: 7
+no step differs
+not made before: B 1
+not made after: B 1
 ";
 
 fn is_checked(header: &Header, edit: &Edit) -> bool
@@ -137,6 +171,30 @@ fn compared_plainly(
     Ok(compare(host.alloc(), &mut Meter::new(host), &edited)?)
 }
 
+fn compared_at(
+    rt: &impl Abort,
+    host: &HostRuntime,
+    steps: &[Step],
+    edits: &[Edit],
+    places: Places,
+) -> Result<String, Fail> {
+    let alloc = host.alloc();
+    let edited = edited_of(rt, alloc, steps, edits)?;
+    let pair = settle_both(alloc, &mut Meter::new(host), &edited)?;
+    Ok(compare_settled_at(alloc, &edited, &pair, places)?)
+}
+
+fn compared_plainly_at(
+    rt: &impl Abort,
+    host: &HostRuntime,
+    steps: &[Step],
+    edits: &[Edit],
+    places: Places,
+) -> Result<String, Fail> {
+    let edited = edited_of(rt, host.alloc(), steps, edits)?;
+    Ok(compare_at(host.alloc(), &mut Meter::new(host), &edited, places)?)
+}
+
 fn assert_text(rt: &impl Abort, text: &str, wanted: &str) {
     assert_eq!(rt; text, wanted);
 }
@@ -178,6 +236,20 @@ fn settled_runs_side_by_side(rt: HostRuntime) -> Result<(), Fail> {
     Ok(())
 }
 
+#[test]
+fn settled_runs_at_places(rt: HostRuntime) -> Result<(), Fail> {
+    let places = Places { from: 2, to: 3 };
+    let text = compared_at(&rt, &rt, &session(), &edits(), places)?;
+    assert_text(&rt, text.as_str(), COMPARED_AT);
+    let last = Places { from: 7, to: 20 };
+    let unedited = compared_at(&rt, &rt, &session(), &[], last)?;
+    assert_text(&rt, unedited.as_str(), UNEDITED_AT);
+    let all = Places { from: 0, to: 20 };
+    let whole = compared_at(&rt, &rt, &session(), &edits(), all)?;
+    assert_text(&rt, whole.as_str(), COMPARED);
+    Ok(())
+}
+
 /// A session of so many steps has neither the place that a step is removed from nor the one whose
 /// step is replaced. Task B keeps its priority and its mask.
 fn edits_past(steps: u32) -> [Edit; 3] {
@@ -213,6 +285,9 @@ fn gains_are_printed_where_no_step_differs(rt: HostRuntime) -> Result<(), Fail> 
     };
     let text = compared_plainly(&rt, &rt, &[TICK], &[edit])?;
     assert_text(&rt, text.as_str(), GAINED);
+    let behind = Places { from: 1, to: 1 };
+    let left_out = compared_plainly_at(&rt, &rt, &[TICK], &[edit], behind)?;
+    assert_text(&rt, left_out.as_str(), GAINED_AT);
     Ok(())
 }
 

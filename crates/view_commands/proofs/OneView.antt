@@ -1,5 +1,5 @@
 -- One thing alone is told of each input.
-use Rattle.std.proofs.Common.{◌≡◌, ℕ, List, [], ◌∷◌, length, Bool, true, false, Option, Some, Result, Ok, Err, nat_lt, inl, inr, refl, ap, ap₂, sym}
+use Rattle.std.proofs.Common.{◌≡◌, ℕ, List, [], ◌∷◌, length, Bool, true, false, Option, None, Some, Result, Ok, Err, nat_lt, inl, inr, refl, ap, ap₂, sym}
 use Rattle.std.proofs.Common.{subst, ◌∙◌}
 use Rattle.bench_types.specs.declared.edit.Edit.{Edit}
 use Rattle.bench_types.specs.declared.header.Header.{Header}
@@ -17,12 +17,13 @@ use Rattle.session_text.specs.Bench.{bench_text}
 use Rattle.settled_runs.specs.declared.waiting_call.WaitingCall.{WaitingCall}
 use Rattle.settled_runs.proofs.Settlings.{settled_run_is_one}
 use Rattle.run_pictures.specs.declared.picture.Extent.{Extent}
+use Rattle.run_views.specs.declared.places.Places.{Places}
 use Rattle.run_comparisons.specs.declared.rows.Row.{Row}
 use Rattle.run_comparisons.specs.Settled.{left_lines, with_steps}
 use Rattle.run_comparisons.specs.Shared.{shared_events}
 use Rattle.run_comparisons.specs.SideBySide.{first_places, AreSettledRows}
 use Rattle.run_comparisons.proofs.Compared.{neither_too_long}
-use Rattle.run_comparisons.proofs.OneText.{one_list, one_text}
+use Rattle.run_comparisons.proofs.OneText.{one_list, one_text_of}
 use Rattle.program_io.specs.Refusal.{IsPrintedFault, refusal_line, why_text}
 use Rattle.program_io.specs.Hint.{IsFaultHint}
 use Rattle.program_io.specs.Twice.{twice_note, twice_note_of_refused, warned}
@@ -37,7 +38,7 @@ use Rattle.view_commands.specs.declared.request.SettledView.TheVariants as settl
 use Rattle.view_commands.specs.Commands.{is_json, is_json_fault, too_long_input, too_many_steps, IsDone, IsRefusedOr, IsSame, IsPrinted, IsPrintedOfBench}
 use Rattle.view_commands.specs.Commands.{IsPrintedOfText, IsView, IsWarned, ViewIsOne}
 use Rattle.view_commands.specs.PageViews.{as_table, page_printed, IsCompared, IsComparison, IsPage, IsPictured, IsRun}
-use Rattle.view_commands.specs.SettledViews.{columns_after, columns_before, printed_of_run, IsSettledPicture, IsSettledView, IsPrintedOfBoth, IsPrintedOfPair}
+use Rattle.view_commands.specs.SettledViews.{columns_after, columns_before, printed_of_run, IsSettledPicture, IsSettledView, IsPrintedOfComparison, IsPrintedOfPair}
 use Rattle.view_commands.specs.SettledViews.{IsPrintedOfPictures, IsPrintedOfSettled}
 use Rattle.program_io.specs.Outputs.{Printed, noted, fine}
 use Rattle.view_commands.specs.Refused.{refused_lines}
@@ -53,13 +54,13 @@ one_of_run shown session printed other one two =
     let same = settled_run_is_one session.header session.steps one.run two.run one.left two.left one.settled two.settled in
     one.is_printed ∙ ap₂ (λ (run : List Step) (left : List WaitingCall). printed_of_run shown session.header run left) same.0 same.1 ∙ sym two.is_printed
 
-one_of_both : (session : Session) (edits : List Edit) (printed other : Printed) → IsPrintedOfBoth session edits printed → IsPrintedOfBoth session edits other →
-    printed ≡ other
-one_of_both session edits printed other (inl one) (inl two) =
-    one.is_printed ∙ ap (λ (text : List ℕ). fine text) (one_text session edits one.text two.text one.compares two.compares) ∙ sym two.is_printed
-one_of_both session edits printed other (inl one) (inr two) = absurd (one.room two.0)
-one_of_both session edits printed other (inr one) (inl two) = absurd (two.room one.0)
-one_of_both session edits printed other (inr one) (inr two) = one.1 ∙ sym two.1
+one_of_comparison : (shown : Option Places) (session : Session) (edits : List Edit) (printed other : Printed) → IsPrintedOfComparison shown session edits printed
+    → IsPrintedOfComparison shown session edits other → printed ≡ other
+one_of_comparison shown session edits printed other (inl one) (inl two) =
+    one.is_printed ∙ ap (λ (text : List ℕ). fine text) (one_text_of shown session edits one.text two.text one.compares two.compares) ∙ sym two.is_printed
+one_of_comparison shown session edits printed other (inl one) (inr two) = absurd (one.room two.0)
+one_of_comparison shown session edits printed other (inr one) (inl two) = absurd (two.room one.0)
+one_of_comparison shown session edits printed other (inr one) (inr two) = one.1 ∙ sym two.1
 
 -- what is told of a picture of these runs
 abbrev printed_of_runs : Extent → Header → Header → List Step → List Step → List Row → List WaitingCall → List WaitingCall → Printed
@@ -111,7 +112,7 @@ one_settled : (view : SettledView) (session : Session) (edits : List Edit) (prin
     view session edits other → printed ≡ other
 one_settled (settled.Trace selected) session edits printed other one two = one_of_run (trace_output selected) (after_edits session edits) printed other one two
 one_settled settled.Session session edits printed other one two = one_of_run (λ run. fine (document_of run)) (after_edits session edits) printed other one two
-one_settled settled.Compare session edits printed other one two = one_of_both session edits printed other one two
+one_settled settled.Compare session edits printed other one two = one_of_comparison None session edits printed other one two
 one_settled (settled.Timeline extent) session edits printed other one two = one_picture extent session edits printed other one two
 
 -- ---- the parts of a page
@@ -121,17 +122,18 @@ one_pictured : (settled : Bool) (extent : Extent) (session : Session) (edits : L
 one_pictured false extent session edits printed other one two = one ∙ sym two
 one_pictured true extent session edits printed other one two = one_picture extent session edits printed other one two
 
-one_comparison : (settled : Bool) (session : Session) (edits : List Edit) (printed other : Printed) → IsComparison settled session edits printed → IsComparison
-    settled session edits other → printed ≡ other
-one_comparison false session edits printed other one two = one ∙ sym two
-one_comparison true session edits printed other one two = one_of_both session edits printed other one two
+one_comparison : (settled : Bool) (places : Places) (session : Session) (edits : List Edit) (printed other : Printed) → IsComparison settled places session edits
+    printed → IsComparison settled places session edits other → printed ≡ other
+one_comparison false places session edits printed other one two = one ∙ sym two
+one_comparison true places session edits printed other one two = one_of_comparison (Some places) session edits printed other one two
 
-one_compared : (settled : Bool) (session : Session) (edits : List Edit) (part other : Option Printed) → IsCompared settled session edits part → IsCompared
-    settled session edits other → part ≡ other
-one_compared settled session [] part other one two = one ∙ sym two
-one_compared settled session (edit ∷ edits) part other one two =
-    one.is ∙ ap (λ (printed : Printed). Some printed) (one_comparison settled session (edit ∷ edits) one.printed two.printed one.is_printed two.is_printed) ∙
-    sym two.is
+one_compared : (settled : Bool) (places : Places) (session : Session) (edits : List Edit) (part other : Option Printed) → IsCompared settled places session edits
+    part → IsCompared settled places session edits other → part ≡ other
+one_compared settled places session [] part other one two = one ∙ sym two
+one_compared settled places session (edit ∷ edits) part other one two =
+    one.is
+    ∙ ap (λ (printed : Printed). Some printed) (one_comparison settled places session (edit ∷ edits) one.printed two.printed one.is_printed two.is_printed)
+    ∙ sym two.is
 
 one_run : (settled : Bool) (session : Session) (run other : List Step) → IsRun settled session run → IsRun settled session other → run ≡ other
 one_run false session run other one two = one ∙ sym two
@@ -147,7 +149,7 @@ one_page : (view : PageView) (session : Session) (edits : List Edit) (printed ot
 one_page view session edits printed other one two =
     let edited = after_edits session edits in
     let picture = one_pictured view.settled view.extent session edits one.drawn.picture two.drawn.picture one.are.picture two.are.picture in
-    let comparison = one_compared view.settled session edits one.drawn.comparison two.drawn.comparison one.are.comparison two.are.comparison in
+    let comparison = one_compared view.settled view.extent.places session edits one.drawn.comparison two.drawn.comparison one.are.comparison two.are.comparison in
     let report = one_report (as_table view.settled) session edits one.drawn.report two.drawn.report one.are.report two.are.report in
     let run = one_run view.settled edited one.page.run two.page.run one.page.is_run two.page.is_run in
     one.page.is_printed

@@ -1,6 +1,6 @@
 -- What is told of a page.
-use Rattle.std.proofs.Common.{◌≡◌, ◌⊎◌, ◌<◌, ◌≤◌, List, [], ◌∷◌, length, Bool, true, false, Option, None, Some, Result, Ok, Err, IfOk, nat_lt, refl, sym, ap, subst}
-use Rattle.std.proofs.Common.{◌∙◌, arith, inl, inr}
+use Rattle.std.proofs.Common.{◌≡◌, ◌<◌, ◌≤◌, List, [], ◌∷◌, length, Bool, true, false, Option, None, Some, Result, Ok, Err, IfOk, nat_lt, refl, sym, ap, subst}
+use Rattle.std.proofs.Common.{◌∙◌, arith, inr}
 use Rattle.std.specs.Prelude.{OnOk, if◌then◌else◌}
 use Rattle.std.proofs.lemmas.Bool.Decides.{nat_tests}
 use Rattle.bench_types.specs.declared.edit.Edit.{Edit}
@@ -8,11 +8,10 @@ use Rattle.bench_types.specs.Limits.{max_steps}
 use Rattle.bench_types.specs.Session.{Session, IsSession}
 use Rattle.bench_model.specs.Edits.{after_edits}
 use Rattle.session_runs.specs.Run.{IsRunOf, RunView}
-use Rattle.settled_runs.specs.Runs.{IsSettledTooLong, SettledRun}
+use Rattle.settled_runs.specs.Runs.{IsSettledTooLong}
 use Rattle.settling.specs.declared.run.SettleFault.{SettleFault}
 use Rattle.settling.specs.declared.run.SettleFault.TheVariants.{TooManySteps}
-use Rattle.run_comparisons.specs.declared.settled.SettledPair.{SettledPair}
-use Rattle.run_comparisons.specs.Settled.{with_steps, IsComparisonTooLong, IsSettledPair}
+use Rattle.run_comparisons.specs.Settled.{with_steps, IsComparisonTooLong}
 use Rattle.run_comparisons.proofs.Compared.{own_steps}
 use Rattle.run_pictures.specs.declared.picture.Extent.{Extent}
 use Rattle.session_reports.specs.declared.report.Form.TheVariants.{Table}
@@ -21,7 +20,7 @@ use Rattle.view_commands.specs.declared.pages.Drawn.{Drawn}
 use Rattle.view_commands.specs.declared.request.PageView.{PageView}
 use Rattle.view_commands.specs.PageViews.{as_table, page_of, page_printed, AreDrawn, IsCompared, IsPage, IsPageOf, IsRun}
 use Rattle.view_commands.specs.ReportViews.{IsReported, IsReportedAlone, IsReportedBeside}
-use Rattle.view_commands.specs.SettledViews.{too_long, IsPrintedOfBoth, IsPrintedOfPictures, IsPrintedOfSettled}
+use Rattle.view_commands.specs.SettledViews.{too_long, IsPrintedOfBothAt, IsPrintedOfPictures, IsPrintedOfSettled}
 use Rattle.view_commands.specs.Views.{picture_of, picture_of_run}
 use Rattle.view_commands.proofs.ReportsPrinted.{by}
 use Rattle.view_commands.proofs.SettledPrinted.{long_run_printed, some_run}
@@ -82,7 +81,7 @@ settled_page_told view session edits run drawn (Ok printed) is are of_run few to
 
 -- of a session and edits of it as they stand
 pub plain_parts : (view : PageView) (session : Session) (edits : List Edit) (picture : Printed) (comparison : Option Printed) (report : Printed) → view.settled ≡
-    false → picture ≡ picture_of view.extent session edits → IsCompared false session edits comparison → IsReported (as_table view.settled) session edits report
+    false → picture ≡ picture_of view.extent session edits → IsCompared false view.extent.places session edits comparison → IsReported (as_table view.settled) session edits report
     → AreDrawn view session edits (record { picture = picture; comparison = comparison; report = report })
 plain_parts view session edits picture comparison report is pictured compared reported =
     let put : Bool → PageView = λ b. record { settled = b; extent = view.extent } in
@@ -103,7 +102,7 @@ run_parts view session picture report is pictured reported =
 
 -- of two settled runs
 pub pair_parts : (view : PageView) (session : Session) (edits : List Edit) (picture compared report : Printed) → view.settled ≡ true → 0 < length edits
-    → IsPrintedOfPictures view.extent session edits picture → IsPrintedOfBoth session edits compared
+    → IsPrintedOfPictures view.extent session edits picture → IsPrintedOfBothAt view.extent.places session edits compared
     → IsReportedBeside (by Table) session (after_edits session edits) report → AreDrawn view session edits
     (record { picture = picture; comparison = Some compared; report = report })
 pair_parts view session [] picture compared report is some pictured both reported = absurd (omega (arith, some))

@@ -3,17 +3,13 @@ use Rattle.std.proofs.Common.{◌≡◌, ℕ, List, Bool, true, false, Result, O
 use Rattle.std.specs.Prelude.{String, if◌then◌else◌}
 use Rattle.std.proofs.lemmas.Bool.Decides.{nat_tests}
 use Rattle.run_pictures.specs.declared.picture.TooLong.{TooLong}
-use Rattle.bench_types.specs.declared.header.Header.{Header}
-use Rattle.bench_types.specs.declared.step.Step.{Step}
 use Rattle.bench_types.specs.Session.{Session}
 use Rattle.run_pictures.specs.declared.picture.Extent.{Extent}
 use Rattle.run_pictures.specs.Drawn.{Drawn}
 use Rattle.run_pictures.specs.Limits.{max_places}
 use Rattle.run_pictures.specs.Picture.{count_of_both, picture_text, pictures_text, shown_count, Answers}
-use Rattle.run_comparisons.specs.declared.settled.SettledPair.{SettledPair}
 use Rattle.program_io.specs.Outputs.{Printed, fine}
-use Rattle.view_commands.specs.SettledViews.{columns_after, columns_before, drawn_after, drawn_before, picture_of_pair}
-use Rattle.view_commands.specs.Views.{answer_output, columns_by, drawn_by, picture_of_both, picture_of_run, picture_of_runs, picture_or, refused_long}
+use Rattle.view_commands.specs.Views.{answer_output, picture_of_run, picture_of_runs, picture_or, refused_long}
 
 -- an answer is the picture, or that it would be too long
 answered : (count : ℕ) (picture : List ℕ) (answer : Result (String Global) TooLong) → Answers count picture answer → answer_output answer ≡ picture_or count

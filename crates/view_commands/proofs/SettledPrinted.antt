@@ -1,5 +1,5 @@
 -- What is told of a settled run.
-use Rattle.std.proofs.Common.{◌≡◌, ◌≤◌, List, length, Bool, true, false, Result, Ok, Err, IfOk, nat_lt, sym, ap, ◌∙◌, arith}
+use Rattle.std.proofs.Common.{◌≡◌, ◌≤◌, length, Bool, true, false, Result, Ok, Err, IfOk, nat_lt, sym, ap, ◌∙◌, arith}
 use Rattle.std.specs.Prelude.{OnOk, if◌then◌else◌}
 use Rattle.std.proofs.lemmas.Bool.Decides.{nat_tests}
 use Rattle.bench_types.specs.declared.header.Header.{Header}

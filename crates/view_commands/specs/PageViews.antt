@@ -7,11 +7,12 @@ use Rattle.bench_types.specs.Session.{Session}
 use Rattle.bench_model.specs.Edits.{after_edits}
 use Rattle.settled_runs.specs.declared.waiting_call.WaitingCall.{WaitingCall}
 use Rattle.settled_runs.specs.Settled.{IsSettled}
-use Rattle.run_comparisons.specs.Comparison.{compare_text}
+use Rattle.run_comparisons.specs.Comparison.{compare_text_at}
 use Rattle.run_comparisons.specs.Settled.{with_steps}
 use Rattle.run_pages.specs.Page.{page_text}
 use Rattle.run_pages.specs.Shown.{Shown}
 use Rattle.run_pictures.specs.declared.picture.Extent.{Extent}
+use Rattle.run_views.specs.declared.places.Places.{Places}
 use Rattle.run_views.specs.PlaceTexts.{place_texts}
 use Rattle.session_reports.specs.declared.report.Form.TheVariants.{Table}
 use Rattle.program_io.specs.declared.output.OutputStatus.{OutputStatus}
@@ -21,7 +22,7 @@ use Rattle.view_commands.specs.declared.pages.Drawn.{Drawn}
 use Rattle.view_commands.specs.declared.request.PageView.{PageView}
 use Rattle.view_commands.specs.declared.request.ReportView.{ReportView}
 use Rattle.view_commands.specs.ReportViews.{IsReported}
-use Rattle.view_commands.specs.SettledViews.{too_long, IsSettledPicture, IsPrintedOfBoth}
+use Rattle.view_commands.specs.SettledViews.{too_long, IsSettledPicture, IsPrintedOfBothAt}
 use Rattle.view_commands.specs.Views.{picture_of}
 
 -- ---- the parts that other commands tell
@@ -31,32 +32,33 @@ abbrev pub IsPictured : Bool → Extent → Session → List Edit → Printed �
 IsPictured false extent session edits printed = printed ≡ picture_of extent session edits
 IsPictured true extent session edits printed = IsSettledPicture extent session edits printed
 
--- what `compare` tells
-abbrev pub IsComparison : Bool → Session → List Edit → Printed → Type 0
-IsComparison false session edits printed = printed ≡ fine (compare_text session edits)
-IsComparison true session edits printed = IsPrintedOfBoth session edits printed
+-- what `compare` tells, with the rows at the places alone
+abbrev pub IsComparison : Bool → Places → Session → List Edit → Printed → Type 0
+IsComparison false places session edits printed =
+    printed ≡ fine (compare_text_at places session edits)
+IsComparison true places session edits printed = IsPrintedOfBothAt places session edits printed
 
-pub record IsSomeComparison (settled : Bool) (session : Session) (edits : List Edit)
-    (part : Option Printed) : Type 0 where
+pub record IsSomeComparison (settled : Bool) (places : Places) (session : Session)
+    (edits : List Edit) (part : Option Printed) : Type 0 where
   pub printed : Printed
-  pub is_printed : IsComparison settled session edits printed
+  pub is_printed : IsComparison settled places session edits printed
   pub is : part ≡ Some printed
 
 -- the same, where there are edits
-abbrev pub IsCompared : Bool → Session → List Edit → Option Printed → Type 0
-IsCompared settled session [] part = part ≡ None
-IsCompared settled session (edit ∷ edits) part =
-    IsSomeComparison settled session (edit ∷ edits) part
+abbrev pub IsCompared : Bool → Places → Session → List Edit → Option Printed → Type 0
+IsCompared settled places session [] part = part ≡ None
+IsCompared settled places session (edit ∷ edits) part =
+    IsSomeComparison settled places session (edit ∷ edits) part
 
 -- a report as a table
 abbrev pub as_table : Bool → ReportView
 as_table settled = record { settled = settled; form = Table }
 
--- what `timeline`, `compare` and `report` tell
+-- what `timeline`, `compare` and `report` tell, the first two at the places of the page
 pub record AreDrawn (view : PageView) (session : Session) (edits : List Edit) (drawn : Drawn) :
     Type 0 where
   pub picture : IsPictured view.settled view.extent session edits drawn.picture
-  pub comparison : IsCompared view.settled session edits drawn.comparison
+  pub comparison : IsCompared view.settled view.extent.places session edits drawn.comparison
   pub report : IsReported (as_table view.settled) session edits drawn.report
 
 -- ---- the page of them

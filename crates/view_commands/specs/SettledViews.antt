@@ -1,5 +1,5 @@
 -- What is told of the settled run of a session and of edits of it.
-use Rattle.std.specs.Prelude.{◌≡◌, ◌⊎◌, ℕ, List, [], ◌∷◌, ◌++◌, ◌==◌, length, codes, decimal, nat_lt, if◌then◌else◌}
+use Rattle.std.specs.Prelude.{◌≡◌, ◌⊎◌, ℕ, List, [], ◌∷◌, ◌++◌, ◌==◌, length, codes, decimal, nat_lt, Option, Some, None, if◌then◌else◌}
 use Rattle.bench_types.specs.declared.edit.Edit.{Edit}
 use Rattle.bench_types.specs.declared.header.Header.{Header}
 use Rattle.bench_types.specs.declared.step.Step.{Step}
@@ -18,7 +18,8 @@ use Rattle.run_comparisons.specs.declared.columns.Side.TheVariants.{Before, Afte
 use Rattle.run_comparisons.specs.declared.rows.Row.{Row}
 use Rattle.run_comparisons.specs.declared.settled.SettledPair.{SettledPair}
 use Rattle.run_comparisons.specs.Columns.{columns_of}
-use Rattle.run_comparisons.specs.Settled.{left_lines, IsComparisonTooLong, IsSettledComparison, IsSettledPair}
+use Rattle.run_comparisons.specs.Settled.{left_lines, IsComparisonOfSettled, IsComparisonTooLong, IsSettledPair}
+use Rattle.run_views.specs.declared.places.Places.{Places}
 use Rattle.program_io.specs.Outputs.{Printed, noted, fine}
 use Rattle.view_commands.specs.declared.request.SettledView.{SettledView}
 use Rattle.view_commands.specs.declared.request.SettledView.TheVariants as settled
@@ -55,19 +56,29 @@ pub record IsPrintedOfSettled (shown : Session → Printed) (session : Session) 
   pub settled : IsSettled session.header session.steps run left
   pub is_printed : printed ≡ printed_of_run shown session.header run left
 
--- told is a text of both settled runs, that of a session and that after edits of it
-pub record IsPrintedOfRuns (session : Session) (edits : List Edit) (printed : Printed)
-    : Type 0 where
+-- told is a text of both settled runs, that of a session and that after edits of it, with all rows
+-- or with those at the places alone
+pub record IsPrintedOfRuns (shown : Option Places) (session : Session) (edits : List Edit)
+    (printed : Printed) : Type 0 where
   pub text : List ℕ
   pub room : ¬ IsComparisonTooLong session edits
-  pub compares : IsSettledComparison session edits text
+  pub compares : IsComparisonOfSettled shown session edits text
   pub is_printed : printed ≡ fine text
 
 -- what is told of both; J2 where one of them has more steps than a session may have
-abbrev pub IsPrintedOfBoth : Session → List Edit → Printed → Type 0
-IsPrintedOfBoth session edits printed =
-    IsPrintedOfRuns session edits printed
+abbrev pub IsPrintedOfComparison : Option Places → Session → List Edit → Printed → Type 0
+IsPrintedOfComparison shown session edits printed =
+    IsPrintedOfRuns shown session edits printed
     ⊎ (IsComparisonTooLong session edits × (printed ≡ too_long))
+
+-- with all rows
+abbrev pub IsPrintedOfBoth : Session → List Edit → Printed → Type 0
+IsPrintedOfBoth session edits printed = IsPrintedOfComparison None session edits printed
+
+-- with the rows at the places alone
+abbrev pub IsPrintedOfBothAt : Places → Session → List Edit → Printed → Type 0
+IsPrintedOfBothAt places session edits printed =
+    IsPrintedOfComparison (Some places) session edits printed
 
 -- where the places of one of two runs stand: in the columns of their rows, or by the ticks of both
 abbrev pub columns_before : Axis → List Step → List Step → List Row → List ℕ

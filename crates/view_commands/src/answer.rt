@@ -140,6 +140,8 @@ fn printed_of_bench<T: Threads + Sync, P: PartProgress>(
     } = bench;
     match CheckedSession::new(header, steps.into_vec()) {
         Some(session) => {
+            // A session that was checked has no more steps than it may have.
+            let _steps = session.steps();
             let edited = EditedSession::make(alloc, session, edits.into_vec())?;
             let printed = printed_of_job(rt, host, progress, alloc, &edited, job)?;
             warned(printed, lines)

@@ -9,14 +9,14 @@ ghost use Rattle.view_commands.specs.PageViews.{counts_text, made_page, page_of,
 use crate::edited::picture_of;
 use crate::parts::{Course, Part, PartProgress};
 use crate::reports::{pair_reported, printed_report, run_reported};
-use crate::settled::{pair_compared, run_pictured, session_not_settled};
+use crate::settled::{pair_compared_at, run_pictured, session_not_settled};
 use crate::settled_pictures::pair_pictured;
 use crate::{PageView, ReportView};
 use bench_types::CheckedSession;
 use program_io::{Output, OutputStatus};
-use run_comparisons::{SettledPair, compare, settle_both};
+use run_comparisons::{SettledPair, compare_at, settle_both};
 use run_pages::{Parts, page};
-use run_views::trace_by_places;
+use run_views::{Places, trace_by_places};
 use session_edits::EditedSession;
 use session_reports::Form;
 use session_runs::Run;
@@ -32,22 +32,23 @@ struct Drawn {
     report: Output,
 }
 
-// What `compare` tells, where there are edits.
+// What `compare` tells, with the rows at the places alone, where there are edits.
 #[tactic(auto, using(crate::proofs::ComparedParts::compared_some))]
 fn comparison_part<P: PartProgress>(
     course: &mut Course<P>,
     alloc: Global,
     meter: &mut Meter,
     edited: &EditedSession,
+    places: Places,
 ) -> Result<Option<Output>, AllocError>
     ensures { IfOk result
-        (λ printed. IsCompared false edited.now.session edited.now.edits printed) }
+        (λ printed. IsCompared false places edited.now.session edited.now.edits printed) }
 {
     if edited.edits().is_empty() {
         return Ok(None);
     }
     course.begin(Part::Comparing);
-    let text = compare(alloc, meter, edited)?;
+    let text = compare_at(alloc, meter, edited, places)?;
     Ok(Some(Output::fine(alloc, text.into_bytes())))
 }
 
@@ -66,7 +67,7 @@ fn plain_parts<P: PartProgress>(
     let (settled, form) = (view.settled, Form::Table);
     Ok(Drawn {
         picture: picture_of(course, alloc, meter, edited, view.extent)?,
-        comparison: comparison_part(course, alloc, meter, edited)?,
+        comparison: comparison_part(course, alloc, meter, edited, view.extent.places)?,
         report: printed_report(course, alloc, meter, edited, ReportView { settled, form })?,
     })
 }
@@ -109,7 +110,7 @@ fn pair_parts<P: PartProgress>(
 {
     Ok(Drawn {
         picture: pair_pictured(course, alloc, meter, edited, pair, view.extent)?,
-        comparison: Some(pair_compared(course, alloc, edited, pair)?),
+        comparison: Some(pair_compared_at(course, alloc, edited, pair, view.extent.places)?),
         report: pair_reported(course, alloc, meter, pair, Form::Table)?,
     })
 }

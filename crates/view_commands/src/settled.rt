@@ -4,7 +4,7 @@ ghost use Rattle.bench_types.specs.Limits.{max_steps};
 ghost use Rattle.bench_types.specs.Session.{IsSession};
 ghost use Rattle.run_comparisons.specs.Settled.{IsComparisonTooLong, IsSettledPair};
 ghost use Rattle.settling.specs.declared.run.SettleFault.TheVariants.{TooManySteps};
-ghost use Rattle.view_commands.specs.SettledViews.{IsSettledPicture, IsSettledView, IsPrintedOfBoth, IsPrintedOfSettled, note_of, too_long};
+ghost use Rattle.view_commands.specs.SettledViews.{IsSettledPicture, IsSettledView, IsPrintedOfBoth, IsPrintedOfBothAt, IsPrintedOfSettled, note_of, too_long};
 ghost use Rattle.program_io.specs.Outputs.{fine, noted};
 ghost use Rattle.view_commands.specs.Views.{document_of, picture_of_run, trace_output};
 
@@ -14,8 +14,9 @@ use crate::settled_pictures::pictures_printed;
 use crate::{Selection, SettledView};
 use bench_types::{CheckedSession, EditFault, Header, MAX_STEPS};
 use program_io::{Output, Refusal};
-use run_comparisons::{SettledPair, compare_settled, settle_both};
+use run_comparisons::{SettledPair, compare_settled, compare_settled_at, settle_both};
 use run_pictures::Extent;
+use run_views::Places;
 use session_edits::EditedSession;
 use session_runs::Run;
 use settled_runs::WaitingCall;
@@ -122,8 +123,8 @@ fn document_printed<P: PartProgress>(
     }
 }
 
-/// Both settled runs beside each other.
-pub(crate) fn pair_compared<P: PartProgress>(
+// Both settled runs beside each other.
+fn pair_compared<P: PartProgress>(
     course: &mut Course<P>,
     alloc: Global,
     edited: &EditedSession,
@@ -136,6 +137,24 @@ pub(crate) fn pair_compared<P: PartProgress>(
 {
     course.begin(Part::Comparing);
     let text = compare_settled(alloc, edited, pair)?;
+    Ok(Output::fine(alloc, text.into_bytes()))
+}
+
+/// The same with the rows at the places alone.
+pub(crate) fn pair_compared_at<P: PartProgress>(
+    course: &mut Course<P>,
+    alloc: Global,
+    edited: &EditedSession,
+    pair: &SettledPair,
+    places: Places,
+) -> Result<Output, AllocError>
+    requires pair { IsSettledPair edited.now.session edited.now.edits pair.now }
+    requires room { ¬ IsComparisonTooLong edited.now.session edited.now.edits }
+    ensures { IfOk result
+        (λ printed. IsPrintedOfBothAt places edited.now.session edited.now.edits printed) }
+{
+    course.begin(Part::Comparing);
+    let text = compare_settled_at(alloc, edited, pair, places)?;
     Ok(Output::fine(alloc, text.into_bytes()))
 }
 

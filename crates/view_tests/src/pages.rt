@@ -33,6 +33,16 @@ const SHARED: &str = "<title>Run of 5 steps: cores 2, tasks 2</title>
 blocked; control logger -&gt; true: the mutex was taken; control logger
 <pre>    before      after     change number";
 
+/// The comparison of the same page from place 2 to place 3: the other rows are `0 0`, `- 1` and
+/// `4 4`.
+const SHARED_AT: &str = "<pre>| 1 2 mutex_take core 0 by control mutex 0 ticks 5: \
+    blocked; control logger -&gt; true: the mutex was taken; control logger
+- 2 - switch core 0: done; IDLE0 logger
+| 3 3 tick: done; IDLE0 logger -&gt; done; control logger
+rows at other places, left out: 3
+the runs differ first at - 1 and last at 4 4
+";
+
 /// Of the page of the settled run of `FIRST_RUN`, from place 2 on.
 const SETTLED: &str = "<title>Settled run of 5 steps: cores 2, tasks 3</title>
 <a href='#place-2'>2</a>
@@ -88,6 +98,18 @@ fn pages_of_documents(rt: HostRuntime) -> Result<(), Fail> {
     Ok(())
 }
 
+// The comparison has the rows at the places of the page.
+#[test]
+fn a_page_compares_its_places(rt: HostRuntime) -> Result<(), Fail> {
+    let extent = Extent {
+        places: Places { from: 2, to: 3 },
+        axis: Axis::Places,
+    };
+    let page = page_of(&rt, &rt, false, extent, SHARED_MUTEX, NO_NINTH);
+    expect_part(&rt, page.as_slice(), SHARED_AT);
+    Ok(())
+}
+
 // A page of one place, with words that have marks of HTML.
 fn sample(alloc: Global) -> Result<Vec<u8>, AllocError> {
     let mut places = Vec::new(alloc);
@@ -128,6 +150,22 @@ fn expect<R: Threads + Abort + Sync>(
     wanted: &str,
     note: &str,
 ) {
+    let page = page_of(rt, host, settled, extent, document, note);
+    for printed in wanted.lines() {
+        expect_part(rt, page.as_slice(), printed);
+    }
+    expect_here(rt, page.as_slice());
+}
+
+// The page of the document.
+fn page_of<R: Threads + Abort + Sync>(
+    rt: &R,
+    host: &HostRuntime,
+    settled: bool,
+    extent: Extent,
+    document: &str,
+    note: &str,
+) -> Vec<u8> {
     let job = Job {
         command: Command::Page(PageView { settled, extent }),
         strict: false,
@@ -140,10 +178,7 @@ fn expect<R: Threads + Abort + Sync>(
     let ending = run(rt, host, progress, alloc, &mut reader, &mut writer, &job);
     assert_eq!(rt; ending.code(), 0);
     assert!(rt; ending.message() == note.as_bytes());
-    for printed in wanted.lines() {
-        expect_part(rt, shown.as_slice(), printed);
-    }
-    expect_here(rt, shown.as_slice());
+    shown
 }
 
 // Nothing is loaded from elsewhere, and links lead to what is in the page.

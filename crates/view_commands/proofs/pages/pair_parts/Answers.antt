@@ -8,6 +8,6 @@ pub returns : goal.returns
 returns g c =
     let session = c.args.edited.now.session in
     let edits = c.args.edited.now.edits in
-    pair_parts c.args.view session edits c.in_ok-pair_pictured.field-0 c.in_ok-pair_compared.field-0 c.in_ok-pair_reported.field-0 c.requires.settled
-    c.requires.some c.in_ok-pair_pictured.ensures c.in_ok-pair_compared.ensures
+    pair_parts c.args.view session edits c.in_ok-pair_pictured.field-0 c.in_ok-pair_compared_at.field-0 c.in_ok-pair_reported.field-0 c.requires.settled
+    c.requires.some c.in_ok-pair_pictured.ensures c.in_ok-pair_compared_at.ensures
     (pair_report {E = ℕ} Table session edits c.args.pair.now (Ok c.in_ok-pair_reported.field-0) c.requires.pair c.in_ok-pair_reported.ensures)

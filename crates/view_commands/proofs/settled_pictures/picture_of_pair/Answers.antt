@@ -1,6 +1,4 @@
-use Rattle.std.proofs.Common.{List, ap, ap₂, ◌∙◌}
-use Rattle.bench_types.specs.declared.step.Step.{Step}
-use Rattle.bench_types.specs.Session.{Session}
+use Rattle.std.proofs.Common.{ap₂, ◌∙◌}
 use Rattle.view_commands.specs.SettledViews.{drawn_after, drawn_before}
 use Rattle.view_commands.proofs.Pictures.{drawn_of, same_pictured}
 use Rattle.view_commands.proofs.settled_pictures.picture_of_pair.Goals as goal

@@ -1,10 +1,12 @@
--- Alike kernels: equality of two tables said pair by pair, without lists, so without sorting.
+-- Alike kernels: equality of two tables said pair by pair, without sorting.
 -- Stamps, wakes and deadlines themselves are not compared: only which of two stamps is the lesser,
 -- and how many ticks are left.
-use Rattle.std.specs.Prelude.{◌≡◌, ◌↔◌, ℕ, ◌<◌, ◌%◌, ◌^◌, true, IsSome}
+use Rattle.std.specs.Prelude.{◌≡◌, ◌↔◌, ℕ, ◌<◌, ◌%◌, ◌^◌, true, List, Some, IsSome}
+use Rattle.bench_types.specs.declared.kernel_data.Waiter.{Waiter}
 use Rattle.bench_model.specs.Control.{task_at}
 use Rattle.bench_model.specs.Looks.{ticks_left}
 use Rattle.bench_model.specs.Table.{Table, stamp_of, is_ready, deadline_left}
+use Rattle.bench_model.specs.Waiters.{mutex_awaited, stands_before, wait_of}
 
 -- both are ready, with one priority in use
 abbrev pub InOneReadyList : Table → ℕ → ℕ → Type 0
@@ -27,6 +29,17 @@ SameOrder StandTogether a b =
     (i j : ℕ) → i < a.settings.tasks → j < a.settings.tasks → StandTogether a i j
     → (CameBefore a i j ↔ CameBefore b i j)
 
+-- both wait for the mutex
+abbrev pub AwaitBoth : ℕ → ℕ → ℕ → List Waiter → Type 0
+AwaitBoth mutex i j waiters =
+    (mutex_awaited i waiters ≡ Some mutex) × (mutex_awaited j waiters ≡ Some mutex)
+
+-- of any two of so many tasks that wait for one mutex, the same one stands in front in both lists
+abbrev pub SameWaitOrder : ℕ → List Waiter → List Waiter → Type 0
+SameWaitOrder tasks waiters others =
+    (mutex i j : ℕ) → i < tasks → j < tasks → AwaitBoth mutex i j waiters
+    → stands_before i j waiters ≡ stands_before i j others
+
 -- Same without sorting, to be checked against the kernel's lists pair by pair; the law SameIsAlike
 -- says that the two agree
 pub record SamePairwise (a b : Table) : Type 0 where
@@ -45,8 +58,11 @@ pub record SamePairwise (a b : Table) : Type 0 where
   pub left : (i : ℕ) → i < a.settings.tasks → ticks_left i a.orders ≡ ticks_left i b.orders
   pub deadlines :
       (i : ℕ) → i < a.settings.tasks → deadline_left i a.orders ≡ deadline_left i b.orders
-  -- the same tasks wait for mutexes, with the same waiting priorities, in the same order
-  pub waiters : a.orders.waiters ≡ b.orders.waiters
+  -- each task waits for the same mutex in both, with the same waiting priority, or for none
+  pub waits :
+      (i : ℕ) → i < a.settings.tasks → wait_of i a.orders.waiters ≡ wait_of i b.orders.waiters
+  -- of two tasks that wait for one mutex the same one stands in front
+  pub wait_order : SameWaitOrder a.settings.tasks a.orders.waiters b.orders.waiters
   -- the order of each ready list, and of the tasks with one number of ticks left
   pub ready_order : SameOrder InOneReadyList a b
   pub delay_order : SameOrder AreDelayedTogether a b

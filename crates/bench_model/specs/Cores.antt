@@ -33,6 +33,7 @@ bare_view cores = record {
     slicing = cores.slicing;
     mutexes = 0;
     notes = 0;
+    queues = None;
     tasks = length cores.control.tasks;
   };
   control = cores.control;

@@ -39,7 +39,8 @@ are_same_lists same xs ys = false
 abbrev pub are_same_settings : Settings → Settings → Bool
 are_same_settings a b =
     a.cores == b.cores && a.priorities == b.priorities && are_same_bools a.slicing b.slicing
-    && a.mutexes == b.mutexes && a.notes == b.notes && a.tasks == b.tasks
+    && a.mutexes == b.mutexes && a.notes == b.notes
+    && are_same_options (λ m n. m == n) a.queues b.queues && a.tasks == b.tasks
 
 abbrev pub are_same_looks : CoreLook → CoreLook → Bool
 are_same_looks a b =

@@ -1,5 +1,5 @@
 -- What the table of every kernel keeps: that it is sound.
-use Rattle.std.specs.Prelude.{◌≡◌, ℕ, suc, ◌+◌, ◌*◌, ◌<◌, ◌≤◌, ◌^◌, List, length, Bool, true, false, Option, Some, None, IfSome}
+use Rattle.std.specs.Prelude.{◌≡◌, ℕ, suc, ◌+◌, ◌*◌, ◌<◌, ◌≤◌, ◌^◌, List, length, true, false, Option, Some, None, option_map, is_some, IfSome}
 use Rattle.std.specs.List.{AllByRecursion}
 use Rattle.std.specs.Option.{ForSome}
 use Rattle.bench_types.specs.declared.kernel_data.Hold.{Hold}
@@ -18,7 +18,8 @@ use Rattle.bench_types.specs.Step.{IsCheckedUnfinished}
 use Rattle.bench_model.specs.Control.{Control, current, is_due, task_at}
 use Rattle.bench_model.specs.Notes.{note_at}
 use Rattle.bench_model.specs.State.{call_at, holder_at}
-use Rattle.bench_model.specs.Turns.{AreInTurn}
+use Rattle.bench_model.specs.Turns.{AreByMutex, AreInTurn, WaitOnce}
+use Rattle.bench_model.specs.Waiters.{mutex_awaited}
 use Rattle.bench_model.specs.Table.{Stamps, Table, row_at, stamp_of, wake_in, deadline_at, is_ready}
 
 -- there is a row, a control block, a deadline or none and an unfinished call or none for each task,
@@ -91,21 +92,38 @@ IsWaiter settings stamps waiter =
     (waiter.task < length stamps.rows) × (is_ready waiter.task stamps ≡ false)
     × IsMutexWait settings waiter.wait
 
-abbrev pub takes_mutex : Option Unfinished → Bool
-takes_mutex (Some (Take mutex mark)) = true
-takes_mutex unfinished = false
+-- the mutex that an unfinished call takes
+abbrev pub mutex_taken : Option Unfinished → Option ℕ
+mutex_taken (Some (Take mutex mark)) = Some mutex
+mutex_taken unfinished = None
 
--- what is kept of mutexes: tasks hold them, tasks wait for them and are served in turn, and a
--- deadline is that of an unfinished wait, at most 4294967294 ticks ahead, since a wait for
--- 4294967295 has none
+-- a blocked task waits for the mutex that its unfinished call takes, or for none
+abbrev pub WaitForTheirCalls : List (Option Unfinished) → Stamps → Type 0
+WaitForTheirCalls calls stamps =
+    (i : ℕ) → i < length stamps.rows → is_ready i stamps ≡ false
+    → mutex_awaited i stamps.waiters ≡ mutex_taken (call_at calls i)
+
+-- what is kept of mutexes: tasks hold them, tasks wait for them, each at one place, and are served
+-- in turn, and a deadline is that of an unfinished wait, at most 4294967294 ticks ahead, since a
+-- wait for 4294967295 has none
 pub record HasMutexes (settings : Settings) (calls : List (Option Unfinished))
     (holders : List (Option ℕ)) (stamps : Stamps) : Type 0 where
   pub held_by_tasks : (mutex task : ℕ) → holder_at holders mutex ≡ Some task → task < settings.tasks
   pub waits : AllByRecursion (IsWaiter settings stamps) stamps.waiters
+  pub once : WaitOnce stamps.waiters
+  pub by_mutex : AreByMutex stamps.waiters
+  pub awaited : WaitForTheirCalls calls stamps
   pub turns : AreInTurn stamps stamps.waiters
   pub deadlines :
       (i deadline : ℕ) → deadline_at stamps i ≡ Some deadline
-      → (suc deadline < stamps.tick + 2 ^ 32) × (takes_mutex (call_at calls i) ≡ true)
+      → (suc deadline < stamps.tick + 2 ^ 32) × (is_some (mutex_taken (call_at calls i)) ≡ true)
+
+-- a task that makes this call waits so: for the mutex that the call takes, and for no longer than a
+-- wait for a mutex may be
+abbrev pub IsWaitOf : Unfinished → Option ℕ → Option MutexWait → Type 0
+IsWaitOf call ticks wait =
+    (option_map (λ (wait : MutexWait). wait.mutex) wait ≡ mutex_taken (Some call))
+    × (is_some wait ≡ true → IsMutexTime ticks)
 
 -- all of it that says nothing of a hold
 pub record IsConsistent (table : Table) : Type 0 where

@@ -1,5 +1,5 @@
 -- The turn in which the waiters of a mutex are served.
-use Rattle.std.specs.Prelude.{◌≡◌, ◌≢◌, ℕ, List, [], ◌∷◌, Bool, true, ◌&&◌, ◌||◌, ◌==◌, nat_lt}
+use Rattle.std.specs.Prelude.{◌≡◌, ◌≢◌, ◌≤◌, ℕ, List, [], ◌∷◌, Bool, true, ◌&&◌, ◌||◌, ◌==◌, nat_lt}
 use Rattle.std.specs.List.{AllByRecursion}
 use Rattle.bench_types.specs.declared.kernel_data.Waiter.{Waiter}
 use Rattle.bench_model.specs.Table.{Stamps, stamp_of}
@@ -15,6 +15,19 @@ is_served_before stamps a b =
 -- the same, where both wait for one mutex
 abbrev pub IsServedBefore : Stamps → Waiter → Waiter → Type 0
 IsServedBefore stamps a b = a.wait.mutex ≡ b.wait.mutex → is_served_before stamps a b ≡ true
+
+-- no task stands twice among the waiters
+abbrev pub WaitOnce : List Waiter → Type 0
+WaitOnce [] = Unit {0}
+WaitOnce (waiter ∷ waiters) =
+    AllByRecursion (λ (other : Waiter). other.task ≢ waiter.task) waiters × WaitOnce waiters
+
+-- the waiters of a mutex stand in front of those of greater ones
+abbrev pub AreByMutex : List Waiter → Type 0
+AreByMutex [] = Unit {0}
+AreByMutex (waiter ∷ waiters) =
+    AllByRecursion (λ (other : Waiter). waiter.wait.mutex ≤ other.wait.mutex) waiters
+    × AreByMutex waiters
 
 -- each waiter stands in front of those of its mutex that are served after it
 abbrev pub AreInTurn : Stamps → List Waiter → Type 0

@@ -1,5 +1,5 @@
 -- The tasks that wait for mutexes, in one list.
-use Rattle.std.specs.Prelude.{ℕ, List, filter, find, Bool, not, ◌&&◌, ◌||◌, ◌==◌, nat_lt, nat_le, Option, option_map}
+use Rattle.std.specs.Prelude.{ℕ, List, filter, find, Bool, false, not, ◌&&◌, ◌||◌, ◌==◌, nat_lt, nat_le, Option, option_map}
 use Rattle.std.specs.Option.{option_map_or}
 use Rattle.bench_types.specs.declared.kernel_data.MutexWait.{MutexWait}
 use Rattle.bench_types.specs.declared.kernel_data.Waiter.{Waiter}
@@ -29,7 +29,21 @@ without_waiter task waiters = filter (λ waiter. not (waiter.task == task)) wait
 abbrev pub first_of : ℕ → List Waiter → Option Waiter
 first_of mutex waiters = find (λ waiter. waiter.wait.mutex == mutex) waiters
 
+-- the task among the waiters, where it is one
+abbrev pub waiter_of : ℕ → List Waiter → Option Waiter
+waiter_of task waiters = find (λ waiter. waiter.task == task) waiters
+
 -- what the task waits for
 abbrev pub wait_of : ℕ → List Waiter → Option MutexWait
-wait_of task waiters =
-    option_map (λ (waiter : Waiter). waiter.wait) (find (λ waiter. waiter.task == task) waiters)
+wait_of task waiters = option_map (λ (waiter : Waiter). waiter.wait) (waiter_of task waiters)
+
+-- of the two tasks the first stands in front of the other
+abbrev pub stands_before : ℕ → ℕ → List Waiter → Bool
+stands_before i j waiters =
+    option_map_or (λ (waiter : Waiter). waiter.task == i)
+    (find (λ waiter. waiter.task == i || waiter.task == j) waiters) false
+
+-- the mutex that the task waits for
+abbrev pub mutex_awaited : ℕ → List Waiter → Option ℕ
+mutex_awaited task waiters =
+    option_map (λ (waiter : Waiter). waiter.wait.mutex) (waiter_of task waiters)

@@ -13,3 +13,4 @@ pub mod Served
 pub mod Sizes
 pub mod SoundMutexes
 pub mod SoundSteps
+pub mod WaitingOnce

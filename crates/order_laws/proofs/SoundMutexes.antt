@@ -14,13 +14,14 @@ use Rattle.bench_model.specs.declared.row.TaskState.TheVariants.{Ready, Blocked}
 use Rattle.bench_model.specs.declared.row.TaskRow.{TaskRow}
 use Rattle.bench_model.specs.State.{call_at, holder_at}
 use Rattle.bench_model.specs.Table.{Stamps, row_at, ahead, deadline_at, is_ready, stands_ready, stamp_of, restamped, add_to_ready_list, delay, forget_deadline, advance}
-use Rattle.bench_model.specs.Waiters.{waits_first, with_wait, without_waiter}
-use Rattle.bench_model.specs.Sound.{IsMutexWait, IsMutexTime, IsWaiter, HasMutexes, takes_mutex}
+use Rattle.bench_model.specs.Waiters.{mutex_awaited, waiter_of, waits_first, with_wait, without_waiter}
+use Rattle.bench_model.specs.Sound.{IsMutexWait, IsMutexTime, IsWaiter, IsWaitOf, HasMutexes, mutex_taken}
 use Rattle.list_orders.proofs.Filters.{All-both, All-filter, All-filter_passes, All-weaker}
 use Rattle.list_orders.proofs.Ranks.{All-placed}
 use Rattle.order_laws.proofs.Restamps.{IsGiven, moved_length, row_same, row_other, stamp_same, stamp_other}
 use Rattle.order_laws.proofs.Served.{turn_filter, turn_moved, turn_placed}
-use Rattle.bench_model.specs.Turns.{AreInTurn}
+use Rattle.order_laws.proofs.WaitingOnce.{by_mutex_filter, by_mutex_placed, none_found, once_filter, once_placed, other_found, others_found, placed_found, IsNoneOf}
+use Rattle.bench_model.specs.Turns.{AreByMutex, AreInTurn, WaitOnce}
 
 -- a task that was set to stand so, and the others
 pub standing_same : (stamps : Stamps) (task : ℕ) (standing : TaskState) → task < length stamps.rows → (row_at (restamped task standing stamps) task).standing ≡
@@ -78,6 +79,13 @@ module _ (settings : Settings) (calls : List (Option Unfinished)) (holders : Lis
   readied_mutexes task below = record {
     held_by_tasks = kept.held_by_tasks;
     waits = readied_waiters settings stamps task below kept.waits;
+    once = once_filter (λ (waiter : Waiter). not (eqb waiter.task task)) stamps.waiters kept.once;
+    by_mutex = by_mutex_filter (λ (waiter : Waiter). not (eqb waiter.task task)) stamps.waiters kept.by_mutex;
+    awaited = λ i low blocked. elim (cases_eq i task) [
+      | inl here ↦ absurd (cc (sym (ap (λ j. is_ready j (restamped task Ready stamps)) here ∙ ap stands_ready (standing_same stamps task Ready below)) ∙ blocked))
+      | inr away ↦ ap (option_map (λ (waiter : Waiter). waiter.wait.mutex)) (other_found i task away stamps.waiters) ∙ kept.awaited i
+          (omega (arith, moved_length stamps task Ready below, low)) (sym (ap stands_ready (standing_other stamps task Ready below i away)) ∙ blocked)
+    ];
     turns = turn_moved stamps (restamped task Ready stamps) (without_waiter task stamps.waiters) (others_stamped stamps task below stamps.waiters)
         (turn_filter stamps (λ (waiter : Waiter). not (eqb waiter.task task)) stamps.waiters kept.turns);
     deadlines = kept.deadlines;
@@ -88,24 +96,33 @@ module _ (settings : Settings) (calls : List (Option Unfinished)) (holders : Lis
   advanced_mutexes = record {
     held_by_tasks = kept.held_by_tasks;
     waits = kept.waits;
+    once = kept.once;
+    by_mutex = kept.by_mutex;
+    awaited = kept.awaited;
     turns = kept.turns;
     deadlines = λ i deadline has. let near = kept.deadlines i deadline has in (omega (arith, near.0), near.1);
   }
 
-  -- a task whose wait is over
-  pub freed_mutexes : (task : ℕ) → task < length calls → task < length stamps.deadlines → HasMutexes settings (slice_set calls task None) holders
+  -- a ready task whose wait is over
+  pub freed_mutexes : (task : ℕ) → is_ready task stamps ≡ true → task < length calls → task < length stamps.deadlines → HasMutexes settings (slice_set calls task None) holders
       (forget_deadline task stamps)
   unfolding forget_deadline
-  freed_mutexes task in_calls in_deadlines = record {
+  freed_mutexes task ready in_calls in_deadlines = record {
     held_by_tasks = kept.held_by_tasks;
     waits = kept.waits;
+    once = kept.once;
+    by_mutex = kept.by_mutex;
+    awaited = λ i low blocked. elim (cases_eq i task) [
+      | inl here ↦ absurd (cc (sym (ap (λ j. is_ready j stamps) here ∙ ready) ∙ blocked))
+      | inr away ↦ kept.awaited i low blocked ∙ sym (ap mutex_taken (get_or-set_other calls task i None None away))
+    ];
     turns = kept.turns;
     deadlines = λ i deadline has. elim (cases_eq i task) [
       | inl here ↦ absurd (cc (sym (get_or-set_same stamps.deadlines task None None in_deadlines) ∙ ap (λ j. deadline_at (forget_deadline task stamps) j)
           (sym here) ∙ has))
       | inr away ↦
           let near = kept.deadlines i deadline (sym (get_or-set_other stamps.deadlines task i None None away) ∙ has) in
-          (near.0, ap takes_mutex (get_or-set_other calls task i None None away) ∙ near.1)
+          (near.0, ap (λ call. is_some (mutex_taken call)) (get_or-set_other calls task i None None away) ∙ near.1)
     ];
   }
 
@@ -118,6 +135,9 @@ module _ (settings : Settings) (calls : List (Option Unfinished)) (holders : Lis
       | inr away ↦ kept.held_by_tasks i task (sym (get_or-set_other holders mutex i given None away) ∙ has)
     ];
     waits = kept.waits;
+    once = kept.once;
+    by_mutex = kept.by_mutex;
+    awaited = kept.awaited;
     turns = kept.turns;
     deadlines = kept.deadlines;
   }
@@ -130,6 +150,10 @@ initial_near tick deadline None (Some wait) fits same = absurd (cc (same))
 initial_near tick deadline (Some ticks) (Some wait) fits same =
     let at : tick + ticks ≡ deadline = cc (same) in
     (omega (arith, at, fits refl), refl)
+
+some_mapped : (wait : Option MutexWait) → is_some wait ≡ true → is_some (option_map (λ (wait : MutexWait). wait.mutex) wait) ≡ true
+some_mapped None is = is
+some_mapped (Some wait) is = refl
 
 -- a task that waits from now on
 module _ (settings : Settings) (calls : List (Option Unfinished)) (holders : List (Option ℕ)) (stamps : Stamps)
@@ -172,22 +196,57 @@ module _ (settings : Settings) (calls : List (Option Unfinished)) (holders : Lis
       (λ w both. omega (arith, both.1, stamp_same stamps task standing below, given w.task both.0.0)) stamps.waiters
       (All-both (IsWaiter settings stamps) (λ (w : Waiter). stamp_of moved w.task ≡ stamp_of stamps w.task) stamps.waiters kept.waits (others_stay below ready)))
 
+  -- nor is it among the waiters
+  is_new : is_ready task stamps ≡ true → IsNoneOf task stamps.waiters
+  is_new ready = All-weaker (IsWaiter settings stamps) (λ (w : Waiter). w.task ≢ task) (λ w is same. cc (ap (λ i. is_ready i stamps) same, ready, is.1)) stamps.waiters
+      kept.waits
+
+  waits_once : (wait : Option MutexWait) → is_ready task stamps ≡ true → WaitOnce (with_wait task wait stamps.waiters)
+  waits_once None ready = kept.once
+  waits_once (Some wait) ready = once_placed waits_first (record { task = task; wait = wait }) stamps.waiters kept.once (is_new ready)
+
+  in_mutex_order : (wait : Option MutexWait) → AreByMutex (with_wait task wait stamps.waiters)
+  in_mutex_order None = kept.by_mutex
+  in_mutex_order (Some wait) = by_mutex_placed (record { task = task; wait = wait }) stamps.waiters kept.by_mutex
+
+  task_awaits : (wait : Option MutexWait) → is_ready task stamps ≡ true → mutex_awaited task (with_wait task wait stamps.waiters) ≡ option_map
+      (λ (wait : MutexWait). wait.mutex) wait
+  task_awaits None ready = ap (option_map (λ (w : Waiter). w.wait.mutex)) (none_found task stamps.waiters (is_new ready))
+  task_awaits (Some wait) ready = ap (option_map (λ (w : Waiter). w.wait.mutex))
+      (placed_found waits_first (record { task = task; wait = wait }) stamps.waiters kept.once (is_new ready))
+
+  others_await : (i : ℕ) (wait : Option MutexWait) → i ≢ task → waiter_of i (with_wait task wait stamps.waiters) ≡ waiter_of i stamps.waiters
+  others_await i None away = refl
+  others_await i (Some wait) away = others_found waits_first (record { task = task; wait = wait }) stamps.waiters kept.once i away
+
   pub waiting_mutexes : task < length stamps.rows → IsGiven stamps → is_ready task stamps ≡ true → task < length calls → task < length stamps.deadlines → IfSome wait
       (IsMutexWait settings) →
-      (is_some wait ≡ true → (takes_mutex (Some call) ≡ true) × IsMutexTime ticks) → HasMutexes settings later_calls holders (delay task ticks wait stamps)
+      IsWaitOf call ticks wait → HasMutexes settings later_calls holders (delay task ticks wait stamps)
   unfolding delay
   waiting_mutexes below given ready in_calls in_deadlines there takes = record {
     held_by_tasks = kept.held_by_tasks;
     waits = all_wait wait below ready there;
+    once = waits_once wait ready;
+    by_mutex = in_mutex_order wait;
+    awaited = λ i low blocked. elim (cases_eq i task) [
+      | inl here ↦ ap (λ j. mutex_awaited j (with_wait task wait stamps.waiters)) here ∙ task_awaits wait ready ∙ takes.0 ∙ sym
+          (ap mutex_taken (ap (call_at later_calls) here ∙ get_or-set_same calls task (Some call) None in_calls))
+      | inr away ↦ ap (option_map (λ (w : Waiter). w.wait.mutex)) (others_await i wait away) ∙ kept.awaited i (omega (arith, moved_length stamps task standing below, low))
+          (sym (ap stands_ready (standing_other stamps task standing below i away)) ∙ blocked) ∙ sym
+          (ap mutex_taken (get_or-set_other calls task i (Some call) None away))
+    ];
     turns = in_turn wait below given ready;
     deadlines = λ i deadline has. elim (cases_eq i task) [
       | inl here ↦
-          let near = initial_near stamps.tick deadline ticks wait (λ is. (takes is).1)
-          (sym (get_or-set_same stamps.deadlines task ends None in_deadlines) ∙ ap (deadline_at (delay task ticks wait stamps)) (sym here) ∙ has) in
-          (near.0, ap takes_mutex (ap (call_at later_calls) here ∙ get_or-set_same calls task (Some call) None in_calls) ∙ (takes near.1).0)
+          let near = initial_near stamps.tick deadline ticks wait takes.1
+          (sym (get_or-set_same stamps.deadlines task ends None in_deadlines) ∙ ap (deadline_at (delay task ticks wait stamps)) (sym here) ∙ has) in (
+            near.0,
+            ap (λ call. is_some (mutex_taken call)) (ap (call_at later_calls) here ∙ get_or-set_same calls task (Some call) None in_calls) ∙
+                ap is_some (sym takes.0) ∙ some_mapped wait near.1,
+          )
       | inr away ↦
           let near = kept.deadlines i deadline (sym (get_or-set_other stamps.deadlines task i ends None away) ∙ has) in
-          (near.0, ap takes_mutex (get_or-set_other calls task i (Some call) None away) ∙ near.1)
+          (near.0, ap (λ call. is_some (mutex_taken call)) (get_or-set_other calls task i (Some call) None away) ∙ near.1)
     ];
   }
     where

@@ -1,7 +1,7 @@
 -- The rules that seek no core keep a sound table sound.
 use Rattle.std.proofs.Common.{◌≡◌, ◌≢◌, ℕ, suc, ◌+◌, ◌<◌, ◌≤◌, ◌^◌, Bool, true, false, cond, not, eqb, ◌&&◌, ◌||◌, List, [], ◌∷◌, length, Option, Some, None}
 use Rattle.std.proofs.Common.{refl, sym, ap, ap₂, subst, ◌∙◌, arith, inl, inr}
-use Rattle.std.specs.Prelude.{unwrap_or, slice_set, option_map, is_some, IsSome, IfSome}
+use Rattle.std.specs.Prelude.{unwrap_or, slice_set, option_map, IsSome, IfSome}
 use Rattle.std.specs.Option.{option_map_or}
 use Rattle.std.specs.List.{fold, AllByRecursion}
 use Rattle.std.proofs.lemmas.Bool.Decides.{nat_tests}
@@ -20,8 +20,8 @@ use Rattle.bench_model.specs.Control.{Control, core_at, task_at, with_core, curr
 use Rattle.bench_model.specs.State.{selected, call_at, after_select, yielded, blocked}
 use Rattle.bench_model.specs.Table.{Stamps, Table, stamp_queues, row_at, stamp_of, is_ready, stands_ready, wake_in, ahead, wakes_at, tasks_of, restamped, pick}
 use Rattle.bench_model.specs.Table.{add_to_ready_list, delay, advance, due}
-use Rattle.bench_model.specs.Sound.{IsCaller, IsStamped, HasCurrentTasks, IsWait, IsMutexWait, IsMutexTime, WakesInTime, IsControlBlock, HasMutexes}
-use Rattle.bench_model.specs.Sound.{IsConsistent, takes_mutex}
+use Rattle.bench_model.specs.Sound.{IsCaller, IsStamped, HasCurrentTasks, IsWait, IsMutexWait, WakesInTime, IsControlBlock, HasMutexes}
+use Rattle.bench_model.specs.Sound.{IsConsistent, IsWaitOf}
 use Rattle.list_orders.proofs.Filters.{All-weaker}
 use Rattle.list_orders.proofs.Stamped.{numbers_have, has-by_stamp}
 use Rattle.order_laws.proofs.Restamps.{moved_length, moved_once}
@@ -492,7 +492,7 @@ module _ (stamps : Stamps) (task : ℕ) (ticks : Option ℕ) (wait : Option Mute
 
 pub blocked_sound : (core task : ℕ) (call : Unfinished) (ticks : Option ℕ) (wait : Option MutexWait) (table : Table) → IsConsistent table → IsCaller table core
     task → IsCheckedUnfinished table.settings call → length table.control.cores ≤ task → IsWait ticks → IfSome wait (IsMutexWait table.settings) →
-    (is_some wait ≡ true → (takes_mutex (Some call) ≡ true) × IsMutexTime ticks) → IsConsistent (blocked stamp_queues core task call ticks wait table)
+    IsWaitOf call ticks wait → IsConsistent (blocked stamp_queues core task call ticks wait table)
 unfolding blocked
 blocked_sound core task call ticks wait table sound place checked user fits there takes =
     let low : task < table.settings.tasks = omega (arith, sound.sized.rows, place.2) in

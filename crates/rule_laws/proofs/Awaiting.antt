@@ -186,5 +186,5 @@ timeout_sound table core task call ticks entered sound place checked user low = 
     either : (b : Bool) → (entered.0 && ltb 0 ticks) ≡ b → IsConsistent (cond {A = Reply × Table} b
         (Blocked, blocked stamp_queues core task (Made call) (timeout_of ticks) None waiting) (completed task call waiting)).1
     either true waits = blocked_sound core task (Made call) (timeout_of ticks) None waiting sound place checked user
-        (waits_on ticks (grind (arith, nat_tests, waits)) low) tt (λ none. absurd (cc (none)))
+        (waits_on ticks (grind (arith, nat_tests, waits)) low) tt (refl, λ none. absurd (cc (none)))
     either false done = completed_sound waiting task call sound

@@ -202,7 +202,7 @@ module _ (table : Table) (core task mutex holder : ℕ) (ticks : Option ℕ) (so
       let there : mutex < raised.settings.mutexes = subst (λ s. mutex < s.mutexes) same below in
       let rank : mine < raised.settings.priorities = subst (λ s. mine < s.priorities) same (sound.blocks task caller_low).in_use in
       blocked_sound core task marked ticks wait raised raised_sound raised_place there
-      (omega (arith, (inherited_kept table core holder mine sound low).cores, user)) fits (there, rank) (λ is. (refl, short))
+      (omega (arith, (inherited_kept table core holder mine sound low).cores, user)) fits (there, rank) (refl, λ is. short)
 
 -- ---- taking
 
@@ -248,9 +248,10 @@ unfolding forget_deadline
 forgotten_length stamps task = length-set stamps.deadlines task None
 
 -- a table with a forgotten deadline is otherwise as it was
-forgotten_sound : (table : Table) (task : ℕ) → IsConsistent table → task < table.settings.tasks → IsConsistent (after_return stamp_queues task table)
+forgotten_sound : (table : Table) (task : ℕ) → IsConsistent table → task < table.settings.tasks → is_ready task table.orders ≡ true → IsConsistent
+    (after_return stamp_queues task table)
 unfolding forget_deadline
-forgotten_sound table task sound low = record {
+forgotten_sound table task sound low ready = record {
   sized = resized table _ refl (ap₂ (λ a b. record (lengths_of table) { calls = a; deadlines = b }) (length-set table.calls task None)
       (forgotten_length table.orders task)) sound.sized;
   stamped = record { given = sound.stamped.given; once = sound.stamped.once };
@@ -264,7 +265,7 @@ forgotten_sound table task sound low = record {
   blocks = sound.blocks;
   calls = call_set table.settings table.calls task None (omega (arith, sound.sized.calls)) (λ other same. absurd (cc (same))) sound.calls;
   notes = sound.notes;
-  mutexes = freed_mutexes table.settings table.calls table.holders table.orders sound.mutexes task (omega (arith, sound.sized.calls))
+  mutexes = freed_mutexes table.settings table.calls table.holders table.orders sound.mutexes task ready (omega (arith, sound.sized.calls))
       (omega (arith, sound.sized.deadlines));
 }
 
@@ -358,7 +359,7 @@ module _ (table : Table) (core task mutex : ℕ) (mark : Bool) (sound : IsConsis
   over_low = omega (arith, sound.sized.rows, place.2)
 
   over_sound : IsConsistent over
-  over_sound = forgotten_sound table task sound over_low
+  over_sound = forgotten_sound table task sound over_low place.3
 
   abbrev finished_view : Option ℕ → ℕ → Reply × View
   finished_view left holder =
@@ -418,7 +419,7 @@ pub finished_sound : (table : Table) (core task : ℕ) (call : Unfinished) → I
 unfolding after_finish
 finished_sound table core task (Made call) sound place checked user =
     let low : task < table.settings.tasks = omega (arith, sound.sized.rows, place.2) in
-    completed_sound (after_return stamp_queues task table) task call (forgotten_sound table task sound low)
+    completed_sound (after_return stamp_queues task table) task call (forgotten_sound table task sound low place.3)
 finished_sound table core task (Take mutex mark) sound place checked user = finish_sound table core task mutex mark sound place user checked
 
 -- ---- giving

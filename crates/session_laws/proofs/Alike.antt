@@ -1,25 +1,30 @@
 -- What can be seen of two tables is equal just where they are alike pair by pair.
-use Rattle.std.proofs.Common.{◌≡◌, ℕ, ◌-◌, ◌<◌, true, leb, List, length, map, Option, Some, None, refl, sym, ap, ◌∙◌, arith}
+use Rattle.std.proofs.Common.{◌≡◌, ℕ, ◌-◌, ◌<◌, true, leb, List, length, map, Option, Some, None, refl, sym, ap, subst, ◌∙◌, arith}
 use Rattle.std.specs.Prelude.{◌↔◌, is_some, option_map, unwrap_or}
+use Rattle.std.specs.List.{AllByRecursion}
 use Rattle.std.proofs.lemmas.List.{map-id, length-map, ext_get_or}
 use Rattle.std.proofs.lemmas.Bool.Decides.{nat_tests}
 use Rattle.bench_types.specs.declared.kernel_data.Hold.{Hold}
 use Rattle.bench_types.specs.declared.kernel_data.Delayed.{Delayed}
 use Rattle.bench_types.specs.declared.kernel_data.Settings.{Settings}
+use Rattle.bench_types.specs.declared.kernel_data.Waiter.{Waiter}
 use Rattle.bench_types.specs.declared.note.Notification.{Notification}
 use Rattle.bench_types.specs.declared.step.Unfinished.{Unfinished}
-use Rattle.bench_model.specs.Alike.{SamePairwise, InOneReadyList, AreDelayedTogether, SameOrder}
+use Rattle.bench_model.specs.Alike.{SamePairwise, InOneReadyList, AreDelayedTogether, SameOrder, SameWaitOrder}
 use Rattle.bench_model.specs.Control.{Control, task_at}
 use Rattle.bench_model.specs.Equal.{Same}
 use Rattle.bench_model.specs.Looks.{ticks_left, left_in}
 use Rattle.bench_model.specs.Lists as seen
 use Rattle.bench_model.specs.Lists.{Lists, View, lists_of, delayed_of, outranks, wakes_first}
 use Rattle.list_orders.specs.Search.{ranked, has}
-use Rattle.bench_model.specs.Sound.{IsConsistent}
+use Rattle.bench_model.specs.Sound.{IsConsistent, IsWaiter}
 use Rattle.bench_model.specs.Table.{Stamps, Table, row_at, is_ready, stands_ready, wake_in, deadline_left}
+use Rattle.bench_model.specs.Waiters.{wait_of}
+use Rattle.list_orders.proofs.Filters.{All-weaker}
 use Rattle.order_laws.proofs.Looks.{left_seen}
 use Rattle.order_laws.proofs.Restamps.{standing_so, waits}
 use Rattle.session_laws.proofs.SameOrders.{same_orders}
+use Rattle.session_laws.proofs.SameWaiters.{same_waiters, waits_from_same}
 use Rattle.order_laws.proofs.SeenMoves.{is_ready_seen, deadline_from, deadline_left_seen, same_seen}
 use Rattle.bench_model.proofs.Ranks.{outranks-IsRank, wakes_first-IsRank}
 
@@ -145,6 +150,19 @@ module _ (a b : Table) (first : IsConsistent a) (second : IsConsistent b) (setti
       ext_get_or None (left a.orders) (left b.orders) (long_a ∙ tasks ∙ sym long_b)
       (λ i low. deadline_left_seen a.control a.orders i ∙ same i (omega (arith, long_a, low)) ∙ sym (deadline_left_seen b.control b.orders i))
 
+  -- each waiter is a task of its table
+  below_in : (table : Table) → IsConsistent table → AllByRecursion (λ (w : Waiter). w.task < table.settings.tasks) table.orders.waiters
+  below_in table sound = All-weaker (IsWaiter table.settings table.orders) (λ (w : Waiter). w.task < table.settings.tasks)
+      (λ w is. omega (arith, is.0, sound.sized.rows)) table.orders.waiters sound.mutexes.waits
+
+  waiters_same : ((i : ℕ) → i < a.settings.tasks → wait_of i a.orders.waiters ≡ wait_of i b.orders.waiters) → SameWaitOrder a.settings.tasks a.orders.waiters
+      b.orders.waiters → a.orders.waiters ≡ b.orders.waiters
+  waiters_same waits order =
+      let one = first.mutexes in
+      let other = second.mutexes in
+      same_waiters a.settings.tasks a.orders.waiters b.orders.waiters one.once other.once one.by_mutex other.by_mutex (below_in a first)
+      (subst (λ n. AllByRecursion (λ (w : Waiter). w.task < n) b.orders.waiters) (sym tasks) (below_in b second)) waits order
+
   lists_same : SamePairwise a b → lists_of a.control a.orders ≡ lists_of b.control b.orders
   unfolding lists_of
   lists_same alike =
@@ -153,7 +171,7 @@ module _ (a b : Table) (first : IsConsistent a) (second : IsConsistent b) (setti
       (ready_listed.0 ((ready_pairs agree).1 alike.ready_order))
       alike.ticks
       ((delayed_pairs agree).1 alike.delay_order)
-      alike.waiters
+      (waiters_same alike.waits alike.wait_order)
       (deadlines_same alike.deadlines)
 
 pub same_from_alike : (a b : Table) → IsConsistent a → IsConsistent b → SamePairwise a b → Same a b
@@ -177,7 +195,8 @@ alike_from_same a b first second same = record {
   ready_order = (ready_pairs a b first second settings control agree).0 ((ready_listed a b first second settings control).1
       (ap (λ (l : Lists). l.ready) lists));
   delay_order = (delayed_pairs a b first second settings control agree).0 (ap (λ (l : Lists). l.delayed) lists);
-  waiters = ap (λ (l : Lists). l.waiters) lists;
+  waits = (waits_from_same a.settings.tasks a.orders.waiters b.orders.waiters waiters).0;
+  wait_order = (waits_from_same a.settings.tasks a.orders.waiters b.orders.waiters waiters).1;
 }
   where
     settings : a.settings ≡ b.settings
@@ -188,6 +207,9 @@ alike_from_same a b first second same = record {
 
     lists : lists_of a.control a.orders ≡ lists_of b.control b.orders
     lists = ap (λ (v : View). v.orders) same
+
+    waiters : a.orders.waiters ≡ b.orders.waiters
+    waiters = ap (λ (l : Lists). l.waiters) lists
 
     agree : AgreeOnTasks a b first second settings control
     agree = record {

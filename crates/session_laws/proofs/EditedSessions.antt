@@ -18,10 +18,10 @@ use Rattle.bench_types.specs.declared.fault.Fault.TheVariants.{BadHeader}
 use Rattle.bench_types.specs.declared.header.Config.{Config}
 use Rattle.bench_types.specs.declared.header.Header.{Header}
 use Rattle.bench_types.specs.declared.header.TaskArgs.{TaskArgs}
-use Rattle.bench_types.proofs.Passes.{are_named, both_pass, checked_header, checked_task, flaw_checked, has_valid_args, header_from, IsWithinLimits}
+use Rattle.bench_types.proofs.Passes.{are_named, both_pass, checked_header, checked_queues, checked_task, flaw_checked, has_valid_args, header_from, IsWithinLimits}
 use Rattle.bench_types.proofs.Repeats.{is_taken, repeats_name}
 use Rattle.bench_types.specs.Edit.{edit_check, numbers_check, IsEditOfWords}
-use Rattle.bench_types.specs.Header.{header_check, has_valid_numbers, IsCheckedHeader}
+use Rattle.bench_types.specs.Header.{header_check, has_valid_numbers, queue_count, IsCheckedHeader}
 use Rattle.bench_types.specs.Name.{is_name}
 use Rattle.bench_types.specs.Session.{Session, IsSession}
 use Rattle.bench_types.specs.Step.{settings_of, task_check, IsCheckedStep, ◌>>◌}
@@ -148,7 +148,7 @@ changed_fits : (header : Header) (task priority mask : ℕ) → header_check hea
     (changed task priority mask header) ≡ Ok tt
 changed_fits header task priority mask fits numbers =
     let next = changed task priority mask header in
-    flaw_checked next (header_from next (changed_within header task priority mask (checked_header header fits) numbers))
+    flaw_checked next (header_from next (changed_within header task priority mask (checked_header header fits) numbers) (checked_queues header fits))
 
 changed_settings : (header : Header) (task priority mask : ℕ) → settings_of (changed task priority mask header) ≡ settings_of header
 changed_settings header task priority mask =
@@ -158,6 +158,7 @@ changed_settings header task priority mask =
       slicing = header.config.slicing;
       mutexes = header.config.mutexes;
       notes = header.config.notes;
+      queues = queue_count header;
       tasks = header.config.cores + users;
     }) (length-set header.tasks (task - header.config.cores) _)
 

@@ -52,10 +52,18 @@ two {x = x} {y = y} first second = Decides-and x y first second
 
 settings : Tells are_same_settings
 settings a b = Decides-like (are_same_settings a b)
-    (λ h i. record { cores = h.0.0.0.0.0 i; priorities = h.0.0.0.0.1 i; slicing = h.0.0.0.1 i; mutexes = h.0.0.1 i; notes = h.0.1 i; tasks = h.1 i })
-    (λ e. (((((λ i. (e i).cores, λ i. (e i).priorities), λ i. (e i).slicing), λ i. (e i).mutexes), λ i. (e i).notes), λ i. (e i).tasks))
-    (two (two (two (two (two (Decides-eqb a.cores b.cores) (Decides-eqb a.priorities b.priorities)) (bools a.slicing b.slicing))
-    (Decides-eqb a.mutexes b.mutexes)) (Decides-eqb a.notes b.notes)) (Decides-eqb a.tasks b.tasks))
+    (λ h i. record {
+      cores = h.0.0.0.0.0.0 i;
+      priorities = h.0.0.0.0.0.1 i;
+      slicing = h.0.0.0.0.1 i;
+      mutexes = h.0.0.0.1 i;
+      notes = h.0.0.1 i;
+      queues = h.0.1 i;
+      tasks = h.1 i;
+    })
+    (λ e. ((((((λ i. (e i).cores, λ i. (e i).priorities), λ i. (e i).slicing), λ i. (e i).mutexes), λ i. (e i).notes), λ i. (e i).queues), λ i. (e i).tasks))
+    (two (two (two (two (two (two (Decides-eqb a.cores b.cores) (Decides-eqb a.priorities b.priorities)) (bools a.slicing b.slicing))
+    (Decides-eqb a.mutexes b.mutexes)) (Decides-eqb a.notes b.notes)) (options (λ m n. nat_eq m n) Decides-eqb a.queues b.queues)) (Decides-eqb a.tasks b.tasks))
 
 looks : Tells are_same_looks
 looks a b = Decides-like (are_same_looks a b)

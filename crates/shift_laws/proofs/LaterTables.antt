@@ -144,6 +144,9 @@ mutexes_later by table mutexes = record {
   waits = All-weaker (IsWaiter table.settings table.orders) (IsWaiter table.settings (later_stamps by table.orders))
       (λ waiter is. (omega (arith, rows_later by table.orders, is.0), is_ready_later by table.orders waiter.task ∙ is.1, is.2)) table.orders.waiters
       mutexes.waits;
+  once = mutexes.once;
+  by_mutex = mutexes.by_mutex;
+  awaited = λ i low blocked. mutexes.awaited i (omega (arith, rows_later by table.orders, low)) (sym (is_ready_later by table.orders i) ∙ blocked);
   turns = turn_moved table.orders (later_stamps by table.orders) table.orders.waiters
       (All_each (λ (w : Waiter). stamp_of (later_stamps by table.orders) w.task ≡ stamp_of table.orders w.task) (λ w. stamp_later by table.orders w.task)
       table.orders.waiters) mutexes.turns;

@@ -1,13 +1,14 @@
 -- Kernels of which one looks as the other does at another tick count.
 use Rattle.std.specs.Prelude.{◌≡◌, ℕ, ◌<◌, List, take}
 use Rattle.bench_types.specs.declared.step.Step.{Step}
-use Rattle.bench_model.specs.Alike.{InOneReadyList, AreDelayedTogether, SameOrder}
+use Rattle.bench_model.specs.Alike.{InOneReadyList, AreDelayedTogether, SameOrder, SameWaitOrder}
 use Rattle.bench_model.specs.Lists.{view_of}
 use Rattle.bench_model.specs.Looks.{ticks_left}
 use Rattle.bench_model.specs.Session.{state_after, run_results}
 use Rattle.bench_model.specs.Shifted.{shifted}
 use Rattle.bench_model.specs.Table.{Table, is_ready, deadline_left}
 use Rattle.bench_model.specs.Tallied.{part_tallies}
+use Rattle.bench_model.specs.Waiters.{wait_of}
 
 -- the second kernel is equal to the first with a tick count so many ticks later
 abbrev pub IsShifted : ℕ → Table → Table → Type 0
@@ -39,8 +40,11 @@ pub record SamePairwiseShifted (a b : Table) : Type 0 where
   pub left : (i : ℕ) → i < a.settings.tasks → ticks_left i a.orders ≡ ticks_left i b.orders
   pub deadlines :
       (i : ℕ) → i < a.settings.tasks → deadline_left i a.orders ≡ deadline_left i b.orders
-  -- the same tasks wait for mutexes, with the same waiting priorities, in the same order
-  pub waiters : a.orders.waiters ≡ b.orders.waiters
+  -- each task waits for the same mutex in both, with the same waiting priority, or for none
+  pub waits :
+      (i : ℕ) → i < a.settings.tasks → wait_of i a.orders.waiters ≡ wait_of i b.orders.waiters
+  -- of two tasks that wait for one mutex the same one stands in front
+  pub wait_order : SameWaitOrder a.settings.tasks a.orders.waiters b.orders.waiters
   -- the order of each ready list, and of the tasks with one number of ticks left
   pub ready_order : SameOrder InOneReadyList a b
   pub delay_order : SameOrder AreDelayedTogether a b

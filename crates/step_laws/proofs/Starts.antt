@@ -1,6 +1,6 @@
 -- The start of a checked header is sound, and seen as lists it is the start over lists.
 use Rattle.order_laws.proofs.FirstBlocks.{first_tasks, first_blocks}
-use Rattle.std.proofs.Common.{◌≡◌, ℕ, ◌*◌, zero, suc, ◌+◌, ◌-◌, ◌<◌, ◌≤◌, true, false, cond, ltb, List, [], ◌∷◌, ◌++◌, length, map, replicate, Bool, Option}
+use Rattle.std.proofs.Common.{sym, ◌≡◌, ℕ, ◌*◌, zero, suc, ◌+◌, ◌-◌, ◌<◌, ◌≤◌, true, false, cond, ltb, List, [], ◌∷◌, ◌++◌, length, map, replicate, Bool, Option}
 use Rattle.std.proofs.Common.{Some, None, Ok, refl, ap, ◌∙◌, add-zero, arith, inl, inr}
 use Rattle.std.specs.Prelude.{slice_index_or}
 use Rattle.std.specs.List.{fold, range_with_len, AllByRecursion}
@@ -25,13 +25,14 @@ use Rattle.bench_model.specs.State.{call_at}
 use Rattle.bench_model.specs.Seek.{after_switch}
 use Rattle.bench_model.specs.Table.{Stamps, Table, stamp_queues, row_at, stamp_of, is_ready, stands_ready, wake_in, deadline_at}
 use Rattle.bench_model.specs.Lists.{list_queues, lists_of, delayed_of, outranks, wakes_first, view_of}
-use Rattle.bench_model.specs.Sound.{IsStamped, HasCurrentTasks, WakesInTime, HasWords, HasMutexes, IsConsistent, IsSound, IsWaiter}
+use Rattle.bench_model.specs.Sound.{IsStamped, HasCurrentTasks, WakesInTime, HasWords, HasMutexes, IsConsistent, IsSound, IsWaiter, mutex_taken}
 use Rattle.bench_model.specs.Start.{first_look, first_control, ready_row, first_stamps, first_lists, unstarted, started, start, start_seen}
 use Rattle.list_orders.proofs.Filters.{All-weaker}
 use Rattle.step_laws.proofs.Nears.{turned_hold}
 use Rattle.list_orders.proofs.Stamped.{numbers_below, by_stamp_listed, by_stamp_none, range_parts}
 use Rattle.order_laws.proofs.Restamps.{standing_so, waits}
-use Rattle.bench_model.specs.Turns.{AreInTurn}
+use Rattle.bench_model.specs.Turns.{AreByMutex, AreInTurn, WaitOnce}
+use Rattle.bench_model.specs.Waiters.{mutex_awaited}
 use Rattle.order_laws.proofs.SeenMoves.{same_seen, deadline_from}
 use Rattle.order_laws.proofs.SeenSteps.{same_state}
 use Rattle.rule_laws.proofs.Seeks.{after_switch_seen, after_switch_sound, after_switch_length}
@@ -206,10 +207,25 @@ module _ (header : Header) where
   unfolding first_stamps
   no_turns = tt
 
+  once_at_first : WaitOnce first.waiters
+  unfolding first_stamps
+  once_at_first = tt
+
+  by_mutex_at_first : AreByMutex first.waiters
+  unfolding first_stamps
+  by_mutex_at_first = tt
+
+  none_awaited : (i : ℕ) → mutex_awaited i first.waiters ≡ None
+  unfolding first_stamps
+  none_awaited i = refl
+
   first_mutexes : HasMutexes (settings_of header) (replicate (cores + users) None) (replicate header.config.mutexes None) first
   first_mutexes = record {
     held_by_tasks = λ mutex task held. absurd (cc (none_at {A = ℕ} header.config.mutexes mutex, held));
     waits = no_waiters;
+    once = once_at_first;
+    by_mutex = by_mutex_at_first;
+    awaited = λ i low blocked. none_awaited i ∙ sym (ap mutex_taken (none_at {A = Unfinished} (cores + users) i));
     turns = no_turns;
     deadlines = λ i deadline has. absurd (cc (first_deadline i, has));
   }

@@ -237,7 +237,7 @@ until_sound core task prev inc table sound place checked user = either (is_ahead
     either : (b : Bool) → is_ahead now prev wake ≡ b → IsConsistent (cond {A = Reply × Table} b
         (Until true wake, blocked stamp_queues core task call (Some (ticks_to now wake)) None table) (Until false wake, yielded stamp_queues core table)).1
     either true ahead = blocked_sound core task call (Some (ticks_to now wake)) None table sound place checked user
-        (some_ticks_to now prev wake (omega arith) (omega arith) ahead, few_ticks_to now wake) tt (λ none. absurd (cc (none)))
+        (some_ticks_to now prev wake (omega arith) (omega arith) ahead, few_ticks_to now wake) tt (refl, λ none. absurd (cc (none)))
     either false later = yielded_sound core table sound place.0
 
 opened_sound : (core : ℕ) (table : Table) → IsConsistent table → IsConsistent (hold_opened core table)
@@ -258,7 +258,7 @@ called_sound core task (Delay ticks) table sound place checked user = either (eq
         (Blocked, blocked stamp_queues core task (Made (blocking.Delay ticks)) (Some ticks) None table)).1
     either true none = yielded_sound core table sound place.0
     either false some = blocked_sound core task (Made (blocking.Delay ticks)) (Some ticks) None table sound place checked user
-        (grind (arith, nat_tests, some), checked.words) tt (λ none. absurd (cc (none)))
+        (grind (arith, nat_tests, some), checked.words) tt (refl, λ none. absurd (cc (none)))
 called_sound core task (DelayUntil prev inc) table sound place checked user = until_sound core task prev inc table sound place checked user
 called_sound core task Finish table sound place checked user = from (call_at table.calls task) refl
   where

@@ -1,6 +1,6 @@
 -- The laws between the definitions. Each is the contract of a public function.
 use Rattle.bench_model.specs.Lists.{seen_of}
-use Rattle.std.specs.Prelude.{◌≡◌, ℕ, ◌<◌, ◌≤◌, List, length, slice_set, true, false, Option, Some, is_some, IsSome, IfSome, Ok}
+use Rattle.std.specs.Prelude.{◌≡◌, ℕ, ◌<◌, ◌≤◌, List, length, slice_set, true, false, Option, IsSome, IfSome, Ok}
 use Rattle.std.specs.List.{AllByRecursion}
 use Rattle.bench_types.specs.declared.header.Header.{Header}
 use Rattle.bench_types.specs.declared.kernel_data.MutexWait.{MutexWait}
@@ -15,7 +15,7 @@ use Rattle.bench_model.specs.Table.{Stamps, Table, stamp_queues, is_ready, pick,
 use Rattle.bench_model.specs.Lists as seen
 use Rattle.bench_model.specs.Lists.{list_queues, lists_of, view_of}
 use Rattle.bench_model.specs.Looks.{task_look, look_in}
-use Rattle.bench_model.specs.Sound.{IsStamped, IsWait, IsMutexWait, IsMutexTime, WakesInTime, IsCaller, IsConsistent, IsSound, takes_mutex}
+use Rattle.bench_model.specs.Sound.{IsStamped, IsWait, IsMutexWait, WakesInTime, IsCaller, IsConsistent, IsSound, IsWaitOf}
 use Rattle.bench_model.specs.Start.{start, start_seen}
 use Rattle.bench_model.specs.Session.{step_of}
 use Rattle.bench_model.specs.Equal.{Same}
@@ -135,5 +135,5 @@ BlockKeepsConsistent =
     → IsConsistent table → IsCaller table core task →
     IsCheckedUnfinished table.settings call → table.settings.cores ≤ task → IsWait ticks
     → IfSome wait (IsMutexWait table.settings) →
-    (is_some wait ≡ true → (takes_mutex (Some call) ≡ true) × IsMutexTime ticks)
+    IsWaitOf call ticks wait
     → IsConsistent (blocked stamp_queues core task call ticks wait table)

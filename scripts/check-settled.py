@@ -33,7 +33,8 @@ TARGETED = (
 def header(rng):
     """A session without steps."""
     cores, priorities = rng.choice((2, 2, 3, 4, 8)), rng.randint(1, 6)
-    several = rng.choice(({}, {}, {"notes": 3}))
+    queues = [{"length": 2, "messages": 1}]
+    form, several = rng.choice(((1, {}), (2, {"notes": 3}), (3, {"notes": 1, "queues": queues})))
     tasks = [
         {
             "name": f"t{number}",
@@ -43,7 +44,7 @@ def header(rng):
         for number in range(rng.randint(1, 9))
     ]
     return {
-        "format": 2 if several else 1,
+        "format": form,
         "cores": cores,
         "priorities": priorities,
         "slicing": rng.random() < 0.5,
@@ -137,7 +138,7 @@ def wanted(text):
     left = Counter(call["by"] for call in waiting)
     names = [task["name"] for task in session["tasks"]]
     told = [f"{task} {left[task]}" for task in names if left[task]]
-    steps = [settle.written(made, session.get("notes", 1)) for made in run]
+    steps = [settle.written(made, settle.has_index(session)) for made in run]
     return steps, refused + (f"not made: {', '.join(told)}\n" if told else "")
 
 

@@ -13,7 +13,7 @@ from referencing import Registry, Resource
 
 SEED = 38
 ACCEPTED = {"session": 400, "bench": 400, "rig": 200}
-WRONG = {"session": 240, "bench": 90, "rig": 140}
+WRONG = {"session": 240, "bench": 90, "rig": 150}
 UNTELLABLE = {"session": 15, "bench": 15}
 NUMBERS = [0, 0, 1, 2, 3, 5, 7, 31, 4294967294, 4294967295]
 # The members of a step after `core` and `by`, or after `core` for an interrupt.
@@ -25,7 +25,7 @@ STEPS = {
     "value_clear": ["to", "bits"], "mutex_take": ["mutex", "ticks"], "mutex_give": ["mutex"],
     "finish": [], "hold_open": [], "hold_close": [],
 }
-# The steps that are for a notification: in format 2 they may have its index.
+# The steps that are for a notification: in formats 2 and 3 they may have its index.
 INDEXED = ("isr_notify", "notify", "notify_wait", "notify_take", "state_clear", "value_clear")
 ACTIONS = {"none": False, "set_bits": True, "increment": False, "set": True, "set_new": True}
 EDITS = ("insert", "remove", "replace", "change")
@@ -40,12 +40,25 @@ def mask(rng, cores):
     return rng.choice([1, 3, 4294967295, 1 << rng.randrange(cores)])
 
 
+def queue(rng):
+    length = rng.choice([1, 2, 5, 4294967295])
+    return {"length": length, "messages": rng.choice([0, 1, length])}
+
+
+def form(rng):
+    notes = rng.choice([None, 1, 2, 8])
+    if not notes:
+        return {"format": 1}
+    if rng.random() < 0.5:
+        return {"format": 2, "notes": notes}
+    return {"format": 3, "notes": notes, "queues": [queue(rng) for _ in range(rng.choice([0, 1, 2, 32]))]}
+
+
 def header(rng):
     cores, priorities = rng.randint(2, 32), rng.randint(1, 32)
     names = rng.sample(NAMES, rng.randint(1, 6))
-    notes = rng.choice([None, 1, 2, 8])
     return {
-        **({"format": 2, "notes": notes} if notes else {"format": 1}), "cores": cores, "priorities": priorities, "slicing": rng.random() < 0.5,
+        **form(rng), "cores": cores, "priorities": priorities, "slicing": rng.random() < 0.5,
         "tick": rng.choice(NUMBERS), "mutexes": rng.choice([0, 1, 2, 32]),
         "tasks": [{"name": name, "priority": rng.randrange(priorities), "mask": mask(rng, cores)}
                   for name in names],
@@ -76,7 +89,7 @@ def action(rng, head, kinds):
         step[name] = member(rng, name, head)
     if ACTIONS.get(step.get("action")):
         step["value"] = rng.choice(NUMBERS)
-    if head["format"] == 2 and do in INDEXED and rng.random() < 0.7:
+    if head["format"] != 1 and do in INDEXED and rng.random() < 0.7:
         step["index"] = rng.randrange(head["notes"])
     return step
 
@@ -219,12 +232,15 @@ def faults_of_parts(rng, kind):
 
 
 def faults_of_format(rng, kind):
-    """Documents of format 1 with a member that only format 2 has."""
+    """Documents of format 1 with a member that only later formats have, and of format 2 with one that only format 3 has."""
     head = {**header(rng), "mutexes": 2, "format": 1}
     head.pop("notes", None)
+    head.pop("queues", None)
     pieces, whole = parts_of(rng, kind, head)
     noted = {**head, "notes": 1, "steps": []}
     yield noted if kind == "session" else {**whole(pieces[0]), "session": noted}
+    queued = {**noted, "format": 2, "queues": []}
+    yield queued if kind == "session" else {**whole(pieces[0]), "session": queued}
     name = head["tasks"][0]["name"]
     for piece in pieces:
         if piece.get("do") in INDEXED:

@@ -228,8 +228,8 @@ session '"core": 0' '"core": 4294967296'
 run 'a number that is too great' 1 $'refused H2 steps[0].core\n' 'steps[0].core: expected a whole number from 0 to 4294967295, found a greater one (line 14, column 29)' replay
 session '"steps": [' '"notes": 1, "steps": ['
 run 'an unknown member' 1 $'refused H2 top\n' 'top: there is no member "notes"; the nearest is "cores"; these may stand here: format, cores, priorities' replay
-session '"format": 1' '"format": 3'
-run 'another format' 1 $'refused H2 format\n' 'format: expected 1 or 2 (line 2, column 13)' replay
+session '"format": 1' '"format": 4'
+run 'another format' 1 $'refused H2 format\n' 'format: expected 1, 2 or 3 (line 2, column 13)' replay
 sed 's/"edit": "replace"/"edit": "add"/' examples/another-call.json >"$folder/in"
 run 'an unknown word' 1 $'refused H2 edits[0].edit\n' 'edits[0].edit: "add" is no word that stands here; the nearest is "change"; these are: insert, remove, replace, change (line 23, column 14)' replay
 head -c 268435456 /dev/zero | tr '\0' ' ' >"$folder/in"

@@ -666,10 +666,15 @@ def edited_session(document):
     return edited(document)[0]
 
 
-def written(step, notes):
-    """A step as the bench writes it: an index is there where a task has several notifications."""
+def has_index(session):
+    """The bench writes the index of a notification where a task has several, and in format 3."""
+    return session["format"] == 3 or session.get("notes", 1) > 1
+
+
+def written(step, indexed):
+    """A step as the bench writes it, with the index of a notification or without."""
     step = {member: value for member, value in step.items() if member != "index"} | (
-        {"index": step.get("index", 0)} if notes > 1 and step["do"] in OF_NOTES else {}
+        {"index": step.get("index", 0)} if indexed and step["do"] in OF_NOTES else {}
     )
     return dict(sorted(step.items()))
 
@@ -683,12 +688,12 @@ def main():
     """Settle the session on standard input."""
     session = edited_session(json.loads(sys.stdin.buffer.read()))
     run, waiting = settle(session)
-    notes = session.get("notes", 1)
+    indexed = has_index(session)
     for step in run:
-        sys.stdout.write(line(written(step, notes)))
+        sys.stdout.write(line(written(step, indexed)))
     for call in waiting:
         left = {member: value for member, value in call.items() if member != "core"}
-        sys.stdout.write(line({"left": written(left, notes)}))
+        sys.stdout.write(line({"left": written(left, indexed)}))
 
 
 if __name__ == "__main__":

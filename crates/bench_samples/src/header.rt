@@ -1,5 +1,5 @@
 //! Headers for tests.
-ghost use Rattle.std.specs.Prelude.{◌≡◌, ◌++◌, ◌∷◌, [], map, replicate, not, true, false, IfOk, OnOk};
+ghost use Rattle.std.specs.Prelude.{◌≡◌, ◌++◌, ◌∷◌, [], map, replicate, not, true, false, None, IfOk, OnOk};
 ghost use Rattle.std.specs.List.{list_any};
 ghost use Rattle.bench_types.specs.Name.{is_name};
 ghost use Rattle.bench_samples.specs.Rows.{numbered};
@@ -19,6 +19,7 @@ pub fn header_of(
         (λ header. header
         ≡ record {
           config = config;
+          queues = None;
           tasks
               = map
               (λ task. record { name = task.0.now; priority = task.1; mask = task.2 }) tasks.now;
@@ -31,7 +32,11 @@ pub fn header_of(
         push_task(&mut all, name, *priority, *mask)?;
     }
     let tasks = Items::new(all);
-    Ok(Header { config, tasks })
+    Ok(Header {
+        config,
+        queues: None,
+        tasks,
+    })
 }
 
 /// A header of tasks that are given by priority and mask, and are named T0, T1 and so on. It is not
@@ -42,7 +47,8 @@ pub fn numbered_header(
     tasks: &[(u32, u32)],
 ) -> Result<Header, SampleFault>
     ensures { IfOk result
-        (λ header. header ≡ record { config = config; tasks = numbered 0 tasks.now }) }
+        (λ header. header
+        ≡ record { config = config; queues = None; tasks = numbered 0 tasks.now }) }
 {
     let mut all = Vec::with_capacity(alloc, tasks.len())?;
     for (number, (priority, mask)) in tasks.iter().enumerate() {
@@ -50,7 +56,11 @@ pub fn numbered_header(
         push_task(&mut all, name.as_str(), *priority, *mask)?;
     }
     let tasks = Items::new(all);
-    Ok(Header { config, tasks })
+    Ok(Header {
+        config,
+        queues: None,
+        tasks,
+    })
 }
 
 fn push_task(
@@ -79,7 +89,11 @@ fn push_task(
 pub fn crowd(alloc: Global, config: Config, tasks: usize) -> Result<Header, SampleFault>
     ensures { IfOk result
         (λ header. header
-        ≡ record { config = config; tasks = numbered 0 (replicate tasks (1, 3)) }) }
+        ≡ record {
+          config = config;
+          queues = None;
+          tasks = numbered 0 (replicate tasks (1, 3));
+        }) }
 {
     let tasks = vec![in alloc; (1, 3); tasks]?;
     numbered_header(alloc, config, &tasks)

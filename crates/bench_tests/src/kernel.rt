@@ -39,6 +39,7 @@ fn check_start(rt: &impl Abort, kernel: &Kernel) {
         slicing: true,
         mutexes: 0,
         notes: 1,
+        queues: None,
         tasks: 5,
     };
     assert_same(rt, "settings", &kernel.settings(), &settings);

@@ -178,11 +178,16 @@ fn refused(alloc: Global, case: &Case<'_>, meter: &mut Meter) -> Result<OpenFaul
 }
 
 fn first_tasks(header: Header, count: usize) -> Header {
-    let Header { config, tasks } = header;
+    let Header {
+        config,
+        queues,
+        tasks,
+    } = header;
     let mut tasks = tasks.into_vec();
     tasks.truncate(count);
     Header {
         config,
+        queues,
         tasks: Items::new(tasks),
     }
 }

@@ -1,8 +1,8 @@
 -- What checks that passed say.
 use Rattle.std.proofs.Common.{◌≡◌, ℕ, zero, ◌^◌, sym, ◌<◌, ◌≤◌, ◌==◌, Bool, true, false, not, ◌&&◌, cond, ltb, leb, List, [], ◌∷◌, length, Option, Some, None}
-use Rattle.std.proofs.Common.{Result, Ok, Err, refl, ap, arith}
-use Rattle.std.specs.Prelude.{All, IfNone, is_none, option_map}
-use Rattle.std.specs.List.{list_all}
+use Rattle.std.proofs.Common.{Result, Ok, Err, refl, ap, subst, arith}
+use Rattle.std.specs.Prelude.{All, IfNone, is_none, option_map, unwrap_or}
+use Rattle.std.specs.List.{list_all, AllByRecursion}
 use Rattle.std.specs.Option.{option_or}
 use Rattle.std.proofs.lemmas.Bool.{and_parts}
 use Rattle.std.proofs.lemmas.List.Sums.{AllPass-from_list_all}
@@ -10,16 +10,17 @@ use Rattle.std.proofs.lemmas.Bool.Decides.{nat_tests}
 use Rattle.bench_types.specs.declared.fault.Fault.{Fault}
 use Rattle.bench_types.specs.declared.fault.Fault.TheVariants.{BadHeader}
 use Rattle.bench_types.specs.declared.flaw.HeaderFlaw.{HeaderFlaw}
-use Rattle.bench_types.specs.declared.flaw.HeaderFlaw.TheVariants.{Cores, Priorities, Mutexes, Notes, TaskCount, NoName, Priority, Mask, SharedName}
+use Rattle.bench_types.specs.declared.flaw.HeaderFlaw.TheVariants.{Cores, Priorities, Mutexes, Notes, Queues, QueueLength, QueueMessages, TaskCount, NoName, Priority, Mask, SharedName}
 use Rattle.bench_types.specs.declared.header.Config.{Config}
 use Rattle.bench_types.specs.declared.header.Header.{Header}
+use Rattle.bench_types.specs.declared.header.QueueArgs.{QueueArgs}
 use Rattle.bench_types.specs.declared.header.TaskArgs.{TaskArgs}
 use Rattle.bench_types.specs.declared.kernel_data.Settings.{Settings}
 use Rattle.bench_types.specs.declared.note.Note.{Note}
-use Rattle.bench_types.specs.Flaw.{args_flaw, config_flaw, count_of_name, header_flaw, limits_flaw, mask_flaw, name_flaw, numbers_flaw, location_of_mask}
+use Rattle.bench_types.specs.Flaw.{args_flaw, config_flaw, count_of_name, header_flaw, length_flaw, limits_flaw, location_of_length, location_of_messages, mask_flaw, messages_flaw, name_flaw, numbers_flaw, queue_list_flaw, queues_flaw, location_of_mask}
 use Rattle.bench_types.specs.Flaw.{location_of_no_name, location_of_priority, location_of_shared_name, priority_flaw, shared_flaw}
 use Rattle.bench_types.specs.Header.{header_check, is_header, has_valid_numbers, IsCheckedHeader}
-use Rattle.bench_types.specs.Limits.{min_cores, max_cores, max_priorities, max_tasks, max_mutexes, max_notes}
+use Rattle.bench_types.specs.Limits.{min_cores, max_cores, max_priorities, max_tasks, max_messages, max_mutexes, max_notes, max_queues}
 use Rattle.bench_types.specs.Mask.{cores_of_mask}
 use Rattle.bench_types.specs.Name.{is_name, is_within}
 use Rattle.bench_types.specs.Step.{core_check, index_check, note_check, task_check, mutex_check, ◌>>◌}
@@ -179,9 +180,10 @@ no_flaw_facts header none =
     let names = name_flaw tasks in
     let low = priority_flaw config.priorities tasks in
     let masks = mask_flaw config.cores tasks in
-    let whole = neither (numbers_flaw config (length tasks)) (args_flaw config tasks) none in
-    let numbers = neither (config_flaw config) count whole.0 in
-    let three = neither (option_or (option_or cores priorities) mutexes) notes numbers.0 in
+    let whole = neither (numbers_flaw config header.queues (length tasks)) (args_flaw config tasks) none in
+    let numbers = neither (option_or (config_flaw config) (queues_flaw header.queues)) count whole.0 in
+    let settings = neither (config_flaw config) (queues_flaw header.queues) numbers.0 in
+    let three = neither (option_or (option_or cores priorities) mutexes) notes settings.0 in
     let two = neither (option_or cores priorities) mutexes three.0 in
     let one = neither cores priorities two.0 in
     let in_cores = within min_cores max_cores config.cores (Cores config.cores) one.0 in
@@ -214,10 +216,10 @@ no_flaw_facts header none =
 pub header_facts : (header : Header) → is_header header ≡ true → IsWithinLimits header
 header_facts header is = no_flaw_facts header (flawless header is)
 
--- a header within its limits has no flaw
-pub header_from : (header : Header) → IsWithinLimits header → header_flaw header ≡ None
+-- a header within its limits, whose queues have no flaw, has none
+pub header_from : (header : Header) → IsWithinLimits header → queues_flaw header.queues ≡ None → header_flaw header ≡ None
 unfolding header_flaw
-header_from header limits =
+header_from header limits flawless =
     let config = header.config in
     let tasks = header.tasks in
     let args = valid_all config tasks limits.args in
@@ -226,6 +228,7 @@ header_from header limits =
       no_limits_flaw 1 max_priorities config.priorities (Priorities config.priorities) (omega (arith, limits.some_priority)) limits.few_priorities,
       no_limits_flaw 0 max_mutexes config.mutexes (Mutexes config.mutexes) (omega arith) limits.few_mutexes,
       no_limits_flaw 1 max_notes config.notes (Notes config.notes) (omega (arith, limits.some_note)) limits.few_notes,
+      flawless,
       no_limits_flaw 1 max_tasks (length tasks) (TaskCount (length tasks)) (omega (arith, limits.some_task)) limits.few_tasks,
       none_found (λ task. not (is_name task.name)) tasks (named_all tasks limits.named),
       none_found (no_priority config) tasks args.0,
@@ -247,21 +250,91 @@ checked_flaw header passes = flawless header (passes_whole header passes)
 pub flaw_checked : (header : Header) → header_flaw header ≡ None → header_check header ≡ Ok tt
 flaw_checked header none = ap (λ (flaw : Option HeaderFlaw). cond (is_none flaw) (Ok tt) (Err BadHeader)) none
 
+-- the queues of a header without a flaw have none
+flawless_queues : (header : Header) → header_flaw header ≡ None → queues_flaw header.queues ≡ None
+unfolding header_flaw
+flawless_queues header none =
+    let config = header.config in
+    let count = length header.tasks in
+    let whole = neither (numbers_flaw config header.queues count) (args_flaw config header.tasks) none in
+    let numbers = neither (option_or (config_flaw config) (queues_flaw header.queues)) (limits_flaw 1 max_tasks count (TaskCount count)) whole.0 in
+    (neither (config_flaw config) (queues_flaw header.queues) numbers.0).1
+
+-- nor have those of a header that passes its check
+pub checked_queues : (header : Header) → header_check header ≡ Ok tt → queues_flaw header.queues ≡ None
+checked_queues header passes = flawless_queues header (checked_flaw header passes)
+
+-- there are not too many queues
+few_in : (queues : List QueueArgs) → queue_list_flaw queues ≡ None → length queues ≤ max_queues
+few_in queues none =
+    let count = limits_flaw 0 max_queues (length queues) (Queues (length queues)) in
+    let two = neither (option_or count (length_flaw queues)) (messages_flaw queues) none in
+    (within 0 max_queues (length queues) (Queues (length queues)) (neither count (length_flaw queues) two.0).0).1
+
+few_at : (queues : Option (List QueueArgs)) (some : List QueueArgs) → queues ≡ Some some → queues_flaw queues ≡ None → length some ≤ max_queues
+few_at None some is none = absurd (cc is)
+few_at (Some queues) some is none = let same : queues ≡ some = cc is in subst (λ list. length list ≤ max_queues) same (few_in queues none)
+
+-- the queues of a header that was checked are not too many
+pub few_queues : (header : Header) (queues : List QueueArgs) → header_check header ≡ Ok tt → header.queues ≡ Some queues → length queues ≤ max_queues
+few_queues header queues passes is = few_at header.queues queues is (checked_queues header passes)
+
+-- both numbers of a queue have 32 bits
+pub record IsQueueOfWords (queue : QueueArgs) : Type 0 where
+  pub most : queue.length < 2 ^ 32
+  pub messages : queue.messages < 2 ^ 32
+
+abbrev has_no_length : QueueArgs → Bool
+has_no_length queue = not (is_within 1 max_messages queue.length)
+
+abbrev has_too_many : QueueArgs → Bool
+has_too_many queue = ltb queue.length queue.messages
+
+queue_of_words : (queue : QueueArgs) → not (has_no_length queue) ≡ true → not (has_too_many queue) ≡ true → IsQueueOfWords queue
+queue_of_words queue some few = at (is_within 1 max_messages queue.length) refl some
+  where
+    at : (b : Bool) → is_within 1 max_messages queue.length ≡ b → not (not b) ≡ true → IsQueueOfWords queue
+    at false is never = absurd (cc never)
+    at true is some =
+        let most : queue.length ≤ max_messages = grind (arith, nat_tests, is) in
+        let messages : queue.messages ≤ queue.length = grind (arith, nat_tests, few) in
+        record { most = omega arith; messages = omega arith }
+
+words_in : (queues : List QueueArgs) → passes_none has_no_length queues ≡ true → passes_none has_too_many queues ≡ true → AllByRecursion IsQueueOfWords queues
+words_in [] lengths messages = tt
+words_in (queue ∷ queues) lengths messages =
+    let one = and_parts (not (has_no_length queue)) (passes_none has_no_length queues) lengths in
+    let other = and_parts (not (has_too_many queue)) (passes_none has_too_many queues) messages in
+    (queue_of_words queue one.0 other.0, words_in queues one.1 other.1)
+
+words_at : (queues : Option (List QueueArgs)) → queues_flaw queues ≡ None → AllByRecursion IsQueueOfWords (unwrap_or queues [])
+words_at None none = tt
+words_at (Some queues) none =
+    let count = limits_flaw 0 max_queues (length queues) (Queues (length queues)) in
+    let two = neither (option_or count (length_flaw queues)) (messages_flaw queues) none in
+    let one = neither count (length_flaw queues) two.0 in
+    words_in queues (none_there has_no_length queues (unmapped QueueLength (location_of_length queues) one.1))
+    (none_there has_too_many queues (unmapped QueueMessages (location_of_messages queues) two.1))
+
+-- the numbers of the queues of a header that passes its check have 32 bits
+pub queue_words : (header : Header) → header_check header ≡ Ok tt → AllByRecursion IsQueueOfWords (unwrap_or header.queues [])
+queue_words header passes = words_at header.queues (checked_queues header passes)
+
 pub checked_header : (header : Header) → header_check header ≡ Ok tt → IsWithinLimits header
 checked_header header passes = header_facts header (passes_whole header passes)
 
 -- the first flaw of a header is that of its numbers, or else that of its tasks, or of their names
 -- before the rest
-pub numbers_decide : (header : Header) (flaw : HeaderFlaw) → numbers_flaw header.config (length header.tasks) ≡ Some flaw → header_flaw header ≡ Some flaw
+pub numbers_decide : (header : Header) (flaw : HeaderFlaw) → numbers_flaw header.config header.queues (length header.tasks) ≡ Some flaw → header_flaw header ≡ Some flaw
 unfolding header_flaw
 numbers_decide header flaw some = rw some refl
 
-pub names_decide : (header : Header) (place : ℕ) → numbers_flaw header.config (length header.tasks) ≡ None → location_of_no_name header.tasks ≡ Some place →
+pub names_decide : (header : Header) (place : ℕ) → numbers_flaw header.config header.queues (length header.tasks) ≡ None → location_of_no_name header.tasks ≡ Some place →
     header_flaw header ≡ Some (NoName place)
 unfolding header_flaw
 names_decide header place none some = rw (none, some) refl
 
-pub tasks_decide : (header : Header) → numbers_flaw header.config (length header.tasks) ≡ None → header_flaw header ≡ args_flaw header.config header.tasks
+pub tasks_decide : (header : Header) → numbers_flaw header.config header.queues (length header.tasks) ≡ None → header_flaw header ≡ args_flaw header.config header.tasks
 unfolding header_flaw
 tasks_decide header none = rw none refl
 

@@ -1,15 +1,17 @@
--- For what a header is not accepted: the first of these things, the numbers of its settings, how
--- many user tasks there are, then their names, priorities and masks, and names that come twice.
+-- For what a header is not accepted: the first of these things, the numbers of its settings, its
+-- queues, how many user tasks there are, then their names, priorities and masks, and names that
+-- come twice.
 -- The limits are those of `configNUMBER_OF_CORES`, `configMAX_PRIORITIES` and the arguments of
 -- `xTaskCreateAffinitySet` (FreeRTOS SMP documentation).
 use Rattle.std.specs.Prelude.{ℕ, ◌==◌, List, length, count_by, position, bytes_eq, not, nat_lt, nat_le, Option, Some, None, option_map, if◌then◌else◌}
 use Rattle.std.specs.Option.{option_or}
 use Rattle.bench_types.specs.declared.flaw.HeaderFlaw.{HeaderFlaw}
-use Rattle.bench_types.specs.declared.flaw.HeaderFlaw.TheVariants.{Cores, Priorities, Mutexes, Notes, TaskCount, NoName, Priority, Mask, SharedName}
+use Rattle.bench_types.specs.declared.flaw.HeaderFlaw.TheVariants.{Cores, Priorities, Mutexes, Notes, Queues, QueueLength, QueueMessages, TaskCount, NoName, Priority, Mask, SharedName}
 use Rattle.bench_types.specs.declared.header.Config.{Config}
 use Rattle.bench_types.specs.declared.header.Header.{Header}
+use Rattle.bench_types.specs.declared.header.QueueArgs.{QueueArgs}
 use Rattle.bench_types.specs.declared.header.TaskArgs.{TaskArgs}
-use Rattle.bench_types.specs.Limits.{min_cores, max_cores, max_priorities, max_tasks, max_mutexes, max_notes}
+use Rattle.bench_types.specs.Limits.{min_cores, max_cores, max_priorities, max_tasks, max_messages, max_mutexes, max_notes, max_queues}
 use Rattle.bench_types.specs.Mask.{cores_of_mask}
 use Rattle.bench_types.specs.Name.{is_name, is_within}
 
@@ -26,10 +28,38 @@ config_flaw config =
     (limits_flaw 0 max_mutexes config.mutexes (Mutexes config.mutexes)))
     (limits_flaw 1 max_notes config.notes (Notes config.notes))
 
--- the first flaw of the settings and of the number of user tasks
-abbrev pub numbers_flaw : Config → ℕ → Option HeaderFlaw
-numbers_flaw config count =
-    option_or (config_flaw config) (limits_flaw 1 max_tasks count (TaskCount count))
+-- the place of the first queue of length 0 (FreeRTOS Reference Manual, xQueueCreate)
+abbrev pub location_of_length : List QueueArgs → Option ℕ
+location_of_length queues = position (λ queue. not (is_within 1 max_messages queue.length)) queues
+
+-- of the first queue with more messages than its length (FreeRTOS Reference Manual,
+-- xSemaphoreCreateCounting)
+abbrev pub location_of_messages : List QueueArgs → Option ℕ
+location_of_messages queues = position (λ queue. nat_lt queue.length queue.messages) queues
+
+abbrev pub length_flaw : List QueueArgs → Option HeaderFlaw
+length_flaw queues = option_map QueueLength (location_of_length queues)
+
+abbrev pub messages_flaw : List QueueArgs → Option HeaderFlaw
+messages_flaw queues = option_map QueueMessages (location_of_messages queues)
+
+-- the first flaw of queues: how many there are, then their lengths, then their messages
+abbrev pub queue_list_flaw : List QueueArgs → Option HeaderFlaw
+queue_list_flaw queues =
+    option_or
+    (option_or (limits_flaw 0 max_queues (length queues) (Queues (length queues)))
+    (length_flaw queues)) (messages_flaw queues)
+
+-- of the queues of a session that says which there are
+abbrev pub queues_flaw : Option (List QueueArgs) → Option HeaderFlaw
+queues_flaw None = None
+queues_flaw (Some queues) = queue_list_flaw queues
+
+-- the first flaw of the settings, of the queues and of the number of user tasks
+abbrev pub numbers_flaw : Config → Option (List QueueArgs) → ℕ → Option HeaderFlaw
+numbers_flaw config queues count =
+    option_or (option_or (config_flaw config) (queues_flaw queues))
+    (limits_flaw 1 max_tasks count (TaskCount count))
 
 -- the place of the first task whose name is none
 abbrev pub location_of_no_name : List TaskArgs → Option ℕ
@@ -74,5 +104,5 @@ args_flaw config tasks =
 -- the first flaw of a header
 unfoldable pub header_flaw : Header → Option HeaderFlaw
 header_flaw header =
-    option_or (numbers_flaw header.config (length header.tasks))
+    option_or (numbers_flaw header.config header.queues (length header.tasks))
     (args_flaw header.config header.tasks)

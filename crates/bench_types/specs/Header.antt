@@ -1,5 +1,5 @@
 -- Which headers a session may start from, and the names of its tasks.
-use Rattle.std.specs.Prelude.{◌≡◌, ℕ, ◌-◌, ◌<◌, ◌^◌, All, IsTrue, List, [], ◌++◌, Bool, ◌&&◌, nat_lt, is_none, codes, decimal, slice_index_or, Result, Ok, Err}
+use Rattle.std.specs.Prelude.{◌≡◌, ℕ, ◌-◌, ◌<◌, ◌^◌, All, IsTrue, List, [], ◌++◌, Bool, ◌&&◌, nat_lt, is_none, codes, decimal, length, Option, option_map, slice_index_or, Result, Ok, Err}
 use Rattle.std.specs.Prelude.{if◌then◌else◌, ⊤}
 use Rattle.bench_types.specs.Flaw.{header_flaw}
 pub use Rattle.bench_types.specs.Mask.{cores_of_mask}
@@ -28,6 +28,10 @@ pub record IsCheckedHeader (header : Header) : Type 0 where
   pub tick : header.config.tick < 2 ^ 32
   pub names : All (λ task. IsTrue (is_name task.name)) header.tasks
   pub masks : All (λ task. task.mask < 2 ^ 32) header.tasks
+
+-- how many queues there are, in a session that says which there are
+abbrev pub queue_count : Header → Option ℕ
+queue_count header = option_map length header.queues
 
 -- the idle task of core c is IDLEc; a user task has its name in the header
 abbrev pub name_of : Header → ℕ → List ℕ

@@ -19,6 +19,14 @@ max_tasks = 512
 abbrev pub max_mutexes : ℕ
 max_mutexes = 32
 
+-- the queues and semaphores
+abbrev pub max_queues : ℕ
+max_queues = 32
+
+-- the messages that a queue holds (FreeRTOS Reference Manual, UBaseType_t)
+abbrev pub max_messages : ℕ
+max_messages = 4294967295
+
 -- the notifications of a task (FreeRTOS Reference Manual, configTASK_NOTIFICATION_ARRAY_ENTRIES)
 abbrev pub max_notes : ℕ
 max_notes = 8

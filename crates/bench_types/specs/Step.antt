@@ -2,7 +2,7 @@
 use Rattle.std.specs.Prelude.{◌≡◌, ℕ, ◌+◌, ◌^◌, ◌<◌, ◌==◌, length, nat_lt, nat_le, ◌&&◌, Result, Ok, Err, if◌then◌else◌, ⊤}
 use Rattle.bench_types.specs.declared.fault.Fault.{Fault}
 use Rattle.bench_types.specs.declared.fault.Fault.TheVariants.{BadCore, BadTask, BadMutex, BadArgument}
-use Rattle.bench_types.specs.Header.{cores_of_mask}
+use Rattle.bench_types.specs.Header.{cores_of_mask, queue_count}
 use Rattle.bench_types.specs.declared.header.Header.{Header}
 use Rattle.bench_types.specs.declared.kernel_data.Settings.{Settings}
 use Rattle.bench_types.specs.declared.note.NotifyAction.{NotifyAction}
@@ -32,6 +32,7 @@ settings_of header = record {
   slicing = header.config.slicing;
   mutexes = header.config.mutexes;
   notes = header.config.notes;
+  queues = queue_count header;
   tasks = header.config.cores + length header.tasks;
 }
 

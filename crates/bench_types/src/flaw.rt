@@ -1,16 +1,18 @@
 //! For what a header is not accepted.
 ghost use Rattle.std.specs.Prelude.{◌≡◌, ◌==◌, ◌<◌, ◌^◌, nat_lt, All, IfNone};
-ghost use Rattle.bench_types.specs.Flaw.{args_flaw, config_flaw, count_of_name, limits_flaw, mask_flaw, name_flaw, numbers_flaw, location_of_mask, location_of_no_name, location_of_priority, location_of_shared_name, priority_flaw, shared_flaw};
+ghost use Rattle.bench_types.specs.Flaw.{args_flaw, config_flaw, count_of_name, limits_flaw, mask_flaw, name_flaw, numbers_flaw, length_flaw, location_of_length, location_of_mask, location_of_messages, location_of_no_name, location_of_priority, location_of_shared_name, messages_flaw, priority_flaw, queue_list_flaw, queues_flaw, shared_flaw};
 ghost use Rattle.bench_types.specs.Mask.{cores_of_mask as cores_in};
 ghost use Rattle.bench_types.specs.Name.{is_within};
 
 use crate::mask::cores_of_mask;
 use crate::name::spells_name;
 use crate::{
-    Config, MAX_CORES, MAX_MUTEXES, MAX_NOTES, MAX_PRIORITIES, MAX_TASKS, MIN_CORES, TaskArgs,
+    Config, Items, MAX_CORES, MAX_MESSAGES, MAX_MUTEXES, MAX_NOTES, MAX_PRIORITIES, MAX_QUEUES,
+    MAX_TASKS, MIN_CORES, QueueArgs, TaskArgs,
 };
 
-/// A thing for which a header is not accepted. A user task is told by its place among them.
+/// A thing for which a header is not accepted. A queue and a user task are told by their places
+/// among them.
 #[derive(Clone, Copy, Debug, PartialEq, Eq)]
 pub enum HeaderFlaw {
     /// There may not be so many cores.
@@ -21,6 +23,12 @@ pub enum HeaderFlaw {
     Mutexes(u32),
     /// There may not be so many notifications a task.
     Notes(u32),
+    /// There may not be so many queues.
+    Queues(usize),
+    /// The queue has a length of 0.
+    QueueLength(usize),
+    /// The queue has more messages at the start than its length.
+    QueueMessages(usize),
     /// There may not be so many user tasks.
     TaskCount(usize),
     /// The name of the task is none. No `Header` has such a task; a text may have one.
@@ -34,12 +42,15 @@ pub enum HeaderFlaw {
 }
 
 impl Config {
-    /// The first flaw of the numbers of a header with these settings and so many user tasks.
-    pub fn flaw(self, tasks: usize) -> Option<HeaderFlaw>
-        ensures { result ≡ numbers_flaw self tasks }
+    /// The first flaw of the numbers of a header with these settings, these queues and so many user
+    /// tasks.
+    pub fn flaw(self, queues: &Option<Items<QueueArgs>>, tasks: usize) -> Option<HeaderFlaw>
+        ensures { result ≡ numbers_flaw self queues.now tasks }
     {
         let count = HeaderFlaw::TaskCount(tasks);
-        config_flaw(self).or(limits_flaw(1, MAX_TASKS, tasks, count))
+        config_flaw(self)
+            .or(queues_flaw(queues))
+            .or(limits_flaw(1, MAX_TASKS, tasks, count))
     }
 }
 
@@ -89,6 +100,58 @@ fn config_flaw(config: Config) -> Option<HeaderFlaw>
         HeaderFlaw::Mutexes(mutexes),
     ))
     .or(limits_flaw(1, MAX_NOTES, notes as usize, HeaderFlaw::Notes(notes)))
+}
+
+/// The place of the first queue of length 0.
+fn location_of_length(queues: &[QueueArgs]) -> Option<usize>
+    ensures { result ≡ location_of_length queues.now }
+{
+    queues.iter().position(|queue| !is_within(1, MAX_MESSAGES as usize, queue.length as usize))
+}
+
+/// The place of the first queue with more messages than its length.
+fn location_of_messages(queues: &[QueueArgs]) -> Option<usize>
+    ensures { result ≡ location_of_messages queues.now }
+{
+    queues
+        .iter()
+        .position(|queue| queue.length < queue.messages)
+}
+
+fn length_flaw(queues: &[QueueArgs]) -> Option<HeaderFlaw>
+    ensures { result ≡ length_flaw queues.now }
+{
+    match location_of_length(queues) {
+        Some(queue) => Some(HeaderFlaw::QueueLength(queue)),
+        None => None,
+    }
+}
+
+fn messages_flaw(queues: &[QueueArgs]) -> Option<HeaderFlaw>
+    ensures { result ≡ messages_flaw queues.now }
+{
+    match location_of_messages(queues) {
+        Some(queue) => Some(HeaderFlaw::QueueMessages(queue)),
+        None => None,
+    }
+}
+
+fn queue_list_flaw(queues: &[QueueArgs]) -> Option<HeaderFlaw>
+    ensures { result ≡ queue_list_flaw queues.now }
+{
+    let count = HeaderFlaw::Queues(queues.len());
+    limits_flaw(0, MAX_QUEUES, queues.len(), count)
+        .or(length_flaw(queues))
+        .or(messages_flaw(queues))
+}
+
+fn queues_flaw(queues: &Option<Items<QueueArgs>>) -> Option<HeaderFlaw>
+    ensures { result ≡ queues_flaw queues.now }
+{
+    match queues {
+        Some(queues) => queue_list_flaw(queues.as_slice()),
+        None => None,
+    }
 }
 
 fn location_of_no_name(tasks: &[TaskArgs]) -> Option<usize>

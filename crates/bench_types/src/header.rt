@@ -1,7 +1,7 @@
 //! What a session starts from: its settings and its user tasks.
-ghost use Rattle.std.specs.Prelude.{◌≡◌, nat_lt, ◌++◌, IfNone, IfOk, OnOk, string_bytes};
+ghost use Rattle.std.specs.Prelude.{◌≡◌, nat_lt, ◌++◌, Ok, IfNone, IfOk, OnOk, string_bytes};
 ghost use Rattle.bench_types.specs.Flaw.{header_flaw};
-ghost use Rattle.bench_types.specs.Header.{header_check, cores_of_mask as cores_in, name_of, IsCheckedHeader};
+ghost use Rattle.bench_types.specs.Header.{header_check, cores_of_mask as cores_in, name_of, queue_count, IsCheckedHeader};
 
 use crate::flaw::args_flaw;
 use crate::mask::cores_of_mask;
@@ -39,6 +39,17 @@ pub struct TaskArgs {
     pub mask: u32,
 }
 
+/// What a queue or a semaphore is created with. Its messages are counted alone, since what they say
+/// decides no scheduling.
+#[derive(Clone, Copy, Debug, PartialEq, Eq, Hash)]
+pub struct QueueArgs {
+    /// How many messages it holds at most, 1 to [`MAX_MESSAGES`](crate::MAX_MESSAGES)
+    /// (`uxQueueLength` of `xQueueCreate`, `uxMaxCount` of `xSemaphoreCreateCounting`).
+    pub length: u32,
+    /// How many it holds at the start, at most its length (`uxInitialCount`).
+    pub messages: u32,
+}
+
 /// What a session starts from.
 ///
 /// Tasks 0 to N - 1 are the idle tasks of N cores. The user tasks are numbered from N in the order
@@ -46,6 +57,9 @@ pub struct TaskArgs {
 #[derive(Debug, Drop)]
 pub struct Header {
     pub config: Config,
+    /// The queues and semaphores, at most [`MAX_QUEUES`](crate::MAX_QUEUES) of them. None in a
+    /// session of format 1 or 2, which says nothing of queues.
+    pub queues: Option<Items<QueueArgs>>,
     /// The user tasks, 1 to [`MAX_TASKS`](crate::MAX_TASKS) of them, with distinct names.
     pub tasks: Items<TaskArgs>,
 }
@@ -75,7 +89,7 @@ impl Header {
         // The tick count may be any. It is read, so it is known to be one of 32 bits.
         let _tick = self.config.tick;
         let tasks = self.tasks.as_slice();
-        match self.config.flaw(tasks.len()) {
+        match self.config.flaw(&self.queues, tasks.len()) {
             Some(flaw) => Some(flaw),
             None => args_flaw(self.config, tasks),
         }
@@ -103,8 +117,20 @@ impl Header {
         }
         Ok(Header {
             config: self.config,
+            queues: copy_queues(alloc, &self.queues)?,
             tasks: Items::new(copies),
         })
+    }
+
+    /// How many queues there are; none in a session that says nothing of queues.
+    pub fn queue_count(&self) -> Option<u32>
+        requires { header_check self.now ≡ Ok tt }
+        ensures { result ≡ queue_count self.now }
+    {
+        match &self.queues {
+            None => None,
+            Some(queues) => Some(queues.as_slice().len() as u32),
+        }
     }
 
     /// Writes the name of the task after the text. A number that is no task has no name.
@@ -119,6 +145,22 @@ impl Header {
         match self.tasks.as_slice().get((task - cores) as usize) {
             Some(args) => text.push_str(args.name.as_str()),
             None => Ok(()),
+        }
+    }
+}
+
+/// A second value of the same queues.
+pub fn copy_queues(
+    alloc: Global,
+    queues: &Option<Items<QueueArgs>>,
+) -> Result<Option<Items<QueueArgs>>, AllocError>
+    ensures { IfOk result (λ copy. copy ≡ queues.now) }
+{
+    match queues {
+        None => Ok(None),
+        Some(queues) => {
+            let copies = Vec::from_slice(alloc, queues.as_slice())?;
+            Ok(Some(Items::new(copies)))
         }
     }
 }

@@ -10,6 +10,8 @@ pub struct Settings {
     pub mutexes: u32,
     /// How many notifications each task has.
     pub notes: u32,
+    /// How many queues there are; none in a session that says nothing of queues.
+    pub queues: Option<u32>,
     /// All tasks, the idle tasks too.
     pub tasks: u32,
 }

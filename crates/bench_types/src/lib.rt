@@ -28,14 +28,15 @@ pub use edit::{Edit, EditFault};
 pub use entry::Entry;
 pub use fault::Fault;
 pub use flaw::HeaderFlaw;
-pub use header::{Config, Header, TaskArgs};
+pub use header::{Config, Header, QueueArgs, TaskArgs, copy_queues};
 pub use items::Items;
 pub use kernel_data::{
     CoreLook, Delayed, Hold, MutexWait, Settings, TaskControl, TaskLook, Waiter,
 };
 pub use limits::{
-    MAX_CORES, MAX_DEPTH, MAX_INPUT, MAX_MUTEXES, MAX_NAME, MAX_NOTES, MAX_PRIORITIES, MAX_SPAN,
-    MAX_STEPS, MAX_TAKES, MAX_TASKS, MIN_CORES, laws_of_limits,
+    MAX_CORES, MAX_DEPTH, MAX_INPUT, MAX_MESSAGES, MAX_MUTEXES, MAX_NAME, MAX_NOTES,
+    MAX_PRIORITIES, MAX_QUEUES, MAX_SPAN, MAX_STEPS, MAX_TAKES, MAX_TASKS, MIN_CORES,
+    laws_of_limits,
 };
 pub use mask::cores_of_mask;
 pub use name::Name;

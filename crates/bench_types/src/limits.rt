@@ -1,6 +1,6 @@
 //! How large a session may be.
 ghost use Rattle.std.specs.Prelude.{◌≡◌};
-ghost use Rattle.bench_types.specs.Limits.{min_cores, max_cores, max_priorities, max_tasks, max_mutexes, max_notes, max_steps, max_name, max_depth, max_takes, max_span, max_input};
+ghost use Rattle.bench_types.specs.Limits.{min_cores, max_cores, max_priorities, max_tasks, max_messages, max_mutexes, max_notes, max_queues, max_steps, max_name, max_depth, max_takes, max_span, max_input};
 
 /// The least number of cores.
 pub const MIN_CORES: u32 = 2;
@@ -16,6 +16,12 @@ pub const MAX_TASKS: u32 = 512;
 
 /// How many mutexes there are at most.
 pub const MAX_MUTEXES: u32 = 32;
+
+/// How many queues and semaphores there are at most.
+pub const MAX_QUEUES: u32 = 32;
+
+/// How many messages a queue holds at most (`UBaseType_t`).
+pub const MAX_MESSAGES: u32 = 4_294_967_295;
 
 /// How many notifications each task has at most (`configTASK_NOTIFICATION_ARRAY_ENTRIES`).
 pub const MAX_NOTES: u32 = 8;
@@ -46,6 +52,8 @@ pub fn laws_of_limits()
     ensures priorities { MAX_PRIORITIES ≡ max_priorities }
     ensures tasks { MAX_TASKS ≡ max_tasks }
     ensures mutexes { MAX_MUTEXES ≡ max_mutexes }
+    ensures queues { MAX_QUEUES ≡ max_queues }
+    ensures messages { MAX_MESSAGES ≡ max_messages }
     ensures notes { MAX_NOTES ≡ max_notes }
     ensures steps { MAX_STEPS ≡ max_steps }
     ensures name { MAX_NAME ≡ max_name }

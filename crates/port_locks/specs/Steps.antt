@@ -1,5 +1,5 @@
 -- What each step of a lock pair tells its seat.
-use Rattle.std.specs.Prelude.{◌≡◌, ◌≢◌, ℕ, ◌+◌, ◌⊎◌, List, [], ◌∷◌, ◌++◌, Bool, true, false, Option, Some}
+use Rattle.std.specs.Prelude.{◌≡◌, ◌≢◌, ℕ, ◌+◌, ◌⊎◌, List, [], ◌∷◌, ◌++◌, Bool, true, false, Option, Some, None}
 use Rattle.atomic_table.specs.Table.{Me, Step}
 use Rattle.bench_types.specs.declared.entry.Entry.{Entry}
 use Rattle.port_locks.specs.declared.view.Handover.{Handover}
@@ -20,6 +20,7 @@ no_terms = record {
       mutexes = 0;
       notes = 0;
     };
+    queues = None;
     tasks = [];
   };
   limit = 0;

@@ -5,10 +5,10 @@ use Rattle.std.specs.List.{starts_with}
 use Rattle.std.specs.Str.{is_utf8}
 use Rattle.serde_json.specs.Read.{read}
 use Rattle.bench_types.specs.declared.flaw.HeaderFlaw.{HeaderFlaw}
-use Rattle.bench_types.specs.declared.flaw.HeaderFlaw.TheVariants.{Cores, Priorities, Mutexes, Notes, TaskCount, NoName, Priority, Mask, SharedName}
+use Rattle.bench_types.specs.declared.flaw.HeaderFlaw.TheVariants.{Cores, Priorities, Mutexes, Notes, Queues, QueueLength, QueueMessages, TaskCount, NoName, Priority, Mask, SharedName}
 use Rattle.bench_types.specs.declared.step_flaw.StepFlaw.{StepFlaw}
 use Rattle.bench_types.specs.declared.step_flaw.StepFlaw.TheVariants as flaws
-use Rattle.bench_types.specs.Limits.{min_cores, max_cores, max_priorities, max_tasks, max_mutexes, max_notes, max_name, max_input, max_steps}
+use Rattle.bench_types.specs.Limits.{min_cores, max_cores, max_priorities, max_tasks, max_mutexes, max_notes, max_queues, max_name, max_input, max_steps}
 use Rattle.session_text.specs.declared.bench.Bench.{Bench}
 use Rattle.session_text.specs.declared.detail.Detail.{Detail}
 use Rattle.session_text.specs.declared.detail.Detail.TheVariants as detail
@@ -93,11 +93,19 @@ bad_name_text task most =
     task_limit_text task (codes ".name has to be 1 to ") most
     ++ codes " characters from ! to ~, and not begin with IDLE"
 
+-- a queue by its place, then what is wrong with it
+abbrev pub queue_text : ℕ → List ℕ → List ℕ
+queue_text queue text = codes "header: queues[" ++ decimal queue ++ codes "]" ++ text
+
 abbrev pub flaw_text : HeaderFlaw → List ℕ
 flaw_text (Cores n) = limits_text (codes "cores") n min_cores max_cores
 flaw_text (Priorities n) = limits_text (codes "priorities") n 1 max_priorities
 flaw_text (Mutexes n) = limits_text (codes "mutexes") n 0 max_mutexes
 flaw_text (Notes n) = limits_text (codes "notes") n 1 max_notes
+flaw_text (Queues n) = limits_text (codes "the number of queues") n 0 max_queues
+flaw_text (QueueLength queue) = queue_text queue (codes ".length has to be 1 or more")
+flaw_text (QueueMessages queue) =
+    queue_text queue (codes ".messages has to be at most its length")
 flaw_text (TaskCount n) = limits_text (codes "the number of tasks") n 1 max_tasks
 flaw_text (NoName task) = bad_name_text task max_name
 flaw_text (Priority task priorities) =
@@ -234,7 +242,7 @@ shape_text detail.Missing = codes "this member is missing"
 shape_text (detail.Unknown stray) = unknown_text stray
 shape_text (detail.Wrong expected found) = wrong_text expected found
 shape_text (detail.NoWord stray) = no_word_text stray
-shape_text detail.NoFormat = codes "expected 1 or 2"
+shape_text detail.NoFormat = codes "expected 1, 2 or 3"
 shape_text detail.HasSteps = codes "the session of a rig has no steps"
 shape_text (detail.OnePerCore cores) =
     codes "expected an array for each core, " ++ decimal cores ++ codes " of them"

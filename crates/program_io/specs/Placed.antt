@@ -2,7 +2,7 @@
 use Rattle.std.specs.Prelude.{ℕ, List, [], ◌++◌, bytes_eq, codes, decimal, Option, Some, None, if◌then◌else◌}
 use Rattle.std.specs.Str.{is_utf8}
 use Rattle.bench_types.specs.declared.flaw.HeaderFlaw.{HeaderFlaw}
-use Rattle.bench_types.specs.declared.flaw.HeaderFlaw.TheVariants.{Cores, Priorities, Mutexes, Notes, TaskCount, NoName, Priority, Mask, SharedName}
+use Rattle.bench_types.specs.declared.flaw.HeaderFlaw.TheVariants.{Cores, Priorities, Mutexes, Notes, Queues, QueueLength, QueueMessages, TaskCount, NoName, Priority, Mask, SharedName}
 use Rattle.text_locations.specs.declared.location.TextLocation.{TextLocation}
 use Rattle.text_locations.specs.Leads.{location_of}
 
@@ -22,12 +22,19 @@ location_suffix (Some location) =
 abbrev pub task_member : ℕ → List ℕ → List ℕ
 task_member task name = codes "tasks[" ++ decimal task ++ codes "]." ++ name
 
+-- a member of a queue of the session
+abbrev pub queue_member : ℕ → List ℕ → List ℕ
+queue_member queue name = codes "queues[" ++ decimal queue ++ codes "]." ++ name
+
 -- the member of the session at fault
 abbrev pub flaw_member : HeaderFlaw → List ℕ
 flaw_member (Cores n) = codes "cores"
 flaw_member (Priorities n) = codes "priorities"
 flaw_member (Mutexes n) = codes "mutexes"
 flaw_member (Notes n) = codes "notes"
+flaw_member (Queues n) = codes "queues"
+flaw_member (QueueLength queue) = queue_member queue (codes "length")
+flaw_member (QueueMessages queue) = queue_member queue (codes "messages")
 flaw_member (TaskCount n) = codes "tasks"
 flaw_member (NoName task) = task_member task (codes "name")
 flaw_member (Priority task priorities) = task_member task (codes "priority")

@@ -5,12 +5,12 @@ ghost use Rattle.serde_json.specs.Read.{read};
 ghost use Rattle.bench_types.specs.declared.step_flaw.StepFlaw.TheVariants.{NewPriority};
 ghost use Rattle.session_text.specs.declared.detail.Detail.TheVariants.{Limit, NoTask, OnePerCore};
 ghost use Rattle.session_text.specs.declared.fault.Why.TheVariants.{NoMemory};
-ghost use Rattle.program_io.specs.Hint.{bad_name_text, header_line, IsFaultHint, IsNotJsonHint, IsShortTextHint, TellsLocation, expected_text, fault_line, flaw_text, found_text, limits_text, line_at, mask_text, member_text, mutex_text, nearest_name_text, nearest_text, no_name_text, no_word_text, none_of_text, number_text, quoted, shape_text, step_flaw_text, task_limit_text, task_text, too_long_line, too_many_steps_line, unknown_text, whole_text, word_text, words_text, wrong_text};
+ghost use Rattle.program_io.specs.Hint.{bad_name_text, header_line, IsFaultHint, IsNotJsonHint, IsShortTextHint, TellsLocation, expected_text, fault_line, flaw_text, found_text, limits_text, line_at, mask_text, member_text, mutex_text, nearest_name_text, nearest_text, no_name_text, no_word_text, none_of_text, number_text, queue_text, quoted, shape_text, step_flaw_text, task_limit_text, task_text, too_long_line, too_many_steps_line, unknown_text, whole_text, word_text, words_text, wrong_text};
 
 use crate::placed::{fault_location, flaw_path, push_location};
 use bench_types::{
-    HeaderFlaw, MAX_CORES, MAX_INPUT, MAX_MUTEXES, MAX_NAME, MAX_NOTES, MAX_PRIORITIES, MAX_STEPS,
-    MAX_TASKS, MIN_CORES, StepFlaw,
+    HeaderFlaw, MAX_CORES, MAX_INPUT, MAX_MUTEXES, MAX_NAME, MAX_NOTES, MAX_PRIORITIES, MAX_QUEUES,
+    MAX_STEPS, MAX_TASKS, MIN_CORES, StepFlaw,
 };
 use serde_json::{Error, Value};
 use session_text::{Detail, Expected, Found, Shown, Stray, TextFault, Why, Words};
@@ -117,6 +117,13 @@ fn push_bad_name(text: &mut String, task: usize, most: u32) -> Result<(), AllocE
     text.push_str(" characters from ! to ~, and not begin with IDLE")
 }
 
+fn push_queue(text: &mut String, queue: usize, wrong: &str) -> Result<(), AllocError>
+    ensures { OnOk result
+        (string_bytes text.new ≡ string_bytes text.old ++ queue_text queue wrong.now) }
+{
+    write!(text, "header: queues[{queue}]{wrong}")
+}
+
 fn push_flaw(text: &mut String, flaw: HeaderFlaw) -> Result<(), AllocError>
     ensures { OnOk result (string_bytes text.new ≡ string_bytes text.old ++ flaw_text flaw) }
 {
@@ -125,6 +132,11 @@ fn push_flaw(text: &mut String, flaw: HeaderFlaw) -> Result<(), AllocError>
         HeaderFlaw::Priorities(n) => push_limits(text, "priorities", n as usize, 1, MAX_PRIORITIES),
         HeaderFlaw::Mutexes(n) => push_limits(text, "mutexes", n as usize, 0, MAX_MUTEXES),
         HeaderFlaw::Notes(n) => push_limits(text, "notes", n as usize, 1, MAX_NOTES),
+        HeaderFlaw::Queues(n) => push_limits(text, "the number of queues", n, 0, MAX_QUEUES),
+        HeaderFlaw::QueueLength(queue) => push_queue(text, queue, ".length has to be 1 or more"),
+        HeaderFlaw::QueueMessages(queue) => {
+            push_queue(text, queue, ".messages has to be at most its length")
+        }
         HeaderFlaw::TaskCount(n) => push_limits(text, "the number of tasks", n, 1, MAX_TASKS),
         HeaderFlaw::NoName(task) => push_bad_name(text, task, MAX_NAME as u32),
         HeaderFlaw::Priority { task, priorities } => {
@@ -406,7 +418,7 @@ fn push_shape(text: &mut String, detail: &Detail) -> Result<(), AllocError>
         Detail::Unknown(stray) => push_unknown(text, stray),
         Detail::Wrong { expected, found } => push_wrong(text, *expected, *found),
         Detail::NoWord(stray) => push_no_word(text, stray),
-        Detail::NoFormat => text.push_str("expected 1 or 2"),
+        Detail::NoFormat => text.push_str("expected 1, 2 or 3"),
         Detail::HasSteps => text.push_str("the session of a rig has no steps"),
         Detail::OnePerCore(cores) => push_per_core(text, *cores),
         Detail::Header { .. } => text.push_str("this header is not accepted"),

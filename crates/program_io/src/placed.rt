@@ -1,6 +1,6 @@
 //! Where in the text of an input a fault is, and of a refused header the member at fault.
 ghost use Rattle.std.specs.Prelude.{◌≡◌, ◌++◌, IfOk, OnOk, string_bytes};
-ghost use Rattle.program_io.specs.Placed.{fault_location, flaw_member, flaw_path, member_prefix, location_suffix, task_member};
+ghost use Rattle.program_io.specs.Placed.{fault_location, flaw_member, flaw_path, member_prefix, location_suffix, queue_member, task_member};
 
 use bench_types::HeaderFlaw;
 use std::alloc::{AllocError, Global};
@@ -57,6 +57,13 @@ fn push_task_member(path: &mut String, task: usize, name: &str) -> Result<(), Al
     write!(path, "tasks[{task}].{name}")
 }
 
+fn push_queue_member(path: &mut String, queue: usize, name: &str) -> Result<(), AllocError>
+    ensures { OnOk result
+        (string_bytes path.new ≡ string_bytes path.old ++ queue_member queue name.now) }
+{
+    write!(path, "queues[{queue}].{name}")
+}
+
 fn push_flaw_member(path: &mut String, flaw: HeaderFlaw) -> Result<(), AllocError>
     ensures { OnOk result (string_bytes path.new ≡ string_bytes path.old ++ flaw_member flaw) }
 {
@@ -65,6 +72,9 @@ fn push_flaw_member(path: &mut String, flaw: HeaderFlaw) -> Result<(), AllocErro
         HeaderFlaw::Priorities(_) => path.push_str("priorities"),
         HeaderFlaw::Mutexes(_) => path.push_str("mutexes"),
         HeaderFlaw::Notes(_) => path.push_str("notes"),
+        HeaderFlaw::Queues(_) => path.push_str("queues"),
+        HeaderFlaw::QueueLength(queue) => push_queue_member(path, queue, "length"),
+        HeaderFlaw::QueueMessages(queue) => push_queue_member(path, queue, "messages"),
         HeaderFlaw::TaskCount(_) => path.push_str("tasks"),
         HeaderFlaw::NoName(task) => push_task_member(path, task, "name"),
         HeaderFlaw::Priority { task, .. } => push_task_member(path, task, "priority"),

@@ -131,9 +131,9 @@ const MANY_LINES_OF_JSON: &[(&str, &str, &str)] = &[
     ),
     (
         "replay",
-        "{\"edits\": [{\"}\": \"{\"}], \"session\":\n[],\n\"session\": {\"format\"\n:  3}}",
+        "{\"edits\": [{\"}\": \"{\"}], \"session\":\n[],\n\"session\": {\"format\"\n:  4}}",
         "the member \"session\" stands twice, and the last one counts: line 3, column 1\n\
-        session.format: expected 1 or 2 (line 4, column 4)\n",
+        session.format: expected 1, 2 or 3 (line 4, column 4)\n",
     ),
     (
         "record",

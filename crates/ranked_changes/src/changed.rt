@@ -27,8 +27,8 @@ fn with_numbers(
     requires { IsUserTask header.now task }
     ensures { IfOk result (λ made. made ≡ with_numbers task priority mask header.now) }
 {
-    let copy = header.copy(alloc)?;
-    let mut tasks = copy.tasks.into_vec();
+    let Header { queues, tasks, .. } = header.copy(alloc)?;
+    let mut tasks = tasks.into_vec();
     tasks.as_mut_slice()[(task - header.config.cores) as usize] = TaskArgs {
         name: args_of(header, task).name.copy(),
         priority,
@@ -36,6 +36,7 @@ fn with_numbers(
     };
     Ok(Header {
         config: header.config,
+        queues,
         tasks: Items::new(tasks),
     })
 }

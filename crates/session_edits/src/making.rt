@@ -17,13 +17,18 @@ fn changed(header: Header, task: u32, priority: u32, mask: u32) -> Header
     requires { task_check (settings_of header) task ≡ Ok tt }
     ensures { result ≡ changed task priority mask header }
 {
-    let Header { config, tasks } = header;
+    let Header {
+        config,
+        queues,
+        tasks,
+    } = header;
     let mut tasks = tasks.into_vec();
     let args = &mut tasks[(task - config.cores) as usize];
     args.priority = priority;
     args.mask = mask;
     Header {
         config,
+        queues,
         tasks: Items::new(tasks),
     }
 }

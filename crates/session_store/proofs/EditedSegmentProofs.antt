@@ -8,7 +8,7 @@ use Rattle.bench_types.specs.declared.edit.Edit.TheVariants.{Insert, Remove, Rep
 use Rattle.bench_types.specs.declared.header.Header.{Header}
 use Rattle.bench_types.specs.declared.step.Step.{Step}
 use Rattle.bench_types.specs.Edit.{IsEditOfWords}
-use Rattle.bench_types.specs.Header.{header_check}
+use Rattle.bench_types.specs.Header.{header_check, queue_count}
 use Rattle.bench_types.specs.Session.{Session, IsSession}
 use Rattle.bench_types.specs.Step.{settings_of}
 use Rattle.bench_model.specs.Edits.{accepted, edited, has_place}
@@ -41,8 +41,8 @@ edited_settings session (ChangeTask task priority mask) =
       slicing = config.slicing;
       mutexes = config.mutexes;
       notes = config.notes;
-      tasks
-          = config.cores + users;
+      queues = queue_count session.header;
+      tasks = config.cores + users;
     }) (length-set session.header.tasks (task - config.cores) _)
 
 state_first : (header : Header) (steps : List Step) → state_at header steps 0 ≡ start header

@@ -21,13 +21,18 @@ fn changed(
     requires { task_check (settings_of header.now) task ≡ Ok tt }
     ensures { IfOk result (λ next. next ≡ changed task priority mask header.now) }
 {
-    let Header { config, tasks } = header.copy(alloc)?;
+    let Header {
+        config,
+        queues,
+        tasks,
+    } = header.copy(alloc)?;
     let mut tasks = tasks.into_vec();
     let args = &mut tasks[(task - config.cores) as usize];
     args.priority = priority;
     args.mask = mask;
     Ok(Header {
         config,
+        queues,
         tasks: Items::new(tasks),
     })
 }

@@ -1,5 +1,5 @@
 -- The members that a step has in the first format are some of those that it has in any.
-use Rattle.std.proofs.Common.{◌≡◌, ℕ, List, ◌∷◌, codes, Option, Some, None, true}
+use Rattle.std.proofs.Common.{◌≡◌, ℕ, List, ◌∷◌, codes, Option, Some, None, true, refl}
 use Rattle.serde_json.specs.Data.{Members}
 use Rattle.json_data.specs.Reading.{are_known}
 use Rattle.json_data.proofs.Members.{known_more}
@@ -8,7 +8,7 @@ use Rattle.bench_types.specs.declared.step.Call.TheVariants as call
 use Rattle.bench_types.specs.declared.step.Step.{Step}
 use Rattle.bench_types.specs.declared.step.Step.TheVariants as step
 use Rattle.session_text.specs.declared.format.Format.{Format}
-use Rattle.session_text.specs.declared.format.Format.TheVariants.{One}
+use Rattle.session_text.specs.declared.format.Format.TheVariants.{One, Two, Three}
 use Rattle.session_text.specs.NotifyAction.{action_number}
 use Rattle.session_text.specs.Format.{index_member}
 use Rattle.session_text.specs.Step.{members_of, members_of_call, note_members}
@@ -69,3 +69,29 @@ known_in format (step.Switch core) ms known = known
 known_in format (step.Call core task made) ms known = of_call format made ms known
 known_in format (step.Interrupt core note) ms known =
     of_interrupt format (action_number note.action) ms known
+
+same_of_call : (made : Call) → members_of_call Three made ≡ members_of_call Two made
+same_of_call call.Yield = refl
+same_of_call (call.Delay ticks) = refl
+same_of_call (call.DelayUntil prev inc) = refl
+same_of_call (call.PrioritySet task priority) = refl
+same_of_call (call.AffinitySet task mask) = refl
+same_of_call (call.PreemptOff task) = refl
+same_of_call (call.PreemptOn task) = refl
+same_of_call (call.Notify note) = refl
+same_of_call (call.NotifyWait entry exit ticks index) = refl
+same_of_call (call.NotifyTake clear ticks index) = refl
+same_of_call (call.StateClear task index) = refl
+same_of_call (call.ValueClear task bits index) = refl
+same_of_call (call.MutexTake mutex ticks) = refl
+same_of_call (call.MutexGive mutex) = refl
+same_of_call call.Finish = refl
+same_of_call call.HoldOpen = refl
+same_of_call call.HoldClose = refl
+
+-- a step has the same members in the third format as in the second
+pub same_in_three : (made : Step) → members_of Three made ≡ members_of Two made
+same_in_three step.Tick = refl
+same_in_three (step.Switch core) = refl
+same_in_three (step.Call core task made) = same_of_call made
+same_in_three (step.Interrupt core note) = refl

@@ -1,15 +1,16 @@
--- The header of a session: its settings and its user tasks.
+-- The header of a session: its settings, its queues and its user tasks.
 use Rattle.std.specs.Prelude.{ℕ, List, [], ◌∷◌, codes, Option, Some, None, Result, Ok, Err}
 use Rattle.serde_json.specs.Data.{Data}
 use Rattle.bench_types.specs.declared.flaw.HeaderFlaw.{HeaderFlaw}
 use Rattle.bench_types.specs.declared.header.Config.{Config}
+use Rattle.bench_types.specs.declared.header.QueueArgs.{QueueArgs}
 use Rattle.bench_types.specs.declared.header.TaskArgs.{TaskArgs}
 use Rattle.bench_types.specs.declared.header.Header.{Header}
 use Rattle.bench_types.specs.Flaw.{header_flaw}
 use Rattle.session_text.specs.declared.fault.TextFault.{TextFault}
 use Rattle.session_text.specs.declared.format.Format.{Format}
 use Rattle.session_text.specs.Array.{list_at}
-use Rattle.session_text.specs.Format.{notes_at}
+use Rattle.session_text.specs.Format.{notes_at, queues_at}
 use Rattle.session_text.specs.Member.{object_at, number_at, text_at, flag_at, only_at}
 use Rattle.session_text.specs.ReadingRules.{◌>>=◌}
 
@@ -51,14 +52,17 @@ verdict header (Some flaw) = Err flaw
 abbrev pub accepted : Header → Result Header HeaderFlaw
 accepted header = verdict header (header_flaw header)
 
--- the header with these settings, accepted or not
-abbrev pub header_of : Config → List ℕ → Data → Result (Result Header HeaderFlaw) TextFault
-header_of config at d = do
+-- the header with these settings and queues, accepted or not
+abbrev pub header_of :
+    Config → Option (List QueueArgs) → List ℕ → Data
+    → Result (Result Header HeaderFlaw) TextFault
+header_of config queues at d = do
   tasks ← list_at task_at at (codes "tasks") d
-  Ok (accepted (record { config = config; tasks = tasks }))
+  Ok (accepted (record { config = config; queues = queues; tasks = tasks }))
 
 -- the header, accepted or not: its shape alone is judged
 unfoldable pub header_at : Format → List ℕ → Data → Result (Result Header HeaderFlaw) TextFault
 header_at format at d = do
   config ← config_at format at d
-  header_of config at d
+  queues ← queues_at format at d
+  header_of config queues at d

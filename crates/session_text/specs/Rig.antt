@@ -22,7 +22,7 @@ use Rattle.session_text.specs.declared.rig.RigScript.{RigScript}
 use Rattle.session_text.specs.Accepted.{header_fault, item_of, items_accepted}
 use Rattle.session_text.specs.CoreAction.{script_at}
 use Rattle.session_text.specs.Array.{list_at}
-use Rattle.session_text.specs.Format.{format_at}
+use Rattle.session_text.specs.Format.{format_at, queues_at}
 use Rattle.session_text.specs.Header.{config_at, header_of}
 use Rattle.session_text.specs.Member.{object_at, member_at, array_at, number_at, only_at}
 use Rattle.session_text.specs.Names.{TaskNames, known_names, user_names}
@@ -48,7 +48,8 @@ stepless_at at d = do
   members ← object_at at d
   format ← format_at at d
   config ← config_at format at d
-  header ← header_of config at d
+  queues ← queues_at format at d
+  header ← header_of config queues at d
   none ← no_steps_at at d
   only ← only_at at (session_members format) members
   Ok (format, config.cores, header)

@@ -15,7 +15,7 @@ use Rattle.session_text.specs.declared.detail.Detail.TheVariants as detail
 use Rattle.session_text.specs.declared.fault.Why.TheVariants.{NotJson}
 use Rattle.session_text.specs.declared.fault.TextFault.{TextFault}
 use Rattle.session_text.specs.declared.format.Format.{Format}
-use Rattle.session_text.specs.Format.{format_at, notes_member}
+use Rattle.session_text.specs.Format.{format_at, further_members}
 use Rattle.session_text.specs.Header.{header_at}
 use Rattle.session_text.specs.Member.{object_at, only_at}
 use Rattle.session_text.specs.Names.{known_names, user_names}
@@ -40,7 +40,7 @@ document text = json_or_fault (if is_utf8 text then read text else None)
 abbrev pub session_members : Format → List (List ℕ)
 session_members format =
     codes "format" ∷ codes "cores" ∷ codes "priorities" ∷ codes "slicing" ∷ codes "tick"
-    ∷ codes "mutexes" ∷ codes "tasks" ∷ codes "steps" ∷ notes_member format
+    ∷ codes "mutexes" ∷ codes "tasks" ∷ codes "steps" ∷ further_members format
 
 -- the format, the header, accepted or not, and the steps; shapes alone are judged
 unfoldable pub session_at :

@@ -132,19 +132,19 @@ pub(crate) fn call_members(format: Format, call: Call) -> &'static [&'static str
         Call::Notify(note) => notify_members(format, note),
         Call::NotifyWait { .. } => match format {
             Format::One => &["core", "by", "do", "entry", "exit", "ticks"],
-            Format::Two => &["core", "by", "do", "entry", "exit", "ticks", "index"],
+            Format::Two | Format::Three => &["core", "by", "do", "entry", "exit", "ticks", "index"],
         },
         Call::NotifyTake { .. } => match format {
             Format::One => &["core", "by", "do", "clear", "ticks"],
-            Format::Two => &["core", "by", "do", "clear", "ticks", "index"],
+            Format::Two | Format::Three => &["core", "by", "do", "clear", "ticks", "index"],
         },
         Call::StateClear { .. } => match format {
             Format::One => &["core", "by", "do", "to"],
-            Format::Two => &["core", "by", "do", "to", "index"],
+            Format::Two | Format::Three => &["core", "by", "do", "to", "index"],
         },
         Call::ValueClear { .. } => match format {
             Format::One => &["core", "by", "do", "to", "bits"],
-            Format::Two => &["core", "by", "do", "to", "bits", "index"],
+            Format::Two | Format::Three => &["core", "by", "do", "to", "bits", "index"],
         },
         Call::MutexTake { .. } => &["core", "by", "do", "mutex", "ticks"],
         Call::MutexGive(_) => &["core", "by", "do", "mutex"],
@@ -158,11 +158,11 @@ fn notify_members(format: Format, note: Note) -> &'static [&'static str]
     match action_number(note.action) {
         None => match format {
             Format::One => &["core", "by", "do", "to", "action"],
-            Format::Two => &["core", "by", "do", "to", "action", "index"],
+            Format::Two | Format::Three => &["core", "by", "do", "to", "action", "index"],
         },
         Some(_) => match format {
             Format::One => &["core", "by", "do", "to", "action", "value"],
-            Format::Two => &["core", "by", "do", "to", "action", "value", "index"],
+            Format::Two | Format::Three => &["core", "by", "do", "to", "action", "value", "index"],
         },
     }
 }
@@ -174,11 +174,11 @@ pub(crate) fn interrupt_members(format: Format, note: Note) -> &'static [&'stati
     match action_number(note.action) {
         None => match format {
             Format::One => &["core", "do", "to", "action"],
-            Format::Two => &["core", "do", "to", "action", "index"],
+            Format::Two | Format::Three => &["core", "do", "to", "action", "index"],
         },
         Some(_) => match format {
             Format::One => &["core", "do", "to", "action", "value"],
-            Format::Two => &["core", "do", "to", "action", "value", "index"],
+            Format::Two | Format::Three => &["core", "do", "to", "action", "value", "index"],
         },
     }
 }

@@ -1,12 +1,14 @@
 //! The formats of sessions.
 ghost use Rattle.std.specs.Prelude.{◌≡◌};
-ghost use Rattle.session_text.specs.Format.{format_at, format_of, index_at, notes_at};
+ghost use Rattle.session_text.specs.Format.{format_at, format_of, index_at, notes_at, queue_at, queues_at};
 ghost use Rattle.session_text.specs.Node.{data_of, location_of};
 ghost use Rattle.session_text.specs.ReadingRules.{Gives};
 
+use crate::array::{ReadItem, list_at};
 use crate::detail::Detail;
 use crate::fault::ReadFault;
 use crate::node::Node;
+use bench_types::{Items, QueueArgs};
 
 /// The format of a session's text.
 #[derive(Clone, Copy, Debug, PartialEq, Eq, Hash)]
@@ -16,6 +18,9 @@ pub enum Format {
     /// `format` is 2: `notes` says how many notifications each task has, and `index` which of them
     /// a step means.
     Two,
+    /// `format` is 3: `queues` says which queues and semaphores there are, beside what format 2
+    /// says.
+    Three,
 }
 
 impl Format {
@@ -25,6 +30,7 @@ impl Format {
         match number {
             1 => Some(Format::One),
             2 => Some(Format::Two),
+            3 => Some(Format::Three),
             _ => None,
         }
     }
@@ -49,7 +55,43 @@ pub(crate) fn notes_at(format: Format, node: &Node<'_, '_, '_>) -> Result<u32, R
 {
     match format {
         Format::One => Ok(1),
-        Format::Two => node.number("notes"),
+        Format::Two | Format::Three => node.number("notes"),
+    }
+}
+
+/// Reads queues.
+struct QueueReader;
+
+impl<'v> ReadItem<'v> for QueueReader {
+    type Item = QueueArgs;
+
+    ghost reading = { λ _. queue_at };
+
+    #[tactic(auto, unfolding(crate::specs::Format::queue_at))]
+    fn read(&self, node: &Node<'_, '_, 'v>) -> Result<QueueArgs, ReadFault> {
+        let members = node.object()?;
+        let length = node.number("length")?;
+        let messages = node.number("messages")?;
+        node.only(&["length", "messages"], &members)?;
+        Ok(QueueArgs { length, messages })
+    }
+}
+
+/// Which queues there are, where the format says it.
+#[tactic(auto, unfolding(crate::specs::Format::queues_at))]
+pub(crate) fn queues_at(
+    format: Format,
+    node: &Node<'_, '_, '_>,
+) -> Result<Option<Items<QueueArgs>>, ReadFault>
+    ensures { Gives (λ queues. queues) result
+        (queues_at format (location_of node.now) (data_of node.now)) }
+{
+    match format {
+        Format::One | Format::Two => Ok(None),
+        Format::Three => {
+            let queues = list_at(&QueueReader, node, "queues")?;
+            Ok(Some(Items::new(queues)))
+        }
     }
 }
 
@@ -61,6 +103,6 @@ pub(crate) fn index_at(format: Format, node: &Node<'_, '_, '_>) -> Result<u32, R
 {
     match format {
         Format::One => Ok(0),
-        Format::Two => node.number_or("index", 0),
+        Format::Two | Format::Three => node.number_or("index", 0),
     }
 }

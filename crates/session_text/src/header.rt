@@ -9,9 +9,9 @@ ghost use Rattle.session_text.specs.ReadingRules.{Gives};
 
 use crate::array::{ReadItem, list_at};
 use crate::fault::ReadFault;
-use crate::format::{Format, notes_at};
+use crate::format::{Format, notes_at, queues_at};
 use crate::node::Node;
-use bench_types::{Config, Header, HeaderFlaw, Items, Name, TaskArgs};
+use bench_types::{Config, Header, HeaderFlaw, Items, Name, QueueArgs, TaskArgs};
 use std::alloc::{AllocError, Global};
 use std::marker::Model;
 
@@ -115,22 +115,25 @@ fn checked(header: Header) -> Result<Header, HeaderFlaw>
     }
 }
 
-/// The header of these tasks, or its first flaw. Only memory ends the call early.
+/// The header of these queues and tasks, or its first flaw. Only memory ends the call early.
 fn accepted(
     alloc: Global,
     config: Config,
+    queues: Option<Items<QueueArgs>>,
     shapes: &[TaskShape<'_>],
 ) -> Result<Result<Header, HeaderFlaw>, AllocError>
     ensures value { IfOk result
-        (λ header. header ≡ accepted (record { config = config; tasks = shapes.now })) }
+        (λ header. header
+        ≡ accepted (record { config = config; queues = queues; tasks = shapes.now })) }
     ensures valid { IfOk result (λ header. IfOk header IsCheckedHeader) }
     ensures config { IfOk result (λ header. IfOk header (λ it. it.config ≡ config)) }
 {
-    match config.flaw(shapes.len()) {
+    match config.flaw(&queues, shapes.len()) {
         Some(flaw) => Ok(Err(flaw)),
         None => match named_tasks(alloc, shapes)? {
             Ok(tasks) => Ok(checked(Header {
                 config,
+                queues,
                 tasks: Items::new(tasks),
             })),
             Err(location) => Ok(Err(HeaderFlaw::NoName(location))),
@@ -138,18 +141,19 @@ fn accepted(
     }
 }
 
-/// The header with these settings, accepted or not.
+/// The header with these settings and queues, accepted or not.
 pub(crate) fn header_of(
     config: Config,
+    queues: Option<Items<QueueArgs>>,
     node: &Node<'_, '_, '_>,
 ) -> Result<Result<Header, HeaderFlaw>, ReadFault>
     ensures reading { Gives (λ header. header) result
-        (header_of config (location_of node.now) (data_of node.now)) }
+        (header_of config queues (location_of node.now) (data_of node.now)) }
     ensures valid { IfOk result (λ header. IfOk header IsCheckedHeader) }
     ensures config { IfOk result (λ header. IfOk header (λ it. it.config ≡ config)) }
 {
     let shapes = list_at(&TaskReader, node, "tasks")?;
-    Ok(accepted(node.alloc, config, shapes.as_slice())?)
+    Ok(accepted(node.alloc, config, queues, shapes.as_slice())?)
 }
 
 /// The header, accepted or not: its shape alone is judged.
@@ -162,5 +166,6 @@ pub(crate) fn header_at(
         (header_at format (location_of node.now) (data_of node.now)) }
     ensures valid { IfOk result (λ header. IfOk header IsCheckedHeader) }
 {
-    header_of(config_at(format, node)?, node)
+    let config = config_at(format, node)?;
+    header_of(config, queues_at(format, node)?, node)
 }

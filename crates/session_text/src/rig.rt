@@ -19,7 +19,7 @@ use crate::array::list_at;
 use crate::core_action::{OnCore, ScriptReader};
 use crate::detail::Detail;
 use crate::fault::{ReadFault, TextFault, Why};
-use crate::format::{Format, format_at};
+use crate::format::{Format, format_at, queues_at};
 use crate::header::{config_at, header_of};
 use crate::names::Names;
 use crate::node::Node;
@@ -148,7 +148,7 @@ fn stepless_at(
     let members = node.object()?;
     let format = format_at(node)?;
     let config = config_at(format, node)?;
-    let header = header_of(config, node)?;
+    let header = header_of(config, queues_at(format, node)?, node)?;
     no_steps_at(node)?;
     only_members(format, node, &members)?;
     Ok((format, config.cores, header))

@@ -139,6 +139,18 @@ fn members_of(format: Format) -> &'static [&'static str]
             "steps",
             "notes",
         ],
+        Format::Three => &[
+            "format",
+            "cores",
+            "priorities",
+            "slicing",
+            "tick",
+            "mutexes",
+            "tasks",
+            "steps",
+            "notes",
+            "queues",
+        ],
     }
 }
 

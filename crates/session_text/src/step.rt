@@ -179,6 +179,7 @@ fn has_only_in_format_2(step: &Step, members: &Object<'_, '_, '_>) -> bool
 
 /// The same in the format.
 #[inline(always)]
+#[tactic(auto, using(crate::proofs::Known::same_in_three))]
 fn has_only_known(format: Format, step: &Step, members: &Object<'_, '_, '_>) -> bool
     ensures { result ≡ true
         → are_known (members_of format step.now) (members_view members.now) ≡ true }
@@ -186,6 +187,7 @@ fn has_only_known(format: Format, step: &Step, members: &Object<'_, '_, '_>) -> 
     match format {
         Format::One => has_only_in_format_1(step, members),
         Format::Two => has_only_in_format_2(step, members),
+        Format::Three => has_only_in_format_2(step, members),
     }
 }
 

@@ -1,6 +1,6 @@
 -- The value of a session is plain, and nests three deep.
 use Rattle.std.proofs.Common.{◌≡◌, ℕ, Bool, ◌+◌, ◌^◌, ◌<◌, ◌≤◌, true, ◌&&◌, List, [], ◌∷◌, length, map, refl, arith, IsUtf8}
-use Rattle.std.specs.Prelude.{IsTrue}
+use Rattle.std.specs.Prelude.{IsTrue, unwrap_or}
 use Rattle.std.specs.List.{list_all, AllByRecursion}
 use Rattle.std.proofs.lemmas.Bool.{and_parts, and_from}
 use Rattle.std.proofs.lemmas.Bool.Decides.{nat_tests}
@@ -9,6 +9,7 @@ use Rattle.serde_json.specs.Data.{Data, depth, items_depth}
 use Rattle.serde_json.specs.Read.{max_depth}
 use Rattle.serde_json.specs.View.{items_of}
 use Rattle.bench_types.specs.declared.header.Config.{Config}
+use Rattle.bench_types.specs.declared.header.QueueArgs.{QueueArgs}
 use Rattle.bench_types.specs.declared.header.TaskArgs.{TaskArgs}
 use Rattle.bench_types.specs.declared.header.Header.{Header}
 use Rattle.bench_types.specs.declared.note.NotifyAction.{NotifyAction}
@@ -21,10 +22,10 @@ use Rattle.bench_types.specs.Name.{is_name, is_name_byte, is_within}
 use Rattle.bench_types.specs.Step.{IsNotifyActionOfWord, IsOfWords, IsStepOfWords}
 use Rattle.bench_types.specs.Limits.{max_name, max_priorities}
 use Rattle.session_text.specs.declared.format.Format.{Format}
-use Rattle.session_text.specs.declared.format.Format.TheVariants.{One, Two}
-use Rattle.session_write.specs.Written.{task_data, task_name, bare_call, call_for, notify_data, interrupt_data, wait_data, take_data, state_clear_data}
+use Rattle.session_text.specs.declared.format.Format.TheVariants.{One, Two, Three}
+use Rattle.session_write.specs.Written.{queue_data, task_data, task_name, bare_call, call_for, notify_data, interrupt_data, wait_data, take_data, state_clear_data}
 use Rattle.session_write.specs.Written.{value_clear_data, call_data, step_data, format_for, data_in, session_data}
-use Rattle.bench_types.proofs.Passes.{has_valid_args, IsWithinLimits}
+use Rattle.bench_types.proofs.Passes.{has_valid_args, IsQueueOfWords, IsWithinLimits}
 use Rattle.session_write.proofs.Limits.{StepFits, HasTarget}
 use Rattle.session_write.proofs.ReadBack.{IsPlain, ArePlain}
 
@@ -92,7 +93,7 @@ notify_plain One by core to (action.SetNew value) index utf8 small to_utf8 few w
     (refl, refl, small, (refl, refl, IsUtf8-are_ascii _ refl, (refl, refl, to_utf8, (refl, refl, omega arith, tt)))),
   ),
 )
-notify_plain Two by core to action.Nothing index utf8 small to_utf8 few word = (
+notify_plain later by core to action.Nothing index utf8 small to_utf8 few word = (
   refl,
   refl,
   IsUtf8-are_ascii _ refl,
@@ -103,7 +104,7 @@ notify_plain Two by core to action.Nothing index utf8 small to_utf8 few word = (
     (refl, refl, small, (refl, refl, IsUtf8-are_ascii _ refl, (refl, refl, few, (refl, refl, to_utf8, tt)))),
   ),
 )
-notify_plain Two by core to (action.SetBits bits) index utf8 small to_utf8 few word = (
+notify_plain later by core to (action.SetBits bits) index utf8 small to_utf8 few word = (
   refl,
   refl,
   IsUtf8-are_ascii _ refl,
@@ -114,7 +115,7 @@ notify_plain Two by core to (action.SetBits bits) index utf8 small to_utf8 few w
     (refl, refl, small, (refl, refl, IsUtf8-are_ascii _ refl, (refl, refl, few, (refl, refl, to_utf8, (refl, refl, omega arith, tt))))),
   ),
 )
-notify_plain Two by core to action.Increment index utf8 small to_utf8 few word = (
+notify_plain later by core to action.Increment index utf8 small to_utf8 few word = (
   refl,
   refl,
   IsUtf8-are_ascii _ refl,
@@ -125,7 +126,7 @@ notify_plain Two by core to action.Increment index utf8 small to_utf8 few word =
     (refl, refl, small, (refl, refl, IsUtf8-are_ascii _ refl, (refl, refl, few, (refl, refl, to_utf8, tt)))),
   ),
 )
-notify_plain Two by core to (action.Set value) index utf8 small to_utf8 few word = (
+notify_plain later by core to (action.Set value) index utf8 small to_utf8 few word = (
   refl,
   refl,
   IsUtf8-are_ascii _ refl,
@@ -136,7 +137,7 @@ notify_plain Two by core to (action.Set value) index utf8 small to_utf8 few word
     (refl, refl, small, (refl, refl, IsUtf8-are_ascii _ refl, (refl, refl, few, (refl, refl, to_utf8, (refl, refl, omega arith, tt))))),
   ),
 )
-notify_plain Two by core to (action.SetNew value) index utf8 small to_utf8 few word = (
+notify_plain later by core to (action.SetNew value) index utf8 small to_utf8 few word = (
   refl,
   refl,
   IsUtf8-are_ascii _ refl,
@@ -160,9 +161,9 @@ interrupt_plain One core to (action.Set value) index small to_utf8 few word =
     (refl, refl, IsUtf8-are_ascii _ refl, (refl, refl, small, (refl, refl, IsUtf8-are_ascii _ refl, (refl, refl, to_utf8, (refl, refl, omega arith, tt)))))
 interrupt_plain One core to (action.SetNew value) index small to_utf8 few word =
     (refl, refl, IsUtf8-are_ascii _ refl, (refl, refl, small, (refl, refl, IsUtf8-are_ascii _ refl, (refl, refl, to_utf8, (refl, refl, omega arith, tt)))))
-interrupt_plain Two core to action.Nothing index small to_utf8 few word =
+interrupt_plain later core to action.Nothing index small to_utf8 few word =
     (refl, refl, IsUtf8-are_ascii _ refl, (refl, refl, small, (refl, refl, IsUtf8-are_ascii _ refl, (refl, refl, few, (refl, refl, to_utf8, tt)))))
-interrupt_plain Two core to (action.SetBits bits) index small to_utf8 few word = (
+interrupt_plain later core to (action.SetBits bits) index small to_utf8 few word = (
   refl,
   refl,
   IsUtf8-are_ascii _ refl,
@@ -173,9 +174,9 @@ interrupt_plain Two core to (action.SetBits bits) index small to_utf8 few word =
     (refl, refl, IsUtf8-are_ascii _ refl, (refl, refl, few, (refl, refl, to_utf8, (refl, refl, omega arith, tt)))),
   ),
 )
-interrupt_plain Two core to action.Increment index small to_utf8 few word =
+interrupt_plain later core to action.Increment index small to_utf8 few word =
     (refl, refl, IsUtf8-are_ascii _ refl, (refl, refl, small, (refl, refl, IsUtf8-are_ascii _ refl, (refl, refl, few, (refl, refl, to_utf8, tt)))))
-interrupt_plain Two core to (action.Set value) index small to_utf8 few word = (
+interrupt_plain later core to (action.Set value) index small to_utf8 few word = (
   refl,
   refl,
   IsUtf8-are_ascii _ refl,
@@ -186,7 +187,7 @@ interrupt_plain Two core to (action.Set value) index small to_utf8 few word = (
     (refl, refl, IsUtf8-are_ascii _ refl, (refl, refl, few, (refl, refl, to_utf8, (refl, refl, omega arith, tt)))),
   ),
 )
-interrupt_plain Two core to (action.SetNew value) index small to_utf8 few word = (
+interrupt_plain later core to (action.SetNew value) index small to_utf8 few word = (
   refl,
   refl,
   IsUtf8-are_ascii _ refl,
@@ -216,7 +217,7 @@ wait_plain One by core entry exit ticks index utf8 small few entry_word exit_wor
     ),
   ),
 )
-wait_plain Two by core entry exit ticks index utf8 small few entry_word exit_word ticks_word = (
+wait_plain later by core entry exit ticks index utf8 small few entry_word exit_word ticks_word = (
   refl,
   refl,
   utf8,
@@ -241,7 +242,7 @@ take_plain One by core clear ticks index utf8 small few word = (
   utf8,
   (refl, refl, tt, (refl, refl, small, (refl, refl, IsUtf8-are_ascii _ refl, (refl, refl, omega (arith, word), tt)))),
 )
-take_plain Two by core clear ticks index utf8 small few word = (
+take_plain later by core clear ticks index utf8 small few word = (
   refl,
   refl,
   utf8,
@@ -256,7 +257,7 @@ state_clear_plain One by core to index utf8 small to_utf8 few = (
   utf8,
   (refl, refl, small, (refl, refl, IsUtf8-are_ascii _ refl, (refl, refl, to_utf8, tt))),
 )
-state_clear_plain Two by core to index utf8 small to_utf8 few = (
+state_clear_plain later by core to index utf8 small to_utf8 few = (
   refl,
   refl,
   utf8,
@@ -267,7 +268,7 @@ value_clear_plain : (format : Format) (by : List ℕ) (core : ℕ) (to : List �
     2 ^ 32 → IsPlain (value_clear_data format by core to bits index)
 value_clear_plain One by core to bits index utf8 small to_utf8 few word =
     (refl, refl, omega (arith, word), (refl, refl, utf8, (refl, refl, small, (refl, refl, IsUtf8-are_ascii _ refl, (refl, refl, to_utf8, tt)))))
-value_clear_plain Two by core to bits index utf8 small to_utf8 few word = (
+value_clear_plain later by core to bits index utf8 small to_utf8 few word = (
   refl,
   refl,
   omega (arith, word),
@@ -362,12 +363,18 @@ tasks_plain config (task ∷ tasks) few each =
     let priority : task.priority < config.priorities = grind (arith, nat_tests, each.0.fits) in
     (task_plain task each.0.named (omega arith) (omega (arith, each.0.mask)), tasks_plain config tasks few each.1)
 
+queues_plain : (queues : List QueueArgs) → AllByRecursion IsQueueOfWords queues → ArePlain (items_of (map queue_data queues))
+queues_plain [] each = tt
+queues_plain (queue ∷ queues) each =
+    ((refl, refl, omega (arith, each.0.most), (refl, refl, omega (arith, each.0.messages), tt)), queues_plain queues each.1)
+
 -- what the proofs ask of a session
 pub record IsWritable (header : Header) (steps : List Step) : Type 0 where
   pub limits : IsWithinLimits header
   pub tick : header.config.tick < 2 ^ 32
   pub each_task : AllByRecursion (IsTask header.config) header.tasks
   pub names : AreNames header
+  pub each_queue : AllByRecursion IsQueueOfWords (unwrap_or header.queues [])
   pub each_step : AllByRecursion (λ made. StepFits header made × IsStepOfWords made) steps
 
 data_plain : (format : Format) (header : Header) (steps : List Step) → IsWritable header steps → IsPlain (data_in format header steps)
@@ -441,9 +448,51 @@ data_plain Two header steps h =
         ),
       ),
     )
+data_plain Three header steps h =
+    let limits = h.limits in (
+      refl,
+      refl,
+      omega (arith, limits.few_cores),
+      (
+        refl,
+        refl,
+        omega arith,
+        (
+          refl,
+          refl,
+          omega (arith, limits.few_mutexes),
+          (
+            refl,
+            refl,
+            omega (arith, limits.few_notes),
+            (
+              refl,
+              refl,
+              omega (arith, limits.few_priorities),
+              (
+                refl,
+                refl,
+                queues_plain (unwrap_or header.queues []) h.each_queue,
+                (
+                  refl,
+                  refl,
+                  tt,
+                  (
+                    refl,
+                    refl,
+                    steps_plain Three header steps limits h.names h.each_step,
+                    (refl, refl, tasks_plain header.config header.tasks limits.few_priorities h.each_task, (refl, refl, omega (arith, h.tick), tt)),
+                  ),
+                ),
+              ),
+            ),
+          ),
+        ),
+      ),
+    )
 
 pub session_plain : (header : Header) (steps : List Step) → IsWritable header steps → IsPlain (session_data header steps)
-session_plain header steps h = data_plain (format_for header.config) header steps h
+session_plain header steps h = data_plain (format_for header) header steps h
 
 items_within : {A : Type 0} (data_of : A → Data) (n : ℕ) → ((x : A) → depth (data_of x) ≤ n) → (xs : List A) → items_depth (items_of (map data_of xs)) ≤ n
 items_within data_of n each [] = omega arith
@@ -455,11 +504,11 @@ notify_depth One by core to (action.SetBits bits) index = omega arith
 notify_depth One by core to action.Increment index = omega arith
 notify_depth One by core to (action.Set value) index = omega arith
 notify_depth One by core to (action.SetNew value) index = omega arith
-notify_depth Two by core to action.Nothing index = omega arith
-notify_depth Two by core to (action.SetBits bits) index = omega arith
-notify_depth Two by core to action.Increment index = omega arith
-notify_depth Two by core to (action.Set value) index = omega arith
-notify_depth Two by core to (action.SetNew value) index = omega arith
+notify_depth later by core to action.Nothing index = omega arith
+notify_depth later by core to (action.SetBits bits) index = omega arith
+notify_depth later by core to action.Increment index = omega arith
+notify_depth later by core to (action.Set value) index = omega arith
+notify_depth later by core to (action.SetNew value) index = omega arith
 
 interrupt_depth : (format : Format) (core : ℕ) (to : List ℕ) (what : NotifyAction) (index : ℕ) → depth (interrupt_data format core to what index) ≤ 1
 interrupt_depth One core to action.Nothing index = omega arith
@@ -467,11 +516,11 @@ interrupt_depth One core to (action.SetBits bits) index = omega arith
 interrupt_depth One core to action.Increment index = omega arith
 interrupt_depth One core to (action.Set value) index = omega arith
 interrupt_depth One core to (action.SetNew value) index = omega arith
-interrupt_depth Two core to action.Nothing index = omega arith
-interrupt_depth Two core to (action.SetBits bits) index = omega arith
-interrupt_depth Two core to action.Increment index = omega arith
-interrupt_depth Two core to (action.Set value) index = omega arith
-interrupt_depth Two core to (action.SetNew value) index = omega arith
+interrupt_depth later core to action.Nothing index = omega arith
+interrupt_depth later core to (action.SetBits bits) index = omega arith
+interrupt_depth later core to action.Increment index = omega arith
+interrupt_depth later core to (action.Set value) index = omega arith
+interrupt_depth later core to (action.SetNew value) index = omega arith
 
 call_depth : (format : Format) (header : Header) (by : List ℕ) (core : ℕ) (made : Call) → depth (call_data format header by core made) ≤ 1
 call_depth format header by core call.Yield = omega arith
@@ -483,13 +532,13 @@ call_depth format header by core (call.PreemptOff task) = omega arith
 call_depth format header by core (call.PreemptOn task) = omega arith
 call_depth format header by core (call.Notify note) = notify_depth format by core (task_name header note.task) note.action note.index
 call_depth One header by core (call.NotifyWait entry exit ticks index) = omega arith
-call_depth Two header by core (call.NotifyWait entry exit ticks index) = omega arith
+call_depth later header by core (call.NotifyWait entry exit ticks index) = omega arith
 call_depth One header by core (call.NotifyTake clear ticks index) = omega arith
-call_depth Two header by core (call.NotifyTake clear ticks index) = omega arith
+call_depth later header by core (call.NotifyTake clear ticks index) = omega arith
 call_depth One header by core (call.StateClear task index) = omega arith
-call_depth Two header by core (call.StateClear task index) = omega arith
+call_depth later header by core (call.StateClear task index) = omega arith
 call_depth One header by core (call.ValueClear task bits index) = omega arith
-call_depth Two header by core (call.ValueClear task bits index) = omega arith
+call_depth later header by core (call.ValueClear task bits index) = omega arith
 call_depth format header by core (call.MutexTake mutex ticks) = omega arith
 call_depth format header by core (call.MutexGive mutex) = omega arith
 call_depth format header by core call.Finish = omega arith
@@ -508,6 +557,13 @@ data_depth One header steps =
     omega (arith, items_within (step_data One header) 1 (step_depth One header) steps, items_within task_data 1 (λ task. omega arith) header.tasks)
 data_depth Two header steps =
     omega (arith, items_within (step_data Two header) 1 (step_depth Two header) steps, items_within task_data 1 (λ task. omega arith) header.tasks)
+data_depth Three header steps =
+    omega (
+      arith,
+      items_within (step_data Three header) 1 (step_depth Three header) steps,
+      items_within task_data 1 (λ task. omega arith) header.tasks,
+      items_within queue_data 1 (λ queue. omega arith) (unwrap_or header.queues []),
+    )
 
 pub session_depth : (header : Header) (steps : List Step) → depth (session_data header steps) ≤ max_depth
-session_depth header steps = data_depth (format_for header.config) header steps
+session_depth header steps = data_depth (format_for header) header steps

@@ -1,7 +1,7 @@
 -- A session that is written is read back.
 use Rattle.std.proofs.Common.{◌≡◌, ℕ, suc, ◌-◌, ◌^◌, ◌<◌, ◌≤◌, ◌==◌, Bool, true, false, cond, List, [], ◌∷◌, map, codes, refl, sym, ap, arith, ltb, lt-ltb}
-use Rattle.std.proofs.Common.{Option, None, Result, Ok}
-use Rattle.std.specs.Prelude.{All, IsTrue, ⊤}
+use Rattle.std.proofs.Common.{Option, Some, None, Result, Ok}
+use Rattle.std.specs.Prelude.{All, IsTrue, is_some, ⊤}
 use Rattle.std.specs.List.{list_all, AllByRecursion}
 use Rattle.std.proofs.lemmas.Bool.{and_parts}
 use Rattle.std.proofs.lemmas.Bool.Decides.{nat_tests}
@@ -10,6 +10,7 @@ use Rattle.serde_json.specs.Data.{Data}
 use Rattle.serde_json.specs.Find.{get}
 use Rattle.serde_json.specs.View.{items_of}
 use Rattle.bench_types.specs.declared.header.Config.{Config}
+use Rattle.bench_types.specs.declared.header.QueueArgs.{QueueArgs}
 use Rattle.bench_types.specs.declared.header.TaskArgs.{TaskArgs}
 use Rattle.bench_types.specs.declared.header.Header.{Header}
 use Rattle.bench_types.specs.declared.note.NotifyAction.{NotifyAction}
@@ -29,16 +30,16 @@ use Rattle.session_text.specs.Accepted.{items_accepted}
 use Rattle.session_text.specs.NotifyAction.{action_at, action_kind_at, action_of_kind_at}
 use Rattle.session_text.specs.Array.{each_at, list_at}
 use Rattle.session_text.specs.declared.format.Format.{Format}
-use Rattle.session_text.specs.declared.format.Format.TheVariants.{One, Two}
-use Rattle.session_text.specs.Format.{format_at, notes_at, index_at}
+use Rattle.session_text.specs.declared.format.Format.TheVariants.{One, Two, Three}
+use Rattle.session_text.specs.Format.{format_at, notes_at, index_at, queue_at, queues_at}
 use Rattle.session_text.specs.Header.{task_at, config_at, header_at}
 use Rattle.session_text.specs.Member.{number_at, number_or_at, text_at, flag_at, array_at}
-use Rattle.bench_types.proofs.Passes.{has_valid_args, checked_flaw, checked_header, IsWithinLimits}
+use Rattle.bench_types.proofs.Passes.{has_valid_args, checked_flaw, checked_header, queue_words, IsQueueOfWords, IsWithinLimits}
 use Rattle.bench_types.proofs.StepFlaws.{step_unflawed}
 use Rattle.session_text.specs.Names.{names_of, number_of, user_names}
 use Rattle.session_text.specs.Session.{session_at, session_accepted, steps_accepted, session}
 use Rattle.session_text.specs.Step.{step_at, kind_at, step_of_kind_at, task_named_at, note_at, wait_at, call_at}
-use Rattle.session_write.specs.Written.{task_data, task_name, step_data, format_for, data_in, session_data, WrittenReadsBack}
+use Rattle.session_write.specs.Written.{queue_data, task_data, task_name, step_data, format_for, data_in, session_data, WrittenReadsBack}
 use Rattle.session_write.proofs.Limits.{StepFits, IsCallInPlace, IsNoteThere, IsUserTask, in_place}
 use Rattle.session_write.proofs.Plain.{IsTask, IsWritable, session_plain, session_depth, utf8_name}
 use Rattle.session_write.proofs.ReadBack.{document-compact_text}
@@ -64,17 +65,23 @@ core_number header core h there = lt-ltb _ _ (omega (arith, h.few_cores))
 mutex_number : (header : Header) (mutex : ℕ) → IsWithinLimits header → mutex < header.config.mutexes → ltb mutex (2 ^ 32) ≡ true
 mutex_number header mutex h there = lt-ltb _ _ (omega (arith, h.few_mutexes))
 
--- in the first format each task has one notification
+-- in the first format each task has one notification; the third alone says which queues there are
 abbrev pub Fits : Format → Header → Type 0
-Fits One header = header.config.notes ≡ 1
-Fits Two header = ⊤
+Fits One header = (header.config.notes ≡ 1) × (header.queues ≡ None)
+Fits Two header = header.queues ≡ None
+Fits Three header = (queues : List QueueArgs) × (header.queues ≡ Some queues)
 
-fits_for : (header : Header) → Fits (format_for header.config) header
-fits_for header = at (header.config.notes == 1) refl
+fits_for : (header : Header) → Fits (format_for header) header
+fits_for header = from header.queues refl
   where
-    at : (b : Bool) → (header.config.notes == 1) ≡ b → Fits (cond b One Two) header
-    at true same = grind (arith, nat_tests, same)
-    at false same = tt
+    at : header.queues ≡ None → (b : Bool) → (header.config.notes == 1) ≡ b → Fits (cond b One Two) header
+    at none true same = (grind (arith, nat_tests, same), none)
+    at none false same = none
+
+    from : (queues : Option (List QueueArgs)) → header.queues ≡ queues → Fits
+        (cond (is_some queues) Three (cond (header.config.notes == 1) One Two)) header
+    from None is = at is (header.config.notes == 1) refl
+    from (Some queues) is = (queues, is)
 
 -- the only index in the first format
 first_index : (header : Header) (index : ℕ) → header.config.notes ≡ 1 → index < header.config.notes → index ≡ 0
@@ -89,14 +96,14 @@ notify_read : (format : Format) (header : Header) (at : List ℕ) (core task to 
     (step.Call core task (call.Notify (record { task = to; action = what; index = index })))
 unfolding step_at kind_at text_at step_of_kind_at number_at task_named_at call_at note_at action_at action_kind_at action_of_kind_at index_at number_or_at
 notify_read One header at core task to action.Nothing index fits h there caller target word = rw (
-  first_index header index fits target.index_there,
+  first_index header index fits.0 target.index_there,
   core_number header core h there,
   target_named header task h caller,
   target_named header to h
       target.owner,
 ) refl
 notify_read One header at core task to (action.SetBits bits) index fits h there caller target word = rw (
-  first_index header index fits target.index_there,
+  first_index header index fits.0 target.index_there,
   core_number header core h there,
   lt-ltb _ _ word,
   target_named header task h caller,
@@ -104,14 +111,14 @@ notify_read One header at core task to (action.SetBits bits) index fits h there 
       to h target.owner,
 ) refl
 notify_read One header at core task to action.Increment index fits h there caller target word = rw (
-  first_index header index fits target.index_there,
+  first_index header index fits.0 target.index_there,
   core_number header core h there,
   target_named header task h caller,
   target_named header to h
       target.owner,
 ) refl
 notify_read One header at core task to (action.Set value) index fits h there caller target word = rw (
-  first_index header index fits target.index_there,
+  first_index header index fits.0 target.index_there,
   core_number header core h there,
   lt-ltb _ _ word,
   target_named header task h caller,
@@ -119,17 +126,17 @@ notify_read One header at core task to (action.Set value) index fits h there cal
       to h target.owner,
 ) refl
 notify_read One header at core task to (action.SetNew value) index fits h there caller target word = rw (
-  first_index header index fits target.index_there,
+  first_index header index fits.0 target.index_there,
   core_number header core h there,
   lt-ltb _ _ word,
   target_named header task h caller,
   target_named header
       to h target.owner,
 ) refl
-notify_read Two header at core task to action.Nothing index fits h there caller target word = rw
+notify_read later header at core task to action.Nothing index fits h there caller target word = rw
     (index_number header index h target.index_there, core_number header core h there, target_named header task h caller, target_named header to h target.owner)
     refl
-notify_read Two header at core task to (action.SetBits bits) index fits h there caller target word = rw (
+notify_read later header at core task to (action.SetBits bits) index fits h there caller target word = rw (
   index_number header index h target.index_there,
   core_number header core h there,
   lt-ltb _ _ word,
@@ -137,10 +144,10 @@ notify_read Two header at core task to (action.SetBits bits) index fits h there 
   target_named header to
       h target.owner,
 ) refl
-notify_read Two header at core task to action.Increment index fits h there caller target word = rw
+notify_read later header at core task to action.Increment index fits h there caller target word = rw
     (index_number header index h target.index_there, core_number header core h there, target_named header task h caller, target_named header to h target.owner)
     refl
-notify_read Two header at core task to (action.Set value) index fits h there caller target word = rw (
+notify_read later header at core task to (action.Set value) index fits h there caller target word = rw (
   index_number header index h target.index_there,
   core_number header core h there,
   lt-ltb _ _ word,
@@ -148,7 +155,7 @@ notify_read Two header at core task to (action.Set value) index fits h there cal
   target_named header to
       h target.owner,
 ) refl
-notify_read Two header at core task to (action.SetNew value) index fits h there caller target word = rw (
+notify_read later header at core task to (action.SetNew value) index fits h there caller target word = rw (
   index_number header index h target.index_there,
   core_number header core h there,
   lt-ltb _ _ word,
@@ -163,24 +170,24 @@ interrupt_read : (format : Format) (header : Header) (at : List ℕ) (core to : 
     (step.Interrupt core (record { task = to; action = what; index = index }))
 unfolding step_at kind_at text_at step_of_kind_at number_at task_named_at note_at action_at action_kind_at action_of_kind_at index_at number_or_at
 interrupt_read One header at core to action.Nothing index fits h there target word = rw
-    (first_index header index fits target.index_there, core_number header core h there, target_named header to h target.owner) refl
+    (first_index header index fits.0 target.index_there, core_number header core h there, target_named header to h target.owner) refl
 interrupt_read One header at core to (action.SetBits bits) index fits h there target word = rw
-    (first_index header index fits target.index_there, core_number header core h there, lt-ltb _ _ word, target_named header to h target.owner) refl
+    (first_index header index fits.0 target.index_there, core_number header core h there, lt-ltb _ _ word, target_named header to h target.owner) refl
 interrupt_read One header at core to action.Increment index fits h there target word = rw
-    (first_index header index fits target.index_there, core_number header core h there, target_named header to h target.owner) refl
+    (first_index header index fits.0 target.index_there, core_number header core h there, target_named header to h target.owner) refl
 interrupt_read One header at core to (action.Set value) index fits h there target word = rw
-    (first_index header index fits target.index_there, core_number header core h there, lt-ltb _ _ word, target_named header to h target.owner) refl
+    (first_index header index fits.0 target.index_there, core_number header core h there, lt-ltb _ _ word, target_named header to h target.owner) refl
 interrupt_read One header at core to (action.SetNew value) index fits h there target word = rw
-    (first_index header index fits target.index_there, core_number header core h there, lt-ltb _ _ word, target_named header to h target.owner) refl
-interrupt_read Two header at core to action.Nothing index fits h there target word = rw
+    (first_index header index fits.0 target.index_there, core_number header core h there, lt-ltb _ _ word, target_named header to h target.owner) refl
+interrupt_read later header at core to action.Nothing index fits h there target word = rw
     (index_number header index h target.index_there, core_number header core h there, target_named header to h target.owner) refl
-interrupt_read Two header at core to (action.SetBits bits) index fits h there target word = rw
+interrupt_read later header at core to (action.SetBits bits) index fits h there target word = rw
     (index_number header index h target.index_there, core_number header core h there, lt-ltb _ _ word, target_named header to h target.owner) refl
-interrupt_read Two header at core to action.Increment index fits h there target word = rw
+interrupt_read later header at core to action.Increment index fits h there target word = rw
     (index_number header index h target.index_there, core_number header core h there, target_named header to h target.owner) refl
-interrupt_read Two header at core to (action.Set value) index fits h there target word = rw
+interrupt_read later header at core to (action.Set value) index fits h there target word = rw
     (index_number header index h target.index_there, core_number header core h there, lt-ltb _ _ word, target_named header to h target.owner) refl
-interrupt_read Two header at core to (action.SetNew value) index fits h there target word = rw
+interrupt_read later header at core to (action.SetNew value) index fits h there target word = rw
     (index_number header index h target.index_there, core_number header core h there, lt-ltb _ _ word, target_named header to h target.owner) refl
 
 call_read : (format : Format) (header : Header) (at : List ℕ) (core task : ℕ) (made : Call) → Fits format header → IsWithinLimits header → IsCallInPlace header
@@ -203,14 +210,14 @@ call_read format header at core task (call.PreemptOn to) fits h place words = rw
 call_read format header at core task (call.Notify note) fits h place words = notify_read format header at core task note.task note.action note.index fits h
     place.core_there place.caller place.target words
 call_read One header at core task (call.NotifyWait entry exit ticks index) fits h place words = rw (
-  first_index header index fits place.target,
+  first_index header index fits.0 place.target,
   core_number header core h place.core_there,
   lt-ltb _ _ words.0,
   lt-ltb _ _ words.1,
   lt-ltb _ _ words.2,
   target_named header task h place.caller,
 ) refl
-call_read Two header at core task (call.NotifyWait entry exit ticks index) fits h place words = rw (
+call_read later header at core task (call.NotifyWait entry exit ticks index) fits h place words = rw (
   index_number header index h place.target,
   core_number header core h place.core_there,
   lt-ltb _ _ words.0,
@@ -219,17 +226,17 @@ call_read Two header at core task (call.NotifyWait entry exit ticks index) fits 
   target_named header task h place.caller,
 ) refl
 call_read One header at core task (call.NotifyTake clear ticks index) fits h place words = rw
-    (first_index header index fits place.target, core_number header core h place.core_there, lt-ltb _ _ words, target_named header task h place.caller) refl
-call_read Two header at core task (call.NotifyTake clear ticks index) fits h place words = rw
+    (first_index header index fits.0 place.target, core_number header core h place.core_there, lt-ltb _ _ words, target_named header task h place.caller) refl
+call_read later header at core task (call.NotifyTake clear ticks index) fits h place words = rw
     (index_number header index h place.target, core_number header core h place.core_there, lt-ltb _ _ words, target_named header task h place.caller) refl
 call_read One header at core task (call.StateClear to index) fits h place words = rw (
-  first_index header index fits place.target.index_there,
+  first_index header index fits.0 place.target.index_there,
   core_number header core h place.core_there,
   target_named header task h place.caller,
   target_named
       header to h place.target.owner,
 ) refl
-call_read Two header at core task (call.StateClear to index) fits h place words = rw (
+call_read later header at core task (call.StateClear to index) fits h place words = rw (
   index_number header index h place.target.index_there,
   core_number header core h place.core_there,
   target_named header task h place.caller,
@@ -237,14 +244,14 @@ call_read Two header at core task (call.StateClear to index) fits h place words 
       header to h place.target.owner,
 ) refl
 call_read One header at core task (call.ValueClear to bits index) fits h place words = rw (
-  first_index header index fits place.target.index_there,
+  first_index header index fits.0 place.target.index_there,
   core_number header core h place.core_there,
   lt-ltb _ _ words,
   target_named header task h
       place.caller,
   target_named header to h place.target.owner,
 ) refl
-call_read Two header at core task (call.ValueClear to bits index) fits h place words = rw (
+call_read later header at core task (call.ValueClear to bits index) fits h place words = rw (
   index_number header index h place.target.index_there,
   core_number header core h place.core_there,
   lt-ltb _ _ words,
@@ -312,8 +319,8 @@ config_read One header steps at fits h =
     let cores : header.config.cores < 2 ^ 32 = omega (arith, limits.few_cores) in
     let priorities : header.config.priorities < 2 ^ 32 = omega (arith, limits.few_priorities) in
     let mutexes : header.config.mutexes < 2 ^ 32 = omega (arith, limits.few_mutexes) in
-    rw (lt-ltb _ _ cores, lt-ltb _ _ priorities, lt-ltb _ _ mutexes, lt-ltb _ _ h.tick) (ap Ok (config_of_one header.config fits))
-config_read Two header steps at fits h =
+    rw (lt-ltb _ _ cores, lt-ltb _ _ priorities, lt-ltb _ _ mutexes, lt-ltb _ _ h.tick) (ap Ok (config_of_one header.config fits.0))
+config_read later header steps at fits h =
     let limits = h.limits in
     let cores : header.config.cores < 2 ^ 32 = omega (arith, limits.few_cores) in
     let priorities : header.config.priorities < 2 ^ 32 = omega (arith, limits.few_priorities) in
@@ -325,24 +332,44 @@ tasks_found : (format : Format) (header : Header) (steps : List Step) (at : List
     (data_in format header steps) ≡ Ok header.tasks
 unfolding data_in list_at array_at
 tasks_found One header steps at h = tasks_read header.config _ 0 header.tasks h.limits.few_priorities h.each_task
-tasks_found Two header steps at h = tasks_read header.config _ 0 header.tasks h.limits.few_priorities h.each_task
+tasks_found later header steps at h = tasks_read header.config _ 0 header.tasks h.limits.few_priorities h.each_task
+
+queue_read : (at : List ℕ) (queue : QueueArgs) → IsQueueOfWords queue → queue_at at (queue_data queue) ≡ Ok queue
+unfolding queue_at number_at
+queue_read at queue words = rw (lt-ltb _ _ words.most, lt-ltb _ _ words.messages) refl
+
+queues_read : (at : List ℕ) (index : ℕ) (queues : List QueueArgs) → AllByRecursion IsQueueOfWords queues → each_at queue_at at index
+    (items_of (map queue_data queues)) ≡ Ok queues
+queues_read at index [] each = refl
+queues_read at index (queue ∷ queues) each = rw (queue_read _ queue each.0, queues_read at (suc index) queues each.1) refl
+
+queues_found : (format : Format) (header : Header) (steps : List Step) (at : List ℕ) → Fits format header → IsWritable header steps → queues_at format at
+    (data_in format header steps) ≡ Ok header.queues
+unfolding data_in queues_at list_at array_at
+queues_found One header steps at fits h = ap Ok (sym fits.1)
+queues_found Two header steps at fits h = ap Ok (sym fits)
+queues_found Three header steps at fits h =
+    let words = h.each_queue in
+    rw fits.1 (rw (queues_read _ 0 fits.0 (rw fits.1 at words)) refl)
 
 header_read : (format : Format) (header : Header) (steps : List Step) (at : List ℕ) → Fits format header → header_flaw header ≡ None → IsWritable header steps →
     header_at format at (data_in format header steps) ≡ Ok (Ok header)
 unfolding header_at
 header_read format header steps at fits valid h =
-    rw (config_read format header steps at fits h, tasks_found format header steps at h, valid) refl
+    rw (config_read format header steps at fits h, queues_found format header steps at fits h, tasks_found format header steps at h, valid) refl
 
 format_read : (format : Format) (header : Header) (steps : List Step) (at : List ℕ) → format_at at (data_in format header steps) ≡ Ok format
 unfolding data_in format_at number_at
 format_read One header steps at = refl
 format_read Two header steps at = refl
+format_read Three header steps at = refl
 
 steps_found : (format : Format) (header : Header) (steps : List Step) (at : List ℕ) → Fits format header → IsWritable header steps → list_at
     (step_at format (names_of header)) at (codes "steps") (data_in format header steps) ≡ Ok steps
 unfolding data_in list_at array_at
 steps_found One header steps at fits h = steps_read One header _ 0 steps fits h.limits h.each_step
 steps_found Two header steps at fits h = steps_read Two header _ 0 steps fits h.limits h.each_step
+steps_found Three header steps at fits h = steps_read Three header _ 0 steps fits h.limits h.each_step
 
 data_read : (format : Format) (header : Header) (steps : List Step) (at : List ℕ) → Fits format header → header_flaw header ≡ None → IsWritable header steps →
     session_at at (data_in format header steps) ≡ Ok (format, Ok header, steps)
@@ -357,6 +384,12 @@ data_read Two header steps at fits valid h = rw (
   format_read Two header steps at,
   header_read Two header steps at fits valid h,
   steps_found Two header steps
+      at fits h,
+) refl
+data_read Three header steps at fits valid h = rw (
+  format_read Three header steps at,
+  header_read Three header steps at fits valid h,
+  steps_found Three header steps
       at fits h,
 ) refl
 
@@ -377,6 +410,7 @@ writable header steps h =
       tick = h.header.tick;
       each_task = all_of header.config header.tasks within.args names masks;
       names = λ task high low. utf8_name (task_name header task) (h.header.names (task - header.config.cores) _ (omega arith));
+      each_queue = queue_words header h.header.passes;
       each_step = recursion_from_All (λ made. StepFits header made × IsStepOfWords made) steps
           (λ k d short. (in_place header _ (h.steps k d short).passes, (h.steps k d short).words));
     }
@@ -405,7 +439,7 @@ pub written_reads_back : WrittenReadsBack
 unfolding session
 written_reads_back header steps h =
     let writes = writable header steps h in
-    let format = format_for header.config in
+    let format = format_for header in
     let d = session_data header steps in
     let passing = steps_pass header d steps (λ k d short. step_unflawed (settings_of header) _ (h.steps k d short).passes) in
     let valid = checked_flaw header h.header.passes in

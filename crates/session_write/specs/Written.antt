@@ -1,12 +1,13 @@
 -- A session as it is written: a JSON value, whose members stand in ascending byte order, in its
 -- compact text.
-use Rattle.std.specs.Prelude.{◌≡◌, ◌-◌, ℕ, ◌==◌, Bool, List, [], ◌∷◌, ◌++◌, map, codes, Option, Some, None, Ok, slice_index_or, if◌then◌else◌}
+use Rattle.std.specs.Prelude.{◌≡◌, ◌-◌, ℕ, ◌==◌, Bool, List, [], ◌∷◌, ◌++◌, map, codes, Option, Some, None, Ok, is_some, slice_index_or, unwrap_or, if◌then◌else◌}
 use Rattle.serde_json.specs.Data.{Data, Members, number, unsigned, string, boolean, array, object, no_members, member, put}
 use Rattle.serde_json.specs.View.{items_of}
 use Rattle.serde_json.specs.Written.{compact_text}
 use Rattle.bench_types.specs.declared.note.NotifyAction.{NotifyAction}
 use Rattle.bench_types.specs.declared.note.NotifyAction.TheVariants as action
 use Rattle.bench_types.specs.declared.header.Config.{Config}
+use Rattle.bench_types.specs.declared.header.QueueArgs.{QueueArgs}
 use Rattle.bench_types.specs.declared.header.TaskArgs.{TaskArgs}
 use Rattle.bench_types.specs.declared.header.Header.{Header}
 use Rattle.bench_types.specs.declared.step.Step.{Step}
@@ -15,7 +16,7 @@ use Rattle.bench_types.specs.declared.step.Call.{Call}
 use Rattle.bench_types.specs.declared.step.Call.TheVariants as call
 use Rattle.bench_types.specs.Session.{IsSession}
 use Rattle.session_text.specs.declared.format.Format.{Format}
-use Rattle.session_text.specs.declared.format.Format.TheVariants.{One, Two}
+use Rattle.session_text.specs.declared.format.Format.TheVariants.{One, Two, Three}
 use Rattle.session_text.specs.NotifyAction.{action_number}
 use Rattle.session_text.specs.Session.{session}
 
@@ -35,9 +36,19 @@ with_members (first ∷ others) old = with_members others (put first.0 first.1 o
 abbrev pub whole : ℕ → Data
 whole n = number (unsigned n)
 
--- the format that a session is written in: the first where each task has one notification
-abbrev pub format_for : Config → Format
-format_for config = if config.notes == 1 then One else Two
+-- the format that a session of the header is written in: the third where it says which queues there
+-- are, else the first where each task has one notification
+abbrev pub format_for : Header → Format
+format_for header =
+    if is_some header.queues then Three else if header.config.notes == 1 then One else Two
+
+abbrev pub queue_data : QueueArgs → Data
+queue_data queue =
+    object_with ((codes "length", whole queue.length) ∷ (codes "messages", whole queue.messages)
+    ∷ [])
+
+abbrev pub queues_data : Option (List QueueArgs) → Data
+queues_data queues = array (items_of (map queue_data (unwrap_or queues [])))
 
 abbrev pub task_data : TaskArgs → Data
 task_data task =
@@ -93,10 +104,11 @@ action_word action.Increment = codes "increment"
 action_word (action.Set value) = codes "set"
 action_word (action.SetNew value) = codes "set_new"
 
--- the index of a notification, which the second format has
+-- the index of a notification, which the formats have from the second on
 abbrev pub index_member : Format → ℕ → List (List ℕ × Data)
 index_member One index = []
 index_member Two index = (codes "index", whole index) ∷ []
+index_member Three index = (codes "index", whole index) ∷ []
 
 -- the last member of a notification, where its action has a number
 abbrev pub value_member : Option ℕ → List (List ℕ × Data)
@@ -218,14 +230,31 @@ second_data config steps tasks = object_with (
     (codes "tasks", tasks) ∷
     (codes "tick", whole config.tick) ∷ [])
 
+-- and of the third, with these queues
+abbrev pub third_data : Config → Data → Data → Data → Data
+third_data config queues steps tasks = object_with (
+    (codes "cores", whole config.cores) ∷
+    (codes "format", whole 3) ∷
+    (codes "mutexes", whole config.mutexes) ∷
+    (codes "notes", whole config.notes) ∷
+    (codes "priorities", whole config.priorities) ∷
+    (codes "queues", queues) ∷
+    (codes "slicing", boolean config.slicing) ∷
+    (codes "steps", steps) ∷
+    (codes "tasks", tasks) ∷
+    (codes "tick", whole config.tick) ∷ [])
+
 unfoldable pub data_in : Format → Header → List Step → Data
 data_in One header steps =
     first_data header.config (steps_data One header steps) (tasks_data header.tasks)
 data_in Two header steps =
     second_data header.config (steps_data Two header steps) (tasks_data header.tasks)
+data_in Three header steps =
+    third_data header.config (queues_data header.queues) (steps_data Three header steps)
+    (tasks_data header.tasks)
 
 abbrev pub session_data : Header → List Step → Data
-session_data header steps = data_in (format_for header.config) header steps
+session_data header steps = data_in (format_for header) header steps
 
 abbrev pub written : Header → List Step → List ℕ
 written header steps = compact_text (session_data header steps)

@@ -62,7 +62,7 @@ pub(crate) fn put_index(
 {
     match format {
         Format::One => Ok(()),
-        Format::Two => put_whole(object, alloc, "index", index),
+        Format::Two | Format::Three => put_whole(object, alloc, "index", index),
     }
 }
 

@@ -1,19 +1,20 @@
 //! A session as a JSON text.
-ghost use Rattle.std.specs.Prelude.{◌≡◌, IfOk, Ok};
+ghost use Rattle.std.specs.Prelude.{◌≡◌, IfOk, Ok, Some};
 ghost use Rattle.serde_json.specs.View.{view};
 ghost use Rattle.bench_types.specs.Session.{IsSession};
 ghost use Rattle.session_text.specs.Session.{session};
-ghost use Rattle.session_write.specs.Written.{first_data, format_for, second_data, session_data, task_data, tasks_data, written};
+ghost use Rattle.session_write.specs.Written.{first_data, format_for, queue_data, queues_data, second_data, session_data, task_data, tasks_data, third_data, written};
 
 use crate::step::steps_value;
-use bench_types::{Config, Header, Step, TaskArgs};
+use bench_types::{Config, Header, Items, QueueArgs, Step, TaskArgs};
 use serde_json::{Value, json};
 use session_text::Format;
 use std::alloc::{AllocError, Global};
 
 /// Writes a session as a JSON text without spaces, with the members of each object in ascending
-/// byte order. The text has format 1 where each task has one notification, and else format 2, in
-/// which each step that is for a notification says its index.
+/// byte order. The text has format 3 where the session says which queues there are. Else it has
+/// format 1 where each task has one notification, and format 2 where it has more. From format 2 on
+/// each step that is for a notification says its index.
 pub fn write_session(alloc: Global, header: &Header, steps: &[Step]) -> Result<Vec<u8>, AllocError>
     requires { IsSession (record { header = header.now; steps = steps.now }) }
     ensures text { IfOk result (λ text. text.items ≡ written header.now steps.now) }
@@ -23,11 +24,13 @@ pub fn write_session(alloc: Global, header: &Header, steps: &[Step]) -> Result<V
     session_value(alloc, header, steps)?.to_vec(alloc)
 }
 
-/// The format that a session with these settings is written in.
-fn format_for(config: Config) -> Format
-    ensures { result ≡ format_for config }
+/// The format that a session of the header is written in.
+fn format_for(header: &Header) -> Format
+    ensures { result ≡ format_for header.now }
 {
-    if config.notes == 1 {
+    if header.queues.is_some() {
+        Format::Three
+    } else if header.config.notes == 1 {
         Format::One
     } else {
         Format::Two
@@ -39,12 +42,16 @@ fn session_value(alloc: Global, header: &Header, steps: &[Step]) -> Result<Value
     requires { IsSession (record { header = header.now; steps = steps.now }) }
     ensures { IfOk result (λ value. view value ≡ session_data header.now steps.now) }
 {
-    let format = format_for(header.config);
+    let format = format_for(header);
     let steps = steps_value(alloc, format, header, steps)?;
     let tasks = tasks_value(alloc, header.tasks.as_slice())?;
     match format {
         Format::One => first_value(alloc, header.config, steps, tasks),
         Format::Two => second_value(alloc, header.config, steps, tasks),
+        Format::Three => {
+            let queues = queues_value(alloc, &header.queues)?;
+            third_value(alloc, header.config, queues, steps, tasks)
+        }
     }
 }
 
@@ -89,6 +96,56 @@ fn second_value(
         "tasks": tasks,
         "tick": config.tick
     })
+}
+
+/// The same of format 3, with these queues.
+fn third_value(
+    alloc: Global,
+    config: Config,
+    queues: Value,
+    steps: Value,
+    tasks: Value,
+) -> Result<Value, AllocError>
+    ensures { IfOk result
+        (λ value. view value ≡ third_data config (view queues) (view steps) (view tasks)) }
+{
+    json!(in alloc; {
+        "cores": config.cores,
+        "format": 3u32,
+        "mutexes": config.mutexes,
+        "notes": config.notes,
+        "priorities": config.priorities,
+        "queues": queues,
+        "slicing": config.slicing,
+        "steps": steps,
+        "tasks": tasks,
+        "tick": config.tick
+    })
+}
+
+fn queue_value(alloc: Global, queue: QueueArgs) -> Result<Value, AllocError>
+    ensures { IfOk result (λ value. view value ≡ queue_data queue) }
+{
+    json!(in alloc; {"length": queue.length, "messages": queue.messages})
+}
+
+fn queue_values(alloc: Global, queues: &[QueueArgs]) -> Result<Value, AllocError>
+    ensures { IfOk result (λ value. view value ≡ queues_data (Some queues.now)) }
+{
+    let mut values = Vec::with_capacity(alloc, queues.len())?;
+    for queue in queues {
+        values.push(queue_value(alloc, *queue)?)?;
+    }
+    Ok(Value::Array(values))
+}
+
+fn queues_value(alloc: Global, queues: &Option<Items<QueueArgs>>) -> Result<Value, AllocError>
+    ensures { IfOk result (λ value. view value ≡ queues_data queues.now) }
+{
+    match queues {
+        Some(queues) => queue_values(alloc, queues.as_slice()),
+        None => queue_values(alloc, &[]),
+    }
 }
 
 fn tasks_value(alloc: Global, tasks: &[TaskArgs]) -> Result<Value, AllocError>

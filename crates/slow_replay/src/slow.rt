@@ -649,7 +649,8 @@ fn first_controls(alloc: Global, header: &Header) -> Result<Vec<TaskControl>, Al
 }
 
 fn settings_of(header: &Header) -> Settings
-    requires { header.now.config.cores + length header.now.tasks < 2 ^ 32 }
+    requires few { header.now.config.cores + length header.now.tasks < 2 ^ 32 }
+    requires passes { header_check header.now ≡ Ok tt }
     ensures { result ≡ settings_of header.now }
 {
     let config = header.config;
@@ -659,6 +660,7 @@ fn settings_of(header: &Header) -> Settings
         slicing: config.slicing,
         mutexes: config.mutexes,
         notes: config.notes,
+        queues: header.queue_count(),
         tasks: config.cores + header.tasks.as_slice().len() as u32,
     }
 }
@@ -668,6 +670,7 @@ fn unstarted(alloc: Global, header: &Header) -> Result<SlowTable, AllocError>
     requires cores { header.now.config.cores ≤ max_cores }
     requires tasks { length header.now.tasks ≤ max_tasks }
     requires notes { header.now.config.notes ≤ max_notes }
+    requires passes { header_check header.now ≡ Ok tt }
     ensures { IfOk result (λ table. table ≡ unstarted (first_stamps header.now) header.now) }
 {
     let settings = settings_of(header);

@@ -103,6 +103,7 @@ impl Scheduler {
             slicing: config.slicing,
             mutexes: config.mutexes,
             notes: config.notes,
+            queues: header.queue_count(),
             tasks,
         };
         let (cores, mutexes) = first_orders(alloc, header, settings)?;

@@ -1,8 +1,7 @@
 -- The worked sessions and the equal tables, computed on the definitions.
-use Rattle.std.proofs.Common.{◌≡◌, ℕ, ◌+◌, ◌-◌, ◌*◌, ◌<◌, ◌^◌, List, [], ◌∷◌, Option, Some, None, refl, sym, ap, ◌∙◌, arith}
+use Rattle.std.proofs.Common.{◌≡◌, ℕ, ◌+◌, ◌-◌, ◌*◌, ◌<◌, ◌^◌, Option, Some, None, refl, sym, ap, true≢false, ◌∙◌, arith}
 use Rattle.std.specs.Prelude.{option_map}
 use Rattle.std.proofs.Math.ListN.{get_or-map}
-use Rattle.bench_types.specs.declared.kernel_data.Waiter.{Waiter}
 use Rattle.bench_model.specs.declared.row.TaskState.{TaskState}
 use Rattle.bench_model.specs.declared.row.TaskState.TheVariants.{Ready, Blocked}
 use Rattle.bench_model.specs.declared.row.TaskRow.{TaskRow}
@@ -96,7 +95,8 @@ alike_later table = let tick = table.orders.tick in record {
   ready = λ i low. ready_so (row_at table.orders i).standing ∙ sym (ap (λ (r : TaskRow). stands_ready r.standing) (row_so table i));
   left = λ i low. wake_so tick (row_at table.orders i).standing ∙ sym (ap (λ (r : TaskRow). option_map (λ wake. wake - (tick + 2 ^ 32)) (wake_in r.standing))
       (row_so table i));
-  waiters = refl;
+  waits = λ i low. refl;
+  wait_order = λ mutex i j low below both. refl;
   deadlines = λ i low. left_so tick (deadline_at table.orders i) ∙ sym (ap (option_map (λ end. end - (tick + 2 ^ 32)))
       (get_or-map (option_map (λ end. end + 2 ^ 32)) table.orders.deadlines i None));
   ready_order = came_so InOneReadyList table;
@@ -107,15 +107,11 @@ alike_later table = let tick = table.orders.tick in record {
 crossed : (m n : ℕ) → m < n → (m < n → n < m) → ⊥
 crossed m n first other = omega (arith, first, other first)
 
-abbrev first_waiting : List Waiter → ℕ
-first_waiting [] = 0
-first_waiting (waiter ∷ waiters) = waiter.task
-
 pub alike_tables : AlikeTables
 unfolding computed
 alike_tables = record {
   other_stamps = alike_later;
   other_ready_order = λ alike. crossed 1 2 (omega arith) (alike.ready_order 3 4 (omega arith) (omega arith) (refl, refl, refl)).0;
   other_delay_order = λ alike. crossed 7 8 (omega arith) (alike.delay_order 3 4 (omega arith) (omega arith) (refl, refl)).0;
-  other_queue_order = λ alike. omega (arith, ap first_waiting alike.waiters);
+  other_queue_order = λ alike. true≢false (alike.wait_order 0 3 4 (omega arith) (omega arith) (refl, refl));
 }

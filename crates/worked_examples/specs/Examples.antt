@@ -40,6 +40,7 @@ session_of tasks =
         mutexes = 0;
         notes = 1;
       };
+      queues = None;
       tasks = tasks;
     }
 

@@ -143,7 +143,7 @@ fn steps_with_an_index(rt: HostRuntime) -> Result<(), Fail> {
 /// Sessions that are refused, and why and where.
 const REFUSED: &[(&str, Why, &str)] = &[
     // A wrong format hides the other faults.
-    ("{\"format\":3,\"cores\":\"2\"}", Why::BadShape, "format"),
+    ("{\"format\":4,\"cores\":\"2\"}", Why::BadShape, "format"),
     ("{\"format\":0}", Why::BadShape, "format"),
     ("{\"format\":2.0}", Why::BadShape, "format"),
     (

@@ -32,6 +32,14 @@ const WRITTEN: &[(&str, &str)] = &[
         "{\"format\":1,\"cores\":2,\"priorities\":1,\"slicing\":false,\"tick\":10,\"mutexes\":0,\"tasks\":[{\"name\":\"\\\\\",\"priority\":0,\"mask\":1},{\"name\":\"\\\"\",\"priority\":0,\"mask\":2}],\"steps\":[{\"do\":\"delay\",\"core\":1,\"by\":\"\\\"\",\"ticks\":4294967295},{\"do\":\"finish\",\"core\":0,\"by\":\"\\u005c\"}]}",
         "{\"cores\":2,\"format\":1,\"mutexes\":0,\"priorities\":1,\"slicing\":false,\"steps\":[{\"by\":\"\\\"\",\"core\":1,\"do\":\"delay\",\"ticks\":4294967295},{\"by\":\"\\\\\",\"core\":0,\"do\":\"finish\"}],\"tasks\":[{\"mask\":1,\"name\":\"\\\\\",\"priority\":0},{\"mask\":2,\"name\":\"\\\"\",\"priority\":0}],\"tick\":10}",
     ),
+    (
+        "{\"format\":3,\"cores\":2,\"priorities\":5,\"slicing\":false,\"tick\":0,\"mutexes\":0,\"notes\":1,\"queues\":[{\"messages\":0,\"length\":1},{\"length\":4294967295,\"messages\":7}],\"tasks\":[{\"name\":\"A\",\"priority\":2,\"mask\":3}],\"steps\":[{\"do\":\"isr_notify\",\"core\":1,\"to\":\"A\",\"action\":\"none\"}]}",
+        "{\"cores\":2,\"format\":3,\"mutexes\":0,\"notes\":1,\"priorities\":5,\"queues\":[{\"length\":1,\"messages\":0},{\"length\":4294967295,\"messages\":7}],\"slicing\":false,\"steps\":[{\"action\":\"none\",\"core\":1,\"do\":\"isr_notify\",\"index\":0,\"to\":\"A\"}],\"tasks\":[{\"mask\":3,\"name\":\"A\",\"priority\":2}],\"tick\":0}",
+    ),
+    (
+        "{\"format\":3,\"cores\":2,\"priorities\":5,\"slicing\":true,\"tick\":3,\"mutexes\":1,\"notes\":8,\"queues\":[],\"tasks\":[{\"name\":\"A\",\"priority\":2,\"mask\":3}],\"steps\":[]}",
+        "{\"cores\":2,\"format\":3,\"mutexes\":1,\"notes\":8,\"priorities\":5,\"queues\":[],\"slicing\":true,\"steps\":[],\"tasks\":[{\"mask\":3,\"name\":\"A\",\"priority\":2}],\"tick\":3}",
+    ),
 ];
 
 // Steps, each as it may stand in a text and as it is written.

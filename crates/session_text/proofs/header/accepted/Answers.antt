@@ -10,12 +10,12 @@ use Rattle.session_text.proofs.header.accepted.Goals as goal
 
 pub returns-in-Some-clause-value : goal.returns-in-Some-clause-value
 returns-in-Some-clause-value c =
-    let header : Header = record { config = c.args.config; tasks = c.args.shapes.now } in
+    let header : Header = record { config = c.args.config; queues = c.args.queues; tasks = c.args.shapes.now } in
     sym (ap (verdict header) (numbers_decide header c.in-Some.flaw (sym c.flaw.ensures ∙ c.in-Some.is)))
 
 pub returns-in-Err-clause-value : goal.returns-in-Err-clause-value
 returns-in-Err-clause-value c =
-    let header : Header = record { config = c.args.config; tasks = c.args.shapes.now } in
+    let header : Header = record { config = c.args.config; queues = c.args.queues; tasks = c.args.shapes.now } in
     let location = of_refused (λ (tasks : Vec TaskArgs Global). tasks.items ≡ c.args.shapes.now)
     (λ location. location_of_no_name c.args.shapes.now ≡ Some location) c.in_ok-tasks-in-None.field-0 c.in-Err.location c.in-Err.is
     c.in_ok-tasks-in-None.ensures in

@@ -24,6 +24,7 @@ invariant_of-result c =
       c.in_ok-delays.ensures.delays,
       c.in_ok-delays.ensures.deadlines,
       c.as_slice.ensures,
+      c.queue_count.ensures,
     ) (first_kernel_shape c.args.header.now c.requires)
 
 pub returns : goal.returns
@@ -38,4 +39,5 @@ returns c =
       c.in_ok-delays.ensures.delays,
       c.in_ok-delays.ensures.deadlines,
       c.as_slice.ensures,
+      c.queue_count.ensures,
     ) (seen_unstarted c.args.header.now low)

@@ -21,8 +21,8 @@ others=(
     INCLUDE_vTaskDelay INCLUDE_vTaskPrioritySet INCLUDE_vTaskSuspend INCLUDE_xTaskDelayUntil
     # FreeRTOS: functions, fields and types of task.h, tasks.c, queue.c and list.c
     prvCreateIdleTasks prvGetDisinheritPriorityAfterTimeout pxDelayedTaskList taskTASK_SCHEDULED_TO_YIELD TickType_t
-    ulTaskGenericNotifyValueClear uxQueueLength vListInsert vTaskResume vTaskSuspend vTaskSuspendAll xMutexHolder xQueueGenericSend
-    xQueueSemaphoreTake xShouldDelay xSuspendedTaskList xTaskAbortDelay xTaskGenericNotifyFromISR xTaskGenericNotifyStateClear
+    ulTaskGenericNotifyValueClear vListInsert vTaskResume vTaskSuspend vTaskSuspendAll xMutexHolder xQueueGenericSend
+    xQueueSemaphoreTake xSemaphoreCreateBinary xShouldDelay xSuspendedTaskList xTaskAbortDelay xTaskGenericNotifyFromISR xTaskGenericNotifyStateClear
     xTaskNotifyIndexedFromISR xTaskResumeAll xTickCount xTicksToWait portGET_CORE_ID
     # zsh; `rt plant`; a tool; a word for the title of an issue
     fpath proves valgrind security

@@ -52,8 +52,9 @@ class Table:
     current: list[int]
     pend: list[bool]
     asked: list[bool]
-    # Of each mutex.
+    # Of each mutex, with the tasks that wait for it, the first one first.
     holder: list[int | None]
+    waiting: list[list[int]]
     # Of each task.
     base: list[int]
     in_use: list[int]
@@ -64,6 +65,8 @@ class Table:
     wake: list[int | None]
     awaited: list[int | None]
     wait_priority: list[int]
+    # In format 3 each task has a list value.
+    values: list[int] | None
     unfinished: list[dict | None]
     mark: list[bool]
     deadline: list[int | None]
@@ -141,11 +144,18 @@ def seek(table, acting, task, among):
         ask(table, acting, min(found, key=lambda c: (effective(table, table.current[c]), -c)))
 
 
+def leave(table, task):
+    """Let a task wait for no mutex."""
+    if table.awaited[task] is not None:
+        table.waiting[table.awaited[task]].remove(task)
+        table.awaited[task] = None
+
+
 def wake(table, acting, task):
     """Make a task ready, last in its list, and seek a core for it."""
     table.ready[task] = True
     table.wake[task] = None
-    table.awaited[task] = None
+    leave(table, task)
     to_the_end(table, task)
     seek(table, acting, task, table.mask[task])
 
@@ -249,6 +259,7 @@ def priority_set(table, core, _task, call):
     table.base[to] = new
     if table.in_use[to] == old or table.in_use[to] < new:
         table.in_use[to] = new
+    revalue(table, to, new)
     if table.ready[to]:
         to_the_end(table, to)
     if new > old and table.ready[to]:
@@ -363,11 +374,23 @@ def hold_close(table, _core, _task, _call):
 
 
 def first_waiter(table, mutex):
-    """Of a mutex's waiters the one of the greatest waiting priority, then the first; or none."""
-    tasks = [task for task in range(len(table.awaited)) if table.awaited[task] == mutex]
-    return min(
-        tasks, key=lambda task: (-table.wait_priority[task], table.stamp[task]), default=None
-    )
+    """The first of a mutex's waiters, or none."""
+    return next(iter(table.waiting[mutex]), None)
+
+
+def revalue(table, task, value):
+    """Give a task another list value, where there are list values; no waiter moves."""
+    if table.values is not None:
+        table.values[task] = table.wait_priority[task] = value
+
+
+def begin_to_wait(table, task, mutex):
+    """Put a task before the first waiter with a lesser priority, as it is now."""
+    rank = table.in_use[task] if table.values is None else table.values[task]
+    others = table.waiting[mutex]
+    lesser = (place for place, other in enumerate(others) if table.wait_priority[other] < rank)
+    others.insert(next(lesser, len(others)), task)
+    table.awaited[task], table.wait_priority[task] = mutex, rank
 
 
 def lower(table, core, task, new):
@@ -375,6 +398,7 @@ def lower(table, core, task, new):
     if table.in_use[task] == new:
         return
     table.in_use[task] = new
+    revalue(table, task, new)
     if table.ready[task]:
         to_the_end(table, task)
     ask_its_core(table, core, task)
@@ -386,6 +410,7 @@ def inherit(table, core, task, holder):
         return False
     if table.in_use[holder] < table.in_use[task]:
         table.in_use[holder] = table.in_use[task]
+        revalue(table, holder, table.in_use[task])
         if table.ready[holder]:
             to_the_end(table, holder)
             seek(table, core, holder, table.mask[holder])
@@ -397,8 +422,7 @@ def wait_for(table, core, task, call, ticks):
     mutex = call["mutex"]
     table.mark[task] = inherit(table, core, task, table.holder[mutex])
     table.deadline[task] = None if ticks is None else table.tick + ticks
-    table.awaited[task] = mutex
-    table.wait_priority[task] = table.in_use[task]
+    begin_to_wait(table, task, mutex)
     block(table, core, task, call, ticks)
 
 
@@ -532,18 +556,20 @@ def start(session):
     cores, tasks = session["cores"], session["tasks"]
     count, notes = cores + len(tasks), session.get("notes", 1)
     every = (1 << cores) - 1
+    listed = [0] * cores + [task["priority"] for task in tasks]
     table = Table(
         cores=cores, priorities=session["priorities"], slicing=session["slicing"],
         tick=session["tick"], stamps=count, hold_core=None, depth=0,
         number={task["name"]: cores + place for place, task in enumerate(tasks)},
         current=list(range(cores)), pend=[False] * cores, asked=[False] * cores,
-        holder=[None] * session["mutexes"],
+        holder=[None] * session["mutexes"], waiting=[[] for _ in range(session["mutexes"])],
         base=[0] * cores + [task["priority"] for task in tasks],
         in_use=[0] * cores + [task["priority"] for task in tasks],
         mask=[every] * cores + [task["mask"] & every for task in tasks],
         preempt=[True] * count, ready=[True] * count,
         stamp=[len(tasks) + core for core in range(cores)] + list(range(len(tasks))),
         wake=[None] * count, awaited=[None] * count, wait_priority=[0] * count,
+        values=listed if session["format"] == 3 else None,
         unfinished=[None] * count, mark=[False] * count, deadline=[None] * count,
         value=[[0] * notes for _ in range(count)],
         state=[["idle"] * notes for _ in range(count)],

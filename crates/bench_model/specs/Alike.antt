@@ -61,6 +61,8 @@ pub record SamePairwise (a b : Table) : Type 0 where
   -- each task waits for the same mutex in both, with the same waiting priority, or for none
   pub waits :
       (i : ℕ) → i < a.settings.tasks → wait_of i a.orders.waiters ≡ wait_of i b.orders.waiters
+  -- each task has the same list value in both, or none
+  pub values : a.orders.values ≡ b.orders.values
   -- of two tasks that wait for one mutex the same one stands in front
   pub wait_order : SameWaitOrder a.settings.tasks a.orders.waiters b.orders.waiters
   -- the order of each ready list, and of the tasks with one number of ticks left

@@ -39,3 +39,14 @@ module _ {Orders : Type 0} (ops : QueueOps Orders) where
         orders = if ops.is_ready task state.orders
             then ops.add_to_ready_list control task state.orders else state.orders;
       }
+
+  -- The list value becomes this one, where the session has list values (V11 list.h,
+  -- listSET_LIST_ITEM_VALUE).
+  abbrev pub value_set : ℕ → ℕ → State Orders → State Orders
+  value_set task value state =
+      record state { orders = ops.set_list_value task value state.orders }
+
+  -- The priority in use and the list value become this one (V11 tasks.c, xTaskPriorityInherit).
+  unfoldable pub in_use_and_value_set : ℕ → ℕ → State Orders → State Orders
+  in_use_and_value_set task priority state =
+      value_set task priority (in_use_set task priority state)

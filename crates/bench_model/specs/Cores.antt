@@ -41,7 +41,14 @@ bare_view cores = record {
   notes = [];
   holders = [];
   hold = None;
-  orders = record { ready = cores.ready; tick = 0; delayed = []; waiters = []; deadlines = [] };
+  orders = record {
+    ready = cores.ready;
+    tick = 0;
+    delayed = [];
+    waiters = [];
+    deadlines = [];
+    values = [];
+  };
 }
 
 -- what a rule of whole kernels does to this part

@@ -11,7 +11,7 @@ use Rattle.bench_model.specs.Control.{Control, task_at, may_select}
 use Rattle.bench_model.specs.State.{State, QueueOps}
 use Rattle.list_orders.specs.Search.{by_stamp, placed, ranked, without, has}
 use Rattle.bench_model.specs.Table.{Stamps, Table, row_at, stamp_of, tasks_of, stands_ready, wake_in}
-use Rattle.bench_model.specs.Waiters.{first_of, with_wait, without_waiter}
+use Rattle.bench_model.specs.Waiters.{first_of, list_value_of, revalued, with_wait, without_waiter}
 
 pub record Lists : Type 0 where
   -- the ready tasks, running ones too: the greatest priority in use first, each priority in the
@@ -28,6 +28,8 @@ pub record Lists : Type 0 where
   -- per task the ticks left to the end of its unfinished wait for a mutex, none where there is none
   -- or it has no end
   pub deadlines : List (Option ℕ)
+  -- per task its list value; empty where the session has none
+  pub values : List ℕ
 
 abbrev pub View : Type 0
 View = State Lists
@@ -106,6 +108,15 @@ deadline_left task lists = slice_index_or lists.deadlines task None
 unfoldable pub forget_deadline : ℕ → Lists → Lists
 forget_deadline task lists = record lists { deadlines = slice_set lists.deadlines task None }
 
+abbrev pub list_value : ℕ → Lists → Option ℕ
+list_value task lists = list_value_of task lists.values
+
+unfoldable pub set_list_value : ℕ → ℕ → Lists → Lists
+set_list_value task value lists = record lists {
+  waiters = revalued lists.values task value lists.waiters;
+  values = slice_set lists.values task value;
+}
+
 abbrev pub list_queues : QueueOps Lists
 list_queues = record {
   is_ready = is_ready;
@@ -118,6 +129,8 @@ list_queues = record {
   first_waiter = first_waiter;
   deadline_left = deadline_left;
   forget_deadline = forget_deadline;
+  list_value = list_value;
+  set_list_value = set_list_value;
 }
 
 -- the task with the ticks left to its wake
@@ -138,6 +151,7 @@ lists_of control stamps =
           (in_order (λ task. is_some (wake_in (row_at stamps task).standing))));
       waiters = stamps.waiters;
       deadlines = map (option_map (λ deadline. deadline - stamps.tick)) stamps.deadlines;
+      values = stamps.values;
     }
 
 -- What can be seen of a table.

@@ -1,12 +1,13 @@
 -- Mutexes with priority inheritance, over orders of tasks that are kept in one way or another
 -- (FreeRTOS Reference Manual, xSemaphoreTake and xSemaphoreGive).
-use Rattle.std.specs.Prelude.{ℕ, List, length, filter, Bool, true, false, not, ◌&&◌, ◌==◌, nat_lt, Option, Some, None, if◌then◌else◌, slice_set}
+use Rattle.std.specs.Prelude.{ℕ, List, length, filter, Bool, true, false, not, ◌&&◌, ◌==◌, nat_lt, Option, Some, None, unwrap_or, if◌then◌else◌, slice_set}
 use Rattle.std.specs.Option.{option_map_or}
+use Rattle.bench_types.specs.declared.kernel_data.MutexWait.{MutexWait}
 use Rattle.bench_types.specs.declared.kernel_data.Waiter.{Waiter}
 use Rattle.bench_types.specs.declared.reply.Reply.{Reply}
 use Rattle.bench_types.specs.declared.reply.Reply.TheVariants.{Blocked, Flag}
 use Rattle.bench_types.specs.declared.step.Unfinished.TheVariants.{Take}
-use Rattle.bench_model.specs.ControlFields.{in_use_set}
+use Rattle.bench_model.specs.ControlFields.{in_use_and_value_set}
 use Rattle.bench_model.specs.Control.{Control, task_at, in_mask, ask_its_core}
 use Rattle.bench_model.specs.Notifying.{timeout_of}
 use Rattle.bench_model.specs.Seek.{seek, wake}
@@ -37,11 +38,17 @@ module _ {Orders : Type 0} where
   taken task mutex state = record state { holders = slice_set state.holders mutex (Some task) }
 
 module _ {Orders : Type 0} (ops : QueueOps Orders) where
+  -- the priority that the task begins to wait with: its list value, or its priority in use where
+  -- the session has no list values (V11 tasks.c, xTaskPlaceOnEventList)
+  abbrev pub waiting_priority : ℕ → State Orders → ℕ
+  waiting_priority task state =
+      unwrap_or (ops.list_value task state.orders) (task_at state.control task).in_use
+
   -- The holder takes over a greater priority in use; where it is ready and runs on no core, a core
   -- is sought for it (V11 tasks.c, xTaskPriorityInherit).
   unfoldable pub inherited : ℕ → ℕ → ℕ → State Orders → State Orders
   inherited acting holder priority state =
-      let later = in_use_set ops holder priority state in
+      let later = in_use_and_value_set ops holder priority state in
       let control = seek acting holder (in_mask later.control holder) later.control in
       let sought = record later { control = control } in
       if nat_lt (task_at state.control holder).in_use priority
@@ -50,10 +57,10 @@ module _ {Orders : Type 0} (ops : QueueOps Orders) where
   -- The task waits for a mutex that a task holds, and the holder inherits its priority in use.
   unfoldable pub waited_at : ℕ → ℕ → ℕ → ℕ → Option ℕ → State Orders → State Orders
   waited_at core task mutex holder ticks state =
-      let priority = (task_at state.control task).in_use in
       let call = Take mutex (is_marked state.control task holder) in
-      blocked ops core task call ticks (Some (record { mutex = mutex; priority = priority }))
-      (inherited core holder priority state)
+      let wait : MutexWait = record { mutex = mutex; priority = waiting_priority task state } in
+      blocked ops core task call ticks (Some wait)
+      (inherited core holder (task_at state.control task).in_use state)
 
   -- Taking a mutex, by who holds it: a free one is taken; for one that is held, the task waits, or
   -- is told no where it waits for 0 ticks.
@@ -73,11 +80,11 @@ module _ {Orders : Type 0} (ops : QueueOps Orders) where
   owed task mutex state =
       disinherit_priority (ops.first_waiter mutex state.orders) (task_at state.control task).base
 
-  -- A task's priority in use becomes this one, unless it is this one already; the core of a running
-  -- task is asked.
+  -- A task's priority in use and its list value become this one, unless it is this one already; the
+  -- core of a running task is asked.
   unfoldable pub after_disinherit : ℕ → ℕ → ℕ → State Orders → State Orders
   after_disinherit acting task priority state =
-      let later = in_use_set ops task priority state in
+      let later = in_use_and_value_set ops task priority state in
       if (task_at state.control task).in_use == priority then state
       else record later { control = ask_its_core acting task later.control }
 

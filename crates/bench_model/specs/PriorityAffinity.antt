@@ -6,7 +6,7 @@ use Rattle.bench_types.specs.declared.kernel_data.TaskControl.{TaskControl}
 use Rattle.bench_model.specs.Control.{Control, task_at, in_mask, ask, runs_on, ask_its_core}
 use Rattle.bench_model.specs.State.{State, QueueOps}
 use Rattle.bench_model.specs.Seek.{seek}
-use Rattle.bench_model.specs.ControlFields.{with_base, with_affinity, with_preemption, in_use_set}
+use Rattle.bench_model.specs.ControlFields.{with_base, with_affinity, with_preemption, in_use_set, value_set}
 
 -- a priority that is none counts as the greatest (FreeRTOS Reference Manual, vTaskPrioritySet)
 abbrev pub capped : ℕ → ℕ → ℕ
@@ -36,17 +36,18 @@ yields_after_affinity_set acting task ready control =
     (if ready then seek acting task (in_mask control task) control else control)
 
 module _ {Orders : Type 0} (ops : QueueOps Orders) where
-  -- The base priority becomes this one, and with it the priority in use; a ready task goes to the
-  -- end of its list. Where it is the base priority already, nothing happens (FreeRTOS Reference
-  -- Manual, vTaskPrioritySet).
+  -- The base priority becomes this one, and with it the priority in use and the list value; a ready
+  -- task goes to the end of its list. Where it is the base priority already, nothing happens
+  -- (FreeRTOS Reference Manual, vTaskPrioritySet).
   unfoldable pub priority_set : ℕ → ℕ → ℕ → State Orders → State Orders
   priority_set acting task priority state =
       let block = task_at state.control task in
       let new = capped state.settings.priorities priority in
       let ready = ops.is_ready task state.orders in
       let later
-      = in_use_set ops task (in_use_after block new)
-      (record state { control = with_base task new state.control }) in
+      = value_set ops task new
+      (in_use_set ops task (in_use_after block new)
+      (record state { control = with_base task new state.control })) in
       if new == block.base then state
       else record
       later { control = yields_after_priority_set acting task block.base new ready later.control }

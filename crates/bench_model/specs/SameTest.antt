@@ -122,6 +122,7 @@ are_same_orders a b =
     && are_same_lists are_same_delays a.delayed b.delayed
     && are_same_lists are_same_waiters a.waiters b.waiters
     && are_same_lists (are_same_options (λ m n. m == n)) a.deadlines b.deadlines
+    && are_same_lists (λ m n. m == n) a.values b.values
 
 abbrev pub are_same_views : View → View → Bool
 are_same_views a b =

@@ -1,5 +1,5 @@
 -- What the table of every kernel keeps: that it is sound.
-use Rattle.std.specs.Prelude.{◌≡◌, ℕ, suc, ◌+◌, ◌*◌, ◌<◌, ◌≤◌, ◌^◌, List, length, true, false, Option, Some, None, option_map, is_some, IfSome}
+use Rattle.std.specs.Prelude.{◌≡◌, ℕ, suc, ◌+◌, ◌*◌, ◌<◌, ◌≤◌, ◌^◌, List, [], length, true, false, Option, Some, None, option_map, is_some, IfSome, All, if◌then◌else◌}
 use Rattle.std.specs.List.{AllByRecursion}
 use Rattle.std.specs.Option.{ForSome}
 use Rattle.bench_types.specs.declared.kernel_data.Hold.{Hold}
@@ -22,9 +22,13 @@ use Rattle.bench_model.specs.Turns.{AreByMutex, AreInTurn, WaitOnce}
 use Rattle.bench_model.specs.Waiters.{mutex_awaited}
 use Rattle.bench_model.specs.Table.{Stamps, Table, row_at, stamp_of, wake_in, deadline_at, is_ready}
 
+-- each task has a list value in a session with queues, and none in another
+abbrev pub list_values : Settings → ℕ
+list_values settings = if is_some settings.queues then settings.tasks else 0
+
 -- there is a row, a control block, a deadline or none and an unfinished call or none for each task,
--- some notifications for each as well, a holder or none for each mutex, and an idle task for each
--- core
+-- a list value for each where there are list values, some notifications for each as well, a holder
+-- or none for each mutex, and an idle task for each core
 pub record IsSized (table : Table) : Type 0 where
   pub cores : length table.control.cores ≡ table.settings.cores
   pub controls : length table.control.tasks ≡ table.settings.tasks
@@ -33,6 +37,7 @@ pub record IsSized (table : Table) : Type 0 where
   pub holders : length table.holders ≡ table.settings.mutexes
   pub rows : length table.orders.rows ≡ table.settings.tasks
   pub deadlines : length table.orders.deadlines ≡ table.settings.tasks
+  pub values : length table.orders.values ≡ list_values table.settings
   pub some_core : 0 < table.settings.cores
   pub some_note : 0 < table.settings.notes
   pub idle_tasks : table.settings.cores ≤ table.settings.tasks
@@ -104,8 +109,8 @@ WaitForTheirCalls calls stamps =
     → mutex_awaited i stamps.waiters ≡ mutex_taken (call_at calls i)
 
 -- what is kept of mutexes: tasks hold them, tasks wait for them, each at one place, and are served
--- in turn, and a deadline is that of an unfinished wait, at most 4294967294 ticks ahead, since a
--- wait for 4294967295 has none
+-- in turn where there are no list values, which are priorities that there are, and a deadline is
+-- that of an unfinished wait, at most 4294967294 ticks ahead, since a wait for 4294967295 has none
 pub record HasMutexes (settings : Settings) (calls : List (Option Unfinished))
     (holders : List (Option ℕ)) (stamps : Stamps) : Type 0 where
   pub held_by_tasks : (mutex task : ℕ) → holder_at holders mutex ≡ Some task → task < settings.tasks
@@ -113,7 +118,8 @@ pub record HasMutexes (settings : Settings) (calls : List (Option Unfinished))
   pub once : WaitOnce stamps.waiters
   pub by_mutex : AreByMutex stamps.waiters
   pub awaited : WaitForTheirCalls calls stamps
-  pub turns : AreInTurn stamps stamps.waiters
+  pub turns : stamps.values ≡ [] → AreInTurn stamps stamps.waiters
+  pub values : All (λ value. value < settings.priorities) stamps.values
   pub deadlines :
       (i deadline : ℕ) → deadline_at stamps i ≡ Some deadline
       → (suc deadline < stamps.tick + 2 ^ 32) × (is_some (mutex_taken (call_at calls i)) ≡ true)

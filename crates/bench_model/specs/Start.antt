@@ -1,5 +1,5 @@
 -- The start of a kernel (V11 tasks.c, vTaskStartScheduler).
-use Rattle.std.specs.Prelude.{ℕ, ◌+◌, ◌-◌, ◌*◌, ◌%◌, ◌^◌, [], ◌++◌, length, map, fold, replicate, false, true, None}
+use Rattle.std.specs.Prelude.{ℕ, ◌+◌, ◌-◌, ◌*◌, ◌%◌, ◌^◌, [], ◌++◌, List, length, map, fold, replicate, false, true, None, is_some, if◌then◌else◌}
 use Rattle.std.specs.List.{range_with_len}
 use Rattle.bench_types.specs.declared.header.Header.{Header}
 use Rattle.bench_types.specs.declared.header.TaskArgs.{TaskArgs}
@@ -40,6 +40,11 @@ first_control header = let cores = header.config.cores in record {
   tasks = replicate cores (idle_control cores) ++ map (user_control cores) header.tasks;
 }
 
+-- a session of format 3 has list values: each task's is its base priority
+abbrev pub first_values : Header → List ℕ
+first_values header =
+    if is_some header.queues then map (λ block. block.base) (first_control header).tasks else []
+
 -- all tasks are ready: the user tasks in header order, the idle tasks after them
 abbrev pub ready_row : ℕ → TaskRow
 ready_row stamp = record { stamp = stamp; standing = Ready }
@@ -49,6 +54,7 @@ first_stamps header = let cores = header.config.cores in let users = length head
   rows = map (λ core. ready_row (users + core)) (numbers cores) ++ map ready_row (numbers users);
   waiters = [];
   deadlines = replicate (cores + users) None;
+  values = first_values header;
   tick = header.config.tick;
   next = cores + users;
 }
@@ -61,6 +67,7 @@ first_lists header = let cores = header.config.cores in let users = length heade
   delayed = [];
   waiters = [];
   deadlines = replicate (cores + users) None;
+  values = first_values header;
 }
 
 module _ {Orders : Type 0} where

@@ -46,6 +46,10 @@ pub record QueueOps (Orders : Type 0) : Type 0 where
   pub deadline_left : ℕ → Orders → Option ℕ
   -- the task's wait for a mutex is over
   pub forget_deadline : ℕ → Orders → Orders
+  -- the list value of the task, none where the session has no list values
+  pub list_value : ℕ → Orders → Option ℕ
+  -- the task's list value becomes this one, where the session has list values; no waiter moves
+  pub set_list_value : ℕ → ℕ → Orders → Orders
 
 -- the task that holds the mutex
 abbrev pub holder_at : List (Option ℕ) → ℕ → Option ℕ

@@ -10,7 +10,7 @@ use Rattle.bench_model.specs.declared.row.TaskState.{TaskState}
 use Rattle.bench_model.specs.declared.row.TaskState.TheVariants.{Ready, Blocked}
 use Rattle.bench_model.specs.Control.{Control, task_at, may_select}
 use Rattle.bench_model.specs.State.{State, QueueOps}
-use Rattle.bench_model.specs.Waiters.{first_of, with_wait, without_waiter}
+use Rattle.bench_model.specs.Waiters.{first_of, list_value_of, revalued, with_wait, without_waiter}
 use Rattle.list_orders.specs.Search.{numbers, best, by_stamp}
 
 pub record Stamps : Type 0 where
@@ -21,6 +21,8 @@ pub record Stamps : Type 0 where
   -- per task the tick count at which its unfinished wait for a mutex is to end, none where there is
   -- none or it has no end
   pub deadlines : List (Option ℕ)
+  -- per task its list value; empty where the session has none
+  pub values : List ℕ
   -- the tick count, never wrapped
   pub tick : ℕ
   -- a stamp above all that were given
@@ -130,6 +132,15 @@ due stamps =
     by_stamp (stamp_of stamps) (λ task. wakes_at stamps.tick (row_at stamps task).standing)
     (tasks_of stamps) stamps.next
 
+abbrev pub list_value : ℕ → Stamps → Option ℕ
+list_value task stamps = list_value_of task stamps.values
+
+unfoldable pub set_list_value : ℕ → ℕ → Stamps → Stamps
+set_list_value task value stamps = record stamps {
+  waiters = revalued stamps.values task value stamps.waiters;
+  values = slice_set stamps.values task value;
+}
+
 abbrev pub stamp_queues : QueueOps Stamps
 stamp_queues = record {
   is_ready = is_ready;
@@ -142,4 +153,6 @@ stamp_queues = record {
   first_waiter = first_waiter;
   deadline_left = deadline_left;
   forget_deadline = forget_deadline;
+  list_value = list_value;
+  set_list_value = set_list_value;
 }

@@ -1,9 +1,9 @@
 -- The tasks that wait for mutexes, in one list.
-use Rattle.std.specs.Prelude.{ℕ, List, filter, find, Bool, false, not, ◌&&◌, ◌||◌, ◌==◌, nat_lt, nat_le, Option, option_map}
+use Rattle.std.specs.Prelude.{ℕ, List, length, map, filter, find, Bool, false, not, ◌&&◌, ◌||◌, ◌==◌, nat_lt, nat_le, Option, Some, None, option_map, if◌then◌else◌, slice_index_or}
 use Rattle.std.specs.Option.{option_map_or}
 use Rattle.bench_types.specs.declared.kernel_data.MutexWait.{MutexWait}
 use Rattle.bench_types.specs.declared.kernel_data.Waiter.{Waiter}
-use Rattle.list_orders.specs.Search.{placed}
+use Rattle.list_orders.specs.Search.{inserted}
 
 -- a waiter stays in front of another of a greater mutex, or of its own mutex and no greater waiting
 -- priority
@@ -12,10 +12,10 @@ waits_first a b =
     nat_lt a.wait.mutex b.wait.mutex
     || (a.wait.mutex == b.wait.mutex && nat_le b.wait.priority a.wait.priority)
 
--- A task that begins to wait stands after the waiters of its mutex with its waiting priority or a
--- greater one (V11 list.c, vListInsert).
+-- A task that begins to wait stands before the first waiter of its mutex with a lesser waiting
+-- priority than its own (V11 list.c, vListInsert).
 abbrev pub with_waiter : Waiter → List Waiter → List Waiter
-with_waiter waiter waiters = placed waits_first waiter waiters
+with_waiter waiter waiters = inserted waits_first waiter waiters
 
 -- The waiters, where the task begins to wait for a mutex or for none.
 abbrev pub with_wait : ℕ → Option MutexWait → List Waiter → List Waiter
@@ -28,6 +28,23 @@ without_waiter task waiters = filter (λ waiter. not (waiter.task == task)) wait
 -- The first of the waiters that waits for the mutex (V11 queue.c, xTasksWaitingToReceive).
 abbrev pub first_of : ℕ → List Waiter → Option Waiter
 first_of mutex waiters = find (λ waiter. waiter.wait.mutex == mutex) waiters
+
+-- The list value of a task: the priority that its event list item has, with which it begins to wait
+-- (V11 tasks.c, xEventListItem). A session without list values has none.
+abbrev pub list_value_of : ℕ → List ℕ → Option ℕ
+list_value_of task values = slice_index_or (map Some values) task None
+
+-- a waiter, where the task waits with this priority from now on
+abbrev pub with_value : ℕ → ℕ → Waiter → Waiter
+with_value task value waiter =
+    if waiter.task == task then record waiter { wait = record waiter.wait { priority = value } }
+    else waiter
+
+-- The waiters, where a task that has a list value gets this one: no waiter moves (V11 list.h,
+-- listSET_LIST_ITEM_VALUE).
+abbrev pub revalued : List ℕ → ℕ → ℕ → List Waiter → List Waiter
+revalued values task value waiters =
+    if nat_lt task (length values) then map (with_value task value) waiters else waiters
 
 -- the task among the waiters, where it is one
 abbrev pub waiter_of : ℕ → List Waiter → Option Waiter

@@ -52,8 +52,8 @@ pub struct Delayed {
 #[derive(Clone, Copy, Debug, PartialEq, Eq, Hash)]
 pub struct MutexWait {
     pub mutex: u32,
-    /// The priority in use that the task had when it began to wait; a later change of priority
-    /// leaves it.
+    /// By which the task was put among the waiters of the mutex: its list value, as it is now, or
+    /// in formats 1 and 2 the priority in use that it had when it began to wait.
     pub priority: u32,
 }
 

@@ -1,5 +1,5 @@
 -- The first and the last entry of a list.
-use Rattle.std.proofs.Common.{◌≡◌, ℕ, ◌+◌, ◌<◌, true, false, cond, ltb, List, [], ◌∷◌, ◌++◌, length, map, get_or, Option, Some, None, option_map, refl, sym, ap}
+use Rattle.std.proofs.Common.{◌≡◌, ℕ, ◌+◌, ◌<◌, true, false, cond, ltb, List, [], ◌∷◌, ◌++◌, length, get_or, Option, Some, None, option_map, refl, sym, ap}
 use Rattle.std.proofs.Common.{subst, ◌∙◌, arith}
 use Rattle.std.specs.Prelude.{reverse}
 use Rattle.std.specs.List.{AllByRecursion}
@@ -8,7 +8,7 @@ use Rattle.std.proofs.lemmas.List.{reverse-append, map-append}
 use Rattle.list_orders.proofs.Filters.{All-append}
 use Rattle.index_lists.specs.declared.links.Home.{Home}
 use Rattle.index_lists.specs.Listed.{Listed, ListsView, items_of, key_of, first_entry, last_entry}
-use Rattle.index_lists.specs.Rings.{IsPath, IsRing, first_or}
+use Rattle.index_lists.specs.Rings.{IsPath, first_or}
 use Rattle.index_lists.specs.Shape.{home_at, StandFor}
 use Rattle.index_lists.proofs.Fields.{row_at, homed_low}
 use Rattle.index_lists.proofs.Looks.{key_of_home}

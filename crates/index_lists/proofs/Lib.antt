@@ -2,6 +2,7 @@ mod Apart
 mod Ends
 mod Fields
 pub mod Frees
+mod Keyed
 mod Looks
 mod Moves
 pub mod Paths

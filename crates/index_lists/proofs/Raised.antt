@@ -1,13 +1,10 @@
 -- What the fields stand for after each key became so many higher.
-use Rattle.std.proofs.Common.{◌≡◌, ℕ, ◌+◌, ◌<◌, ◌%◌, ◌^◌, Bool, List, [], ◌∷◌, length, map, Option, Some, None, option_map, refl, sym, ap, subst, ◌∙◌, arith}
-use Rattle.std.specs.List.{AllByRecursion}
+use Rattle.std.proofs.Common.{◌≡◌, ℕ, ◌+◌, ◌<◌, ◌%◌, ◌^◌, List, [], ◌∷◌, length, map, Option, Some, None, option_map, refl, sym, ap, ◌∙◌, arith}
 use Rattle.std.proofs.Math.ListN.{get_or-map}
 use Rattle.std.proofs.lemmas.List.{length-map}
 use Rattle.list_orders.proofs.Filters.{All-map, All-weaker}
-use Rattle.index_lists.specs.declared.links.Link.{Link}
 use Rattle.index_lists.specs.declared.links.Home.{Home}
 use Rattle.index_lists.specs.Listed.{Listed, items_of, has_item, raised}
-use Rattle.index_lists.specs.Rings.{nexts, prevs, IsRing}
 use Rattle.index_lists.specs.Shape.{home_at, is_home, raised_home, StandFor}
 use Rattle.index_lists.proofs.Fields.{row_at}
 

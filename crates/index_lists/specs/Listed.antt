@@ -1,5 +1,5 @@
 -- Lists of items with keys, as the callers of `Lists` see them.
-use Rattle.std.specs.Prelude.{◌≡◌, ℕ, ◌+◌, ◌%◌, ◌^◌, List, [], ◌∷◌, Bool, true, not, ◌==◌, nat_le, Option, Some, None, map, filter, find, option_map, unwrap_or}
+use Rattle.std.specs.Prelude.{◌≡◌, ℕ, ◌+◌, ◌%◌, ◌^◌, List, [], ◌∷◌, Bool, true, not, ◌==◌, if◌then◌else◌, nat_le, Option, Some, None, map, filter, find, option_map, unwrap_or}
 use Rattle.std.specs.Prelude.{replicate, reverse, slice_index_or, slice_set}
 use Rattle.std.specs.List.{list_any, position, after_first, IsDistinct}
 
@@ -76,6 +76,10 @@ next_of item view = first_of
 -- the item with a key so many higher, modulo 2^32
 abbrev pub raised : ℕ → Listed → Listed
 raised by entry = record entry { key = (entry.key + by) % 2 ^ 32 }
+
+-- the item with this key, and any other item as it is
+abbrev pub keyed : ℕ → ℕ → Listed → Listed
+keyed item key entry = if entry.item == item then record entry { key = key } else entry
 
 -- an item stays in front of another of no lower key
 abbrev pub lowest_first : Listed → Listed → Bool

@@ -1,8 +1,8 @@
 //! Lists of numbered items, each item in one list at most.
 ghost use Rattle.std.specs.Prelude.{◌≡◌, ◌↔◌, ℕ, ◌+◌, ◌<◌, ◌≤◌, ◌^◌, ◌∷◌, ◌++◌, [], Some, None, is_some, true, nat_lt, if◌then◌else◌, length, map, drop, option_map, slice_index, IsTrue, IfOk, IfSome, nat_le};
 ghost use Rattle.std.specs.List.{prefix_len, insert};
-ghost use Rattle.list_orders.specs.Search.{placed, ranked};
-ghost use Rattle.index_lists.specs.Listed.{empty_lists, list_at, with_list, has_item, list_of, key_of, without_item, items_of, first_of, first_entry, last_entry, next_of, lowest_first, raised, EachInOneList};
+ghost use Rattle.list_orders.specs.Search.{inserted, placed, ranked};
+ghost use Rattle.index_lists.specs.Listed.{empty_lists, list_at, with_list, has_item, list_of, key_of, without_item, items_of, first_of, first_entry, last_entry, next_of, lowest_first, keyed, raised, EachInOneList};
 ghost use Rattle.index_lists.specs.Rings.{first_or};
 
 use crate::links::{
@@ -127,20 +127,39 @@ impl Lists {
         self.homes[item as usize] = Some(Home { list, key: 0 });
     }
 
-    /// The item goes after those of a key as low or lower. The list has to be in the order of its
-    /// keys, the lowest first.
+    /// The item goes before the first of a greater key, or to the end where there is none. A list
+    /// in the order of its keys, the lowest first, stays so, and the item then stands after all of
+    /// its own key.
     pub fn insert_sorted(&mut self, list: u32, item: u32, key: u32)
         requires list { list < length self.old.lists }
         requires item { item < self.old.items }
         requires free { list_of item self.old ≡ None }
-        requires order { ranked lowest_first (list_at self.old list) ≡ list_at self.old list }
-        ensures { self.new
+        ensures inserted { self.new
+            ≡ with_list list
+            (inserted lowest_first (record { item = item; key = key }) (list_at self.old list))
+            self.old }
+        ensures in_order { ranked lowest_first (list_at self.old list) ≡ list_at self.old list
+            → self.new
             ≡ with_list list
             (placed lowest_first (record { item = item; key = key }) (list_at self.old list))
             self.old }
     {
         let next = self.place_of(list, key);
         self.insert(Home { list, key }, item, next);
+    }
+
+    /// The item, where it is in a list, has this key from now on. No item moves.
+    pub fn set_key(&mut self, item: u32, key: u32)
+        requires { item < self.old.items }
+        ensures { self.new
+            ≡ record self.old { lists = map (map (keyed item key)) self.old.lists } }
+    {
+        if let Some(home) = self.homes[item as usize] {
+            self.homes[item as usize] = Some(Home {
+                list: home.list,
+                key,
+            });
+        }
     }
 
     /// The item leaves its list; where it is in none, nothing changes.

@@ -1,6 +1,7 @@
 pub mod Bests
 pub mod Choices
 pub mod Filters
+pub mod Insertions
 pub mod Listings
 pub mod Orders
 pub mod Placements

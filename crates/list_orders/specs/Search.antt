@@ -1,6 +1,6 @@
 -- Choices and orders, as searches over all that there is.
 use Rattle.std.specs.Prelude.{ℕ, zero, suc, List, [], ◌∷◌, ◌++◌, Bool, not, ◌&&◌, ◌||◌, ◌==◌, Option, find, filter, fold}
-use Rattle.std.specs.List.{list_all, list_any, range_with_len}
+use Rattle.std.specs.List.{insert, list_all, list_any, prefix_len, range_with_len}
 
 -- the numbers below n
 abbrev pub numbers : ℕ → List ℕ
@@ -24,6 +24,11 @@ by_stamp stamp test ids (suc bound) =
 unfoldable pub placed : {X : Type 0} → (X → X → Bool) → X → List X → List X
 placed stays_in_front x xs =
     filter (λ y. stays_in_front y x) xs ++ x ∷ filter (λ y. not (stays_in_front y x)) xs
+
+-- the list with x before the first that does not stay in front of it; where the list is in order, x
+-- is placed there
+abbrev pub inserted : {X : Type 0} → (X → X → Bool) → X → List X → List X
+inserted stays_in_front x xs = insert xs (prefix_len (λ y. stays_in_front y x) xs) x
 
 -- the list in the order of a rank, in one rank as it was: each item in turn is placed
 unfoldable pub ranked : {X : Type 0} → (X → X → Bool) → List X → List X

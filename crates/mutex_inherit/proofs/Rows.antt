@@ -1,6 +1,6 @@
 -- What lists of waiters show as a waiter comes and goes, and what is found in them.
 use Rattle.std.proofs.Common.{◌≡◌, ◌≢◌, ℕ, zero, suc, ◌+◌, ◌-◌, ◌<◌, ◌≤◌, Bool, true, false, cond, not, eqb, leb, ltb, ◌||◌, ◌&&◌, List, [], ◌∷◌, ◌++◌, length}
-use Rattle.std.proofs.Common.{map, set, get_or, replicate, Option, Some, None, option_map, unwrap_or, refl, sym, ap, ◌∙◌, append_assoc, get_or-set_same}
+use Rattle.std.proofs.Common.{map, set, get_or, replicate, Option, Some, None, option_map, unwrap_or, refl, sym, ap, ◌∙◌, get_or-set_same}
 use Rattle.std.proofs.Common.{get_or-set_other, arith, inl, inr, zero-add}
 use Rattle.std.specs.List.{filter, find, list_any, position_or_len, AllByRecursion}
 use Rattle.std.proofs.Math.ListN.{get_or-map}
@@ -10,15 +10,13 @@ use Rattle.std.proofs.lemmas.List.{append-nil, map-append}
 use Rattle.std.proofs.lemmas.List.Elements.{filter-append}
 use Rattle.bench_types.specs.declared.kernel_data.MutexWait.{MutexWait}
 use Rattle.bench_types.specs.declared.kernel_data.Waiter.{Waiter}
-use Rattle.list_orders.specs.Search.{placed, ranked}
-use Rattle.list_orders.proofs.Filters.{filter_all, filter_none, filter_agrees, filter-map, find_filter, list_any-map, All-append, All-map, All-weaker, All_each}
+use Rattle.list_orders.specs.Search.{inserted}
+use Rattle.list_orders.proofs.Filters.{filter_all, filter_none, filter-map, find_filter, list_any-map, All-append, All-map, All-weaker, All_each}
 use Rattle.list_orders.proofs.Filters.{All-filter}
-use Rattle.list_orders.proofs.Ranks.{All-placed, filter-ranked}
-use Rattle.list_orders.proofs.Placements.{ranked-placed}
-use Rattle.index_lists.specs.Listed.{Listed, ListsView, items_of, has_item, without_item, list_of, key_of, lowest_first, EachInOneList}
-use Rattle.index_lists.proofs.Places.{lowest_first-IsRank}
+use Rattle.list_orders.proofs.Insertions.{All-inserted, inserted_behind, inserted_here}
+use Rattle.index_lists.specs.Listed.{Listed, ListsView, items_of, has_item, without_item, list_of, key_of, keyed, lowest_first, EachInOneList}
 use Rattle.bench_model.specs.Waiters.{waits_first, without_waiter, first_of}
-use Rattle.bench_model.specs.Waiters.{wait_of}
+use Rattle.bench_model.specs.Waiters.{wait_of, with_value}
 use Rattle.mutex_inherit.specs.Parts.{waiter_at, waiters_from, tasks_for}
 use Rattle.mutex_inherit.specs.Shape.{AreKeys, AreWaiters}
 
@@ -31,36 +29,26 @@ waits_for m waiter = eqb waiter.wait.mutex m
 abbrev is_key : ℕ → Listed → Type 0
 is_key n entry = (0 < entry.key) × (entry.key ≤ n)
 
-abbrev front : Waiter → Waiter → Bool
-front waiter w = waits_first w waiter
-
-abbrev back : Waiter → Waiter → Bool
-back waiter w = not (waits_first w waiter)
-
 next_of_sum : (m k : ℕ) → (m + 1) + k ≡ m + suc k
 next_of_sum m k = omega arith
 
--- ---- a waiter that is placed in one of two parts
-placed_left : (x : Waiter) (xs ys : List Waiter) → AllByRecursion (λ y. waits_first y x ≡ false) ys → placed waits_first x (xs ++ ys) ≡ placed waits_first x xs
-    ++ ys
-unfolding placed
-placed_left x xs ys later =
-    let none = filter_none (front x) ys later in
-    let all = filter_all (back x) ys (All-weaker (λ y. waits_first y x ≡ false) (λ y. back x y ≡ true) (λ y h. ap not h) ys later) in
-    ap (λ zs. zs ++ x ∷ filter (back x) (xs ++ ys)) (filter-append (front x) xs ys ∙ ap (λ zs. filter (front x) xs ++ zs) none ∙ append-nil
-    (filter (front x) xs))
-    ∙ ap (λ zs. filter (front x) xs ++ x ∷ zs) (filter-append (back x) xs ys ∙ ap (λ zs. filter (back x) xs ++ zs) all)
-    ∙ sym (append_assoc (filter (front x) xs) (x ∷ filter (back x) xs) ys)
+-- ---- a waiter that is inserted in one of two parts
+inserted_left : (x : Waiter) (xs ys : List Waiter) → AllByRecursion (λ y. waits_first y x ≡ false) ys → inserted waits_first x (xs ++ ys) ≡ inserted waits_first
+    x xs ++ ys
+inserted_left x [] [] later = refl
+inserted_left x [] (y ∷ ys) later = inserted_here waits_first x y ys later.0
+inserted_left x (z ∷ zs) ys later = at (waits_first z x) refl (inserted_left x zs ys later)
+  where
+    at : (b : Bool) → waits_first z x ≡ b → inserted waits_first x (zs ++ ys) ≡ inserted waits_first x zs ++ ys → inserted waits_first x (z ∷ (zs ++ ys)) ≡
+        inserted waits_first x (z ∷ zs) ++ ys
+    at true on rest =
+        inserted_behind waits_first x z (zs ++ ys) on ∙ ap (λ ws. z ∷ ws) rest ∙ sym (ap (λ ws. ws ++ ys) (inserted_behind waits_first x z zs on))
+    at false off rest = inserted_here waits_first x z (zs ++ ys) off ∙ sym (ap (λ ws. ws ++ ys) (inserted_here waits_first x z zs off))
 
-placed_right : (x : Waiter) (xs ys : List Waiter) → AllByRecursion (λ y. waits_first y x ≡ true) xs → placed waits_first x (xs ++ ys) ≡ xs ++ placed waits_first
-    x ys
-unfolding placed
-placed_right x xs ys ahead =
-    let all = filter_all (front x) xs ahead in
-    let none = filter_none (back x) xs (All-weaker (λ y. waits_first y x ≡ true) (λ y. back x y ≡ false) (λ y h. ap not h) xs ahead) in
-    ap (λ zs. zs ++ x ∷ filter (back x) (xs ++ ys)) (filter-append (front x) xs ys ∙ ap (λ zs. zs ++ filter (front x) ys) all)
-    ∙ ap (λ zs. (xs ++ filter (front x) ys) ++ x ∷ zs) (filter-append (back x) xs ys ∙ ap (λ zs. zs ++ filter (back x) ys) none)
-    ∙ append_assoc xs (filter (front x) ys) (x ∷ filter (back x) ys)
+inserted_right : (x : Waiter) (xs ys : List Waiter) → AllByRecursion (λ y. waits_first y x ≡ true) xs → inserted waits_first x (xs ++ ys) ≡ xs ++ inserted
+    waits_first x ys
+inserted_right x [] ys ahead = refl
+inserted_right x (z ∷ zs) ys ahead = inserted_behind waits_first x z (zs ++ ys) ahead.0 ∙ ap (λ ws. z ∷ ws) (inserted_right x zs ys ahead.1)
 
 -- ---- lists of waiters, the first that of mutex m
 module _ (n : ℕ) where
@@ -135,39 +123,60 @@ module _ (n : ℕ) where
           let high : n - a.key < n - b.key = grind (arith, nat_tests, is, ka.1, kb.1) in
           grind (arith, nat_tests, high)
 
-  map-placed : (m : ℕ) (x : Listed) (xs : List Listed) → is_key n x → AreKeys n xs → map (waiter_at n m) (placed lowest_first x xs) ≡ placed waits_first
+  map-inserted : (m : ℕ) (x : Listed) (xs : List Listed) → is_key n x → AreKeys n xs → map (waiter_at n m) (inserted lowest_first x xs) ≡ inserted waits_first
       (waiter_at n m x) (map (waiter_at n m) xs)
-  unfolding placed
-  map-placed m x xs here all =
-      let f = waiter_at n m in
-      let w = waiter_at n m x in
-      let ahead = λ (y : Listed). lowest_first y x in
-      let after = λ (y : Listed). not (lowest_first y x) in
-      let agree = All-weaker (is_key n) (λ y. ahead y ≡ front w (f y)) (λ y k. sym (keeps m y x k here)) xs all in
-      let agree_not = All-weaker (is_key n) (λ y. after y ≡ back w (f y)) (λ y k. ap not (sym (keeps m y x k here))) xs all in
-      map-append f (filter ahead xs) (x ∷ filter after xs)
-      ∙ ap (λ ws. ws ++ w ∷ map f (filter after xs)) (ap (map f) (filter_agrees ahead (λ y. front w (f y)) xs agree) ∙ sym (filter-map (front w) f xs))
-      ∙ ap (λ ws. filter (front w) (map f xs) ++ w ∷ ws) (ap (map f) (filter_agrees after (λ y. back w (f y)) xs agree_not) ∙ sym (filter-map (back w) f xs))
+  map-inserted m x [] here all = refl
+  map-inserted m x (y ∷ ys) here all = at (lowest_first y x) refl (map-inserted m x ys here all.1)
+    where
+      at : (b : Bool) → lowest_first y x ≡ b → map (waiter_at n m) (inserted lowest_first x ys) ≡ inserted waits_first (waiter_at n m x) (map (waiter_at n m) ys)
+          → map (waiter_at n m) (inserted lowest_first x (y ∷ ys)) ≡ inserted waits_first (waiter_at n m x) (map (waiter_at n m) (y ∷ ys))
+      at true on rest =
+          ap (map (waiter_at n m)) (inserted_behind lowest_first x y ys on)
+          ∙ ap (λ ws. waiter_at n m y ∷ ws) rest
+          ∙ sym (inserted_behind waits_first (waiter_at n m x) (waiter_at n m y) (map (waiter_at n m) ys) (keeps m y x all.0 here ∙ on))
+      at false off rest =
+          ap (map (waiter_at n m)) (inserted_here lowest_first x y ys off)
+          ∙ sym (inserted_here waits_first (waiter_at n m x) (waiter_at n m y) (map (waiter_at n m) ys) (keeps m y x all.0 here ∙ off))
 
   pub waiters_with : (m k : ℕ) (x : Listed) (rows : List (List Listed)) → k < length rows → is_key n x → AreKeys n (row_at rows k) → waiters_from n m
-      (set rows k (placed lowest_first x (row_at rows k))) ≡ placed waits_first (waiter_at n (m + k) x) (waiters_from n m rows)
+      (set rows k (inserted lowest_first x (row_at rows k))) ≡ inserted waits_first (waiter_at n (m + k) x) (waiters_from n m rows)
   waiters_with m k x [] low here all = absurd (omega (arith, low))
   waiters_with m zero x (row ∷ rows) low here all =
       let none : m + 0 ≡ m = omega arith in
       let rest = waiters_from n (m + 1) rows in
       let w = waiter_at n m x in
-      ap (λ ws. ws ++ rest) (map-placed m x row here all)
-      ∙ sym (placed_left w (map (waiter_at n m) row) rest (All-weaker (λ (y : Waiter). m + 1 ≤ y.wait.mutex) (λ y. waits_first y w ≡ false)
+      ap (λ ws. ws ++ rest) (map-inserted m x row here all)
+      ∙ sym (inserted_left w (map (waiter_at n m) row) rest (All-weaker (λ (y : Waiter). m + 1 ≤ y.wait.mutex) (λ y. waits_first y w ≡ false)
       (λ y above. grind (arith, nat_tests, above)) rest (from_mutex (m + 1) rows)))
-      ∙ ap (λ j. placed waits_first (waiter_at n j x) (map (waiter_at n m) row ++ rest)) (sym none)
+      ∙ ap (λ j. inserted waits_first (waiter_at n j x) (map (waiter_at n m) row ++ rest)) (sym none)
   waiters_with m (suc k) x (row ∷ rows) low here all =
       let here_row = map (waiter_at n m) row in
       let rest = waiters_from n (m + 1) rows in
       let w = waiter_at n (m + suc k) x in
       ap (λ ws. here_row ++ ws) (waiters_with (m + 1) k x rows (omega (arith, low)) here all)
-      ∙ ap (λ j. here_row ++ placed waits_first (waiter_at n j x) rest) (next_of_sum m k)
-      ∙ sym (placed_right w here_row rest (All-weaker (λ (y : Waiter). y.wait.mutex ≡ m) (λ y. waits_first y w ≡ true) (λ y is. grind (arith, nat_tests, is))
+      ∙ ap (λ j. here_row ++ inserted waits_first (waiter_at n j x) rest) (next_of_sum m k)
+      ∙ sym (inserted_right w here_row rest (All-weaker (λ (y : Waiter). y.wait.mutex ≡ m) (λ y. waits_first y w ≡ true) (λ y is. grind (arith, nat_tests, is))
       here_row (one_mutex m row)))
+
+  -- ---- a waiter gets another list value
+  row_valued : (t value m : ℕ) (row : List Listed) → value < n → map (waiter_at n m) (map (keyed t (n - value)) row) ≡ map (with_value t value)
+      (map (waiter_at n m) row)
+  row_valued t value m [] low = refl
+  row_valued t value m (e ∷ row) low = cc (at (eqb e.item t), row_valued t value m row low)
+    where
+      at : (b : Bool) → waiter_at n m (cond b (record e { key = n - value }) e) ≡ cond b
+          (record { task = e.item; wait = record { mutex = m; priority = value } }) (waiter_at n m e)
+      at true = let back : n - (n - value) ≡ value = omega (arith, low) in
+          ap (λ p. record { task = e.item; wait = record { mutex = m; priority = p } }) back
+      at false = refl
+
+  pub waiters_valued : (t value m : ℕ) (rows : List (List Listed)) → value < n → waiters_from n m (map (map (keyed t (n - value))) rows) ≡ map
+      (with_value t value) (waiters_from n m rows)
+  waiters_valued t value m [] low = refl
+  waiters_valued t value m (row ∷ rows) low =
+      ap (λ ws. ws ++ waiters_from n (m + 1) (map (map (keyed t (n - value))) rows)) (row_valued t value m row low)
+      ∙ ap (λ ws. map (with_value t value) (map (waiter_at n m) row) ++ ws) (waiters_valued t value (m + 1) rows low)
+      ∙ sym (map-append (with_value t value) (map (waiter_at n m) row) (waiters_from n (m + 1) rows))
 
   -- ---- the mutex that a task waits for
   wait_later : (t : ℕ) (xs ys : List Waiter) → list_any (λ (w : Waiter). eqb w.task t) xs ≡ false → wait_of t (xs ++ ys) ≡ wait_of t ys
@@ -236,7 +245,7 @@ module _ (n : ℕ) where
 
   pub same_rows : (xs ys : List (List Listed)) → AreWaiters n xs → AreWaiters n ys → waiters_from n 0 xs ≡ waiters_from n 0 ys → (k : ℕ) → row_at xs k ≡ row_at
       ys k
-  same_rows xs ys wx wy same k = same_row k (row_at xs k) (row_at ys k) (wx.keys k) (wy.keys k)
+  same_rows xs ys wx wy same k = same_row k (row_at xs k) (row_at ys k) (wx k) (wy k)
       (sym (of_list k xs) ∙ ap (filter (waits_for k)) same ∙ of_list k ys)
 
 -- ---- what the lists keep
@@ -251,42 +260,36 @@ no_waiters n m zero = refl
 no_waiters n m (suc lists) = no_waiters n (m + 1) lists
 
 pub waiters_none : (n lists : ℕ) → AreWaiters n (replicate lists [])
-unfolding ranked
-waiters_none n lists = record {
-  keys = λ m. rw (empty_row lists m) tt;
-  in_order = λ m. rw (empty_row lists m) refl;
-}
+waiters_none n lists = λ m. rw (empty_row lists m) tt
 
 pub waiters_gone : (n u : ℕ) (rows : List (List Listed)) → AreWaiters n rows → AreWaiters n (map (without_item u) rows)
-waiters_gone n u rows waiting =
-    let row = λ (m : ℕ). get_or-map (without_item u) rows m [] in
-    let stays = λ (e : Listed). not (eqb e.item u) in
-    record {
-      keys = λ m. rw (row m) (All-filter (is_key n) stays (row_at rows m) (waiting.keys m));
-      in_order = λ m. rw (row m) (sym (filter-ranked lowest_first lowest_first-IsRank stays (row_at rows m)) ∙ ap (filter stays) (waiting.in_order m));
-    }
+waiters_gone n u rows waiting = λ m. rw (get_or-map (without_item u) rows m [])
+    (All-filter (is_key n) (λ (e : Listed). not (eqb e.item u)) (row_at rows m) (waiting m))
+
+pub waiters_keyed : (n u key : ℕ) (rows : List (List Listed)) → 0 < key → key ≤ n → AreWaiters n rows → AreWaiters n (map (map (keyed u key)) rows)
+waiters_keyed n u key rows some low waiting = λ m. rw (get_or-map (map (keyed u key)) rows m [])
+    (All-map (is_key n) (keyed u key) (row_at rows m) (All-weaker (is_key n) (λ e. is_key n (keyed u key e)) (λ e is. at e (eqb e.item u) is) (row_at rows m)
+    (waiting m)))
+  where
+    at : (e : Listed) (b : Bool) → is_key n e → is_key n (cond b (record e { key = key }) e)
+    at e true is = (some, low)
+    at e false is = is
 
 module _ (n k : ℕ) (x : Listed) (rows : List (List Listed)) (low : k < length rows) (key : is_key n x) (waiting : AreWaiters n rows) where
   abbrev more : List (List Listed)
-  more = set rows k (placed lowest_first x (row_at rows k))
+  more = set rows k (inserted lowest_first x (row_at rows k))
 
-  its_row : row_at more k ≡ placed lowest_first x (row_at rows k)
-  its_row = get_or-set_same rows k (placed lowest_first x (row_at rows k)) [] low
+  its_row : row_at more k ≡ inserted lowest_first x (row_at rows k)
+  its_row = get_or-set_same rows k (inserted lowest_first x (row_at rows k)) [] low
 
   other_row : (m : ℕ) → m ≢ k → row_at more m ≡ row_at rows m
-  other_row m away = get_or-set_other rows k m (placed lowest_first x (row_at rows k)) [] away
+  other_row m away = get_or-set_other rows k m (inserted lowest_first x (row_at rows k)) [] away
 
   pub waiters_more : AreWaiters n more
-  waiters_more = record {
-    keys = λ m. elim (cases_eq m k) [
-      | inl same ↦ rw (same, its_row) (All-placed lowest_first (is_key n) x (row_at rows k) key (waiting.keys k))
-      | inr away ↦ rw (other_row m away) (waiting.keys m)
-    ];
-    in_order = λ m. elim (cases_eq m k) [
-      | inl same ↦ rw (same, its_row) (ranked-placed lowest_first lowest_first-IsRank x (row_at rows k) (waiting.in_order k))
-      | inr away ↦ rw (other_row m away) (waiting.in_order m)
-    ];
-  }
+  waiters_more = λ m. elim (cases_eq m k) [
+    | inl same ↦ rw (same, its_row) (All-inserted lowest_first x (is_key n) (row_at rows k) key (waiting k))
+    | inr away ↦ rw (other_row m away) (waiting m)
+  ]
 
 -- ---- the key of the first of a list
 found_row : (t k : ℕ) (rows : List (List Listed)) → has_item t (row_at rows k) ≡ true → ((j : ℕ) → has_item t (row_at rows j) ≡ true → j ≡ k) → find

@@ -1,5 +1,8 @@
 -- What the fields of the mutexes show.
-use Rattle.std.proofs.Common.{◌≡◌, ◌≢◌, ℕ, ◌-◌, ◌<◌, ◌≤◌, ◌^◌, true, eqb, List, [], ◌∷◌, map, replicate, length, Option, Some, None, option_map, refl, sym, ap}
+use Rattle.std.proofs.Common.{◌≡◌, ◌≢◌, ℕ, ◌-◌, ◌<◌, ◌≤◌, ◌^◌, Bool, true, false, cond, eqb, ltb, List, [], ◌∷◌, map, set, replicate, length, Option, Some, None}
+use Rattle.std.proofs.Common.{option_map, refl, sym, ap}
+use Rattle.std.specs.Prelude.{All}
+use Rattle.std.proofs.lemmas.Bool.Decides.{nat_tests}
 use Rattle.std.proofs.Common.{subst, ◌∙◌, zero-add, arith}
 use Rattle.std.specs.Option.{ForSome}
 use Rattle.std.specs.List.{filter, find}
@@ -8,18 +11,25 @@ use Rattle.std.proofs.lemmas.List.Elements.{All-replicate}
 use Rattle.std.proofs.lemmas.Option.{same_Some}
 use Rattle.bench_types.specs.declared.kernel_data.MutexWait.{MutexWait}
 use Rattle.bench_types.specs.declared.kernel_data.Waiter.{Waiter}
-use Rattle.list_orders.specs.Search.{placed}
-use Rattle.index_lists.specs.Listed.{Listed, ListsView, empty_lists, with_list, items_of, list_of, key_of, without_item, lowest_first, first_of as first_item}
+use Rattle.list_orders.specs.Search.{inserted}
+use Rattle.index_lists.specs.Listed.{Listed, ListsView, empty_lists, with_list, items_of, list_of, key_of, without_item, keyed, lowest_first, first_of as first_item}
 use Rattle.index_lists.specs.Listed.{EachInOneList}
 use Rattle.bench_model.specs.Waiters.{without_waiter, first_of}
-use Rattle.bench_model.specs.Waiters.{with_waiter, wait_of}
-use Rattle.mutex_inherit.specs.Parts.{MutexPart, waiter_at, waiters_from, tasks_for, seen_mutexes, free_mutexes}
+use Rattle.bench_model.specs.Control.{Control, task_at}
+use Rattle.bench_model.specs.Waiters.{with_waiter, wait_of, with_value}
+use Rattle.mutex_inherit.specs.Parts.{MutexPart, waiter_at, waiters_from, tasks_for, seen_mutexes, free_mutexes, inherited_part, valued}
 use Rattle.mutex_inherit.specs.Shape.{AreKeys, AreWaiters, IsMutexShape}
-use Rattle.mutex_inherit.proofs.Rows.{row_at, no_waiters, waiters_none, of_list, list_tasks, first_waiting, waiters_without, waiters_with, waits_in, same_row}
+use Rattle.mutex_inherit.proofs.Rows.{row_at, no_waiters, waiters_none, of_list, list_tasks, first_waiting, waiters_without, waiters_with, waiters_valued, waits_in, same_row}
 use Rattle.mutex_inherit.proofs.Rows.{same_rows, first_key}
 
-abbrev part_of : ℕ → ℕ → List (Option ℕ) → List Waiter → MutexPart
-part_of tasks priorities holders waiters = record { tasks = tasks; priorities = priorities; holders = holders; waiters = waiters }
+abbrev part_of : ℕ → ℕ → List (Option ℕ) → List ℕ → List Waiter → MutexPart
+part_of tasks priorities holders values waiters = record {
+  tasks = tasks;
+  priorities = priorities;
+  holders = holders;
+  waiters = waiters;
+  values = values;
+}
 
 abbrev waiter_from : ℕ → ℕ → ℕ → Waiter
 waiter_from task mutex priority = record { task = task; wait = record { mutex = mutex; priority = priority } }
@@ -31,22 +41,23 @@ abbrev the_row : List Listed
 the_row = []
 
 -- the start
-pub free_shape : (tasks priorities mutexes : ℕ) → mutexes < 2 ^ 32 → IsMutexShape tasks priorities (replicate mutexes None) (empty_lists tasks mutexes)
-free_shape tasks priorities mutexes few = record {
+pub free_shape : (tasks priorities mutexes : ℕ) (values : List ℕ) → mutexes < 2 ^ 32 → All (λ value. value < priorities) values → IsMutexShape tasks priorities
+    (replicate mutexes None) values (empty_lists tasks mutexes)
+free_shape tasks priorities mutexes values few below = record {
   few_mutexes = omega (arith, length-replicate mutexes (the_none), few);
   held_by_tasks = All-replicate (λ holder. ForSome holder (λ task. task < tasks)) mutexes None (λ task is. absurd (cc (is)));
   items = refl;
   each = length-replicate mutexes the_row ∙ sym (length-replicate mutexes the_none);
   waiting = waiters_none priorities mutexes;
+  list_values = below;
 }
 
-pub seen_free_mutexes : (tasks priorities mutexes : ℕ) → seen_mutexes tasks priorities (replicate mutexes None) (empty_lists tasks mutexes) ≡ free_mutexes tasks
-    priorities mutexes
-seen_free_mutexes tasks priorities mutexes = ap (λ ws. record { tasks = tasks; priorities = priorities; holders = replicate mutexes None; waiters = ws })
-    (no_waiters priorities 0 mutexes)
+pub seen_free_mutexes : (tasks priorities mutexes : ℕ) (values : List ℕ) → seen_mutexes tasks priorities (replicate mutexes None) values
+    (empty_lists tasks mutexes) ≡ free_mutexes tasks priorities mutexes values
+seen_free_mutexes tasks priorities mutexes values = ap (part_of tasks priorities (replicate mutexes None) values) (no_waiters priorities 0 mutexes)
 
 -- ---- fields that show a part
-module _ (t n : ℕ) (hs : List (Option ℕ)) (view : ListsView) (part : MutexPart) (is : seen_mutexes t n hs view ≡ part) where
+module _ (t n : ℕ) (hs : List (Option ℕ)) (vs : List ℕ) (view : ListsView) (part : MutexPart) (is : seen_mutexes t n hs vs view ≡ part) where
   pub tasks_seen : (m : ℕ) → items_of (row_at view.lists m) ≡ tasks_for m part.waiters
   tasks_seen m = list_tasks n m view.lists ∙ ap (λ (p : MutexPart). tasks_for m p.waiters) is
 
@@ -57,23 +68,32 @@ module _ (t n : ℕ) (hs : List (Option ℕ)) (view : ListsView) (part : MutexPa
   free_seen task free = mutex_seen task ∙ ap (option_map (λ (wait : MutexWait). wait.mutex)) free
 
   -- a waiter leaves, and one comes
-  pub seen_leave : (task : ℕ) → seen_mutexes t n hs (record view { lists = map (without_item task) view.lists }) ≡ record part
+  pub seen_leave : (task : ℕ) → seen_mutexes t n hs vs (record view { lists = map (without_item task) view.lists }) ≡ record part
       { waiters = without_waiter task part.waiters }
   seen_leave task =
-      ap (λ (ws : List Waiter). part_of t n hs ws) (waiters_without n task 0 view.lists)
+      ap (λ (ws : List Waiter). part_of t n hs vs ws) (waiters_without n task 0 view.lists)
       ∙ ap (λ (p : MutexPart). record p { waiters = without_waiter task p.waiters }) is
 
-  pub seen_enter : (task m priority : ℕ) → m < length view.lists → priority < n → AreWaiters n view.lists → seen_mutexes t n hs
-      (with_list m (placed lowest_first (record { item = task; key = n - priority }) (row_at view.lists m)) view) ≡ record part
+  pub seen_enter : (task m priority : ℕ) → m < length view.lists → priority < n → AreWaiters n view.lists → seen_mutexes t n hs vs
+      (with_list m (inserted lowest_first (record { item = task; key = n - priority }) (row_at view.lists m)) view) ≡ record part
       { waiters = with_waiter (record { task = task; wait = record { mutex = m; priority = priority } }) part.waiters }
   seen_enter task m priority low below waiting =
       let x : Listed = record { item = task; key = n - priority } in
       let back : n - (n - priority) ≡ priority = omega (arith, below) in
-      ap (λ (ws : List Waiter). part_of t n hs ws) (waiters_with n 0 m x view.lists low (omega (arith, below), omega arith) (waiting.keys m))
-      ∙ ap (λ (j : ℕ). part_of t n hs (with_waiter (record { task = task; wait = record { mutex = j; priority = n - (n - priority) } })
+      ap (λ (ws : List Waiter). part_of t n hs vs ws) (waiters_with n 0 m x view.lists low (omega (arith, below), omega arith) (waiting m))
+      ∙ ap (λ (j : ℕ). part_of t n hs vs (with_waiter (record { task = task; wait = record { mutex = j; priority = n - (n - priority) } })
       (waiters_from n 0 view.lists))) (zero-add m)
-      ∙ ap (λ (j : ℕ). part_of t n hs (with_waiter (record { task = task; wait = record { mutex = m; priority = j } }) (waiters_from n 0 view.lists))) back
+      ∙ ap (λ (j : ℕ). part_of t n hs vs (with_waiter (record { task = task; wait = record { mutex = m; priority = j } }) (waiters_from n 0 view.lists))) back
       ∙ ap (λ (p : MutexPart). record p { waiters = with_waiter (record { task = task; wait = record { mutex = m; priority = priority } }) p.waiters }) is
+
+  -- a task gets another list value
+  pub seen_valued : (task value : ℕ) → value < n → task < length vs → seen_mutexes t n hs (set vs task value)
+      (record view { lists = map (map (keyed task (n - value))) view.lists }) ≡ valued task value part
+  seen_valued task value below low =
+      let valid : ltb task (length vs) ≡ true = grind (arith, nat_tests, low) in
+      ap (part_of t n hs (set vs task value)) (waiters_valued n task value 0 view.lists below)
+      ∙ ap (λ b. part_of t n hs (set vs task value) (cond b (map (with_value task value) (waiters_from n 0 view.lists)) (waiters_from n 0 view.lists))) (sym valid)
+      ∙ ap (valued task value) is
 
   -- the first of a mutex
   heads : (m : ℕ) (row : List Listed) → first_item row ≡ option_map (λ (w : Waiter). w.task) (find (λ _. true) (map (waiter_at n m) row))
@@ -100,7 +120,7 @@ module _ (t n : ℕ) (hs : List (Option ℕ)) (view : ListsView) (part : MutexPa
     of_head [] row first = absurd (cc (first))
     of_head (e ∷ rest) row first =
         let item : e.item ≡ task = same_Some _ _ first in
-        let keys : AreKeys n (e ∷ rest) = subst (AreKeys n) row (waiting.keys m) in
+        let keys : AreKeys n (e ∷ rest) = subst (AreKeys n) row (waiting m) in
         let found = ap (λ r. find (λ _. true) (map (waiter_at n m) r)) row in (
           e.key,
           (
@@ -127,9 +147,38 @@ module _ (t n : ℕ) (hs : List (Option ℕ)) (view : ListsView) (part : MutexPa
     pub has_key : key_of task view ≢ None
     has_key none = absurd (cc (sym the_key.1.2 ∙ none))
 
+-- ---- a waiter that gets another list value is one still, for the same mutex
+free_valued : (i task value : ℕ) (ws : List Waiter) → wait_of i ws ≡ None → wait_of i (map (with_value task value) ws) ≡ None
+free_valued i task value [] free = refl
+free_valued i task value (w ∷ ws) free = at (eqb w.task i) (eqb w.task task) refl free (free_valued i task value ws)
+  where
+    at : (b c : Bool) → eqb w.task i ≡ b → option_map (λ (v : Waiter). v.wait) (cond b (Some w) (find (λ (v : Waiter). eqb v.task i) ws)) ≡ None
+        → (wait_of i ws ≡ None → wait_of i (map (with_value task value) ws) ≡ None)
+        → option_map (λ (v : Waiter). v.wait) (cond (eqb (cond c (record w { wait = record w.wait { priority = value } }) w).task i)
+        (Some (cond c (record w { wait = record w.wait { priority = value } }) w)) (find (λ (v : Waiter). eqb v.task i) (map (with_value task value) ws))) ≡ None
+    at true c here free rest = absurd (cc free)
+    at false true away free rest = ap (λ b. option_map (λ (v : Waiter). v.wait) (cond b (Some (record w { wait = record w.wait { priority = value } }))
+        (find (λ (v : Waiter). eqb v.task i) (map (with_value task value) ws)))) away ∙ rest free
+    at false false away free rest = ap (λ b. option_map (λ (v : Waiter). v.wait) (cond b (Some w)
+        (find (λ (v : Waiter). eqb v.task i) (map (with_value task value) ws)))) away ∙ rest free
+
+-- so a task that waits for none waits for none after one inherited
+pub free_later : (i holder priority : ℕ) (control : Control) (part : MutexPart) → wait_of i part.waiters ≡ None → wait_of i
+    (inherited_part control holder priority part).waiters ≡ None
+free_later i holder priority control part free = at (ltb (task_at control holder).in_use priority) (ltb holder (length part.values))
+  where
+    at : (b c : Bool) → wait_of i (cond b (record part {
+      waiters = cond c (map (with_value holder priority) part.waiters) part.waiters;
+      values = set part.values holder priority;
+    }) part).waiters ≡ None
+    at true true = free_valued i holder priority part.waiters free
+    at true false = free
+    at false c = free
+
 -- ---- two of them
-module _ (t n : ℕ) (hs : List (Option ℕ)) (view : ListsView) (part : MutexPart) (is : seen_mutexes t n hs view ≡ part) (u o : ℕ) (gs : List (Option ℕ))
-    (view' : ListsView) (part' : MutexPart) (is' : seen_mutexes u o gs view' ≡ part') (shape : IsMutexShape t n hs view) (shape' : IsMutexShape u o gs view')
+module _ (t n : ℕ) (hs : List (Option ℕ)) (vs : List ℕ) (view : ListsView) (part : MutexPart) (is : seen_mutexes t n hs vs view ≡ part) (u o : ℕ)
+    (gs : List (Option ℕ)) (us : List ℕ) (view' : ListsView) (part' : MutexPart) (is' : seen_mutexes u o gs us view' ≡ part')
+    (shape : IsMutexShape t n hs vs view) (shape' : IsMutexShape u o gs us view')
     (alike : part.priorities ≡ part'.priorities) where
   same_n : o ≡ n
   same_n = ap (λ (p : MutexPart). p.priorities) is' ∙ sym alike ∙ sym (ap (λ (p : MutexPart). p.priorities) is)
@@ -159,6 +208,6 @@ module _ (t n : ℕ) (hs : List (Option ℕ)) (view : ListsView) (part : MutexPa
       let sized : length view.lists ≡ length view'.lists = shape.each ∙ ap (λ (p : MutexPart). length p.holders) is ∙ ap length holders ∙ sym
       (ap (λ (p : MutexPart). length p.holders) is') ∙ sym shape'.each in
       let rows : view.lists ≡ view'.lists = ext_get_or the_row view.lists view'.lists sized
-      (λ k low. same_row n k (row_at view.lists k) (row_at view'.lists k) (shape.waiting.keys k) (waiting'.keys k)
+      (λ k low. same_row n k (row_at view.lists k) (row_at view'.lists k) (shape.waiting k) (waiting' k)
       (sym (group k) ∙ same k (omega (arith, low, shape.each)) ∙ group' k)) in
       sym (ap (λ (p : MutexPart). p.waiters) is) ∙ ap (waiters_from n 0) rows ∙ seen'

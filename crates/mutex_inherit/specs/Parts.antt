@@ -1,8 +1,11 @@
 -- What can be seen of the mutexes: who holds each, and who waits.
-use Rattle.std.specs.Prelude.{ℕ, ◌+◌, ◌-◌, List, [], ◌∷◌, ◌++◌, map, filter, replicate, ◌==◌, Option, None, unwrap_or}
+use Rattle.std.specs.Prelude.{ℕ, ◌+◌, ◌-◌, List, [], ◌∷◌, ◌++◌, map, filter, replicate, ◌==◌, nat_lt, Option, None, unwrap_or, if◌then◌else◌, slice_set}
+use Rattle.bench_types.specs.declared.kernel_data.MutexWait.{MutexWait}
 use Rattle.bench_types.specs.declared.kernel_data.Waiter.{Waiter}
 use Rattle.index_lists.specs.Listed.{Listed, ListsView}
+use Rattle.bench_model.specs.Control.{Control, task_at}
 use Rattle.bench_model.specs.State.{holder_at}
+use Rattle.bench_model.specs.Waiters.{list_value_of, revalued, with_waiter}
 
 pub record MutexPart : Type 0 where
   -- how many tasks and how many priorities there are
@@ -10,9 +13,10 @@ pub record MutexPart : Type 0 where
   pub priorities : ℕ
   -- per mutex the task that holds it, if there is one
   pub holders : List (Option ℕ)
-  -- the tasks that wait for mutexes: mutex 0 first, of one mutex the greatest waiting priority
-  -- first, those of one priority in the order in which they began to wait
+  -- the tasks that wait for mutexes: mutex 0 first, of one mutex the first in its list first
   pub waiters : List Waiter
+  -- per task its list value; empty where the session has none
+  pub values : List ℕ
 
 -- the waiter that stands in the list of the mutex: its key is how far its waiting priority lies
 -- below the number of priorities
@@ -31,23 +35,25 @@ waiters_from priorities mutex (list ∷ lists) =
     map (waiter_at priorities mutex) list ++ waiters_from priorities (mutex + 1) lists
 
 -- what can be seen of lists of waiters, where list m is that of mutex m
-abbrev pub seen_mutexes : ℕ → ℕ → List (Option ℕ) → ListsView → MutexPart
-seen_mutexes tasks priorities holders view =
+abbrev pub seen_mutexes : ℕ → ℕ → List (Option ℕ) → List ℕ → ListsView → MutexPart
+seen_mutexes tasks priorities holders values view =
     record {
       tasks = tasks;
       priorities = priorities;
       holders = holders;
       waiters = waiters_from priorities 0 view.lists;
+      values = values;
     }
 
 -- no task holds a mutex or waits for one
-abbrev pub free_mutexes : ℕ → ℕ → ℕ → MutexPart
-free_mutexes tasks priorities mutexes =
+abbrev pub free_mutexes : ℕ → ℕ → ℕ → List ℕ → MutexPart
+free_mutexes tasks priorities mutexes values =
     record {
       tasks = tasks;
       priorities = priorities;
       holders = replicate mutexes None;
       waiters = [];
+      values = values;
     }
 
 -- the task that holds a mutex which is held
@@ -58,3 +64,31 @@ holder_of holders mutex = unwrap_or (holder_at holders mutex) 0
 abbrev pub tasks_for : ℕ → List Waiter → List ℕ
 tasks_for mutex waiters =
     map (λ waiter. waiter.task) (filter (λ waiter. waiter.wait.mutex == mutex) waiters)
+
+-- The task's list value becomes this one, where there are list values. No waiter moves.
+abbrev pub valued : ℕ → ℕ → MutexPart → MutexPart
+valued task value part =
+    record part {
+      waiters = revalued part.values task value part.waiters;
+      values = slice_set part.values task value;
+    }
+
+-- The holder takes over a greater priority than its own in use, and as its list value too.
+abbrev pub inherited_part : Control → ℕ → ℕ → MutexPart → MutexPart
+inherited_part control holder priority part =
+    if nat_lt (task_at control holder).in_use priority then valued holder priority part else part
+
+-- The task's list value, where its priority in use becomes this one, unless it is this one already.
+abbrev pub disinherited_part : Control → ℕ → ℕ → MutexPart → MutexPart
+disinherited_part control task priority part =
+    if (task_at control task).in_use == priority then part else valued task priority part
+
+-- The task waits for the mutex with its list value, or with its priority in use where there are no
+-- list values; the holder inherits its priority in use.
+abbrev pub waited_part : Control → ℕ → ℕ → MutexPart → MutexPart
+waited_part control task mutex part =
+    let in_use = (task_at control task).in_use in
+    let priority = unwrap_or (list_value_of task part.values) in_use in
+    let wait : MutexWait = record { mutex = mutex; priority = priority } in
+    let later = inherited_part control (holder_of part.holders mutex) in_use part in
+    record later { waiters = with_waiter (record { task = task; wait = wait }) later.waiters }

@@ -2,24 +2,23 @@
 use Rattle.std.specs.Prelude.{◌≡◌, ℕ, ◌<◌, ◌≤◌, ◌^◌, List, [], length, All, Option, slice_index_or}
 use Rattle.std.specs.List.{AllByRecursion}
 use Rattle.std.specs.Option.{ForSome}
-use Rattle.list_orders.specs.Search.{ranked}
-use Rattle.index_lists.specs.Listed.{Listed, ListsView, lowest_first}
+use Rattle.index_lists.specs.Listed.{Listed, ListsView}
 
 -- the keys are those of priorities that there are
 abbrev pub AreKeys : ℕ → List Listed → Type 0
 AreKeys priorities list = AllByRecursion (λ entry. (0 < entry.key) × (entry.key ≤ priorities)) list
 
--- Each list is in the order of its keys, which are those of priorities.
-pub record AreWaiters (priorities : ℕ) (lists : List (List Listed)) : Type 0 where
-  pub keys : (m : ℕ) → AreKeys priorities (slice_index_or lists m [])
-  pub in_order : (m : ℕ)
-      → ranked lowest_first (slice_index_or lists m []) ≡ slice_index_or lists m []
+-- so they are in each list
+abbrev pub AreWaiters : ℕ → List (List Listed) → Type 0
+AreWaiters priorities lists = (m : ℕ) → AreKeys priorities (slice_index_or lists m [])
 
--- each holder is a task, and there is a list of waiters for each mutex
-pub record IsMutexShape (tasks priorities : ℕ) (holders : List (Option ℕ)) (view : ListsView)
-    : Type 0 where
+-- each holder is a task, each list value is a priority, and there is a list of waiters for each
+-- mutex
+pub record IsMutexShape (tasks priorities : ℕ) (holders : List (Option ℕ)) (values : List ℕ)
+    (view : ListsView) : Type 0 where
   pub few_mutexes : length holders < 2 ^ 32
   pub held_by_tasks : All (λ holder. ForSome holder (λ task. task < tasks)) holders
   pub items : view.items ≡ tasks
   pub each : length view.lists ≡ length holders
   pub waiting : AreWaiters priorities view.lists
+  pub list_values : All (λ value. value < priorities) values

@@ -34,7 +34,7 @@ fn set_in_use(cores: &mut Cores, task: u32, priority: u32)
 
 /// The holder takes over a greater priority in use; where it is ready and runs on no core, a core
 /// is sought for it (V11 tasks.c, xTaskPriorityInherit).
-#[tactic(auto, unfolding(bench_model::specs::Mutexes::inherited))]
+#[tactic(auto, unfolding(bench_model::specs::Mutexes::inherited, bench_model::specs::ControlFields::in_use_and_value_set, bench_model::specs::Lists::set_list_value))]
 pub(crate) fn inherit(cores: &mut Cores, acting: u32, holder: u32, priority: u32)
     requires holder { holder < length cores.old.control.tasks }
     requires priority { priority < cores.old.priorities }
@@ -50,7 +50,7 @@ pub(crate) fn inherit(cores: &mut Cores, acting: u32, holder: u32, priority: u32
 
 /// The task's priority in use becomes this one, unless it is this one already; the core of a
 /// running task is asked.
-#[tactic(auto, unfolding(bench_model::specs::Mutexes::after_disinherit))]
+#[tactic(auto, unfolding(bench_model::specs::Mutexes::after_disinherit, bench_model::specs::ControlFields::in_use_and_value_set, bench_model::specs::Lists::set_list_value))]
 pub(crate) fn lower(cores: &mut Cores, acting: u32, task: u32, priority: u32)
     requires task { task < length cores.old.control.tasks }
     requires priority { priority < cores.old.priorities }

@@ -1,5 +1,5 @@
 //! Mutexes, their holders and their waiters.
-ghost use Rattle.std.specs.Prelude.{◌≡◌, ◌↔◌, ℕ, ◌+◌, ◌<◌, ◌^◌, ◌==◌, ◌&&◌, not, if◌then◌else◌, length, replicate, slice_set, is_none, option_map, Some, None, IsTrue, IfOk, IfSome};
+ghost use Rattle.std.specs.Prelude.{◌≡◌, ◌↔◌, ℕ, ◌+◌, ◌<◌, ◌^◌, ◌==◌, ◌&&◌, not, if◌then◌else◌, length, replicate, slice_set, is_none, option_map, Some, None, All, IsTrue, IfOk, IfSome};
 ghost use Rattle.std.specs.Option.{IsSome, ForSome};
 ghost use Rattle.bench_types.specs.declared.kernel_data.MutexWait.{MutexWait};
 ghost use Rattle.bench_types.specs.declared.kernel_data.Waiter.{Waiter};
@@ -8,10 +8,10 @@ ghost use Rattle.bench_model.specs.State.{holder_at};
 ghost use Rattle.bench_model.specs.Lists.{list_queues};
 ghost use Rattle.bench_model.specs.Waiters.{without_waiter, first_of};
 ghost use Rattle.bench_model.specs.Mutexes.{held_by, is_marked, disinherit_priority, inherited, after_disinherit};
-ghost use Rattle.bench_model.specs.Waiters.{with_waiter, wait_of};
+ghost use Rattle.bench_model.specs.Waiters.{list_value_of, with_waiter, wait_of};
 ghost use Rattle.bench_model.specs.Cores.{cores_rule};
 ghost use Rattle.index_lists.specs.Listed.{list_at, items_of};
-ghost use Rattle.mutex_inherit.specs.Parts.{free_mutexes, holder_of, tasks_for};
+ghost use Rattle.mutex_inherit.specs.Parts.{disinherited_part, free_mutexes, holder_of, inherited_part, tasks_for, valued, waited_part};
 
 use crate::inheritance::{disinherit_priority, inherit, is_marked, lower};
 use bench_types::{MutexWait, Waiter};
@@ -28,8 +28,10 @@ pub struct Mutexes {
     /// Per mutex the task that holds it.
     holders: Vec<Option<u32>>,
     /// Per mutex the tasks that wait for it, each with how far its waiting priority lies below the
-    /// number of priorities; of equal ones, the longer one has been waiting, the earlier it stands.
+    /// number of priorities.
     lists: Lists,
+    /// Per task its list value; empty where the session has none.
+    values: Vec<u32>,
 }
 
 // Written out, so that whoever drops one has one call to prove, and not one for each list in it.
@@ -40,6 +42,7 @@ impl Drop for Mutexes {
             priorities: _,
             holders: _,
             lists: _,
+            values: _,
         } = self;
     }
 }
@@ -51,24 +54,33 @@ impl Model for Mutexes {
     ghost Value = { MutexPart };
 
     ghost view = { λ part. seen_mutexes part.tasks part.priorities part.holders.items
-        part.lists };
+        part.values.items part.lists };
 
     ghost invariant = { λ part. IsMutexShape part.tasks part.priorities part.holders.items
-        part.lists };
+        part.values.items part.lists };
 }
 
 impl Mutexes {
     /// No mutex is held, and no task waits. There is room for so many tasks to wait, each with a
-    /// priority below their number.
-    pub fn new(alloc: Global, tasks: u32, priorities: u32, mutexes: u32) -> Result<Self, AllocError>
-        requires { tasks + mutexes < 2 ^ 32 }
-        ensures { IfOk result (λ part. part ≡ free_mutexes tasks priorities mutexes) }
+    /// priority below their number. The values are the tasks' list values, task 0 first; none
+    /// where the session has no list values.
+    pub fn new(
+        alloc: Global,
+        tasks: u32,
+        priorities: u32,
+        mutexes: u32,
+        values: Vec<u32>,
+    ) -> Result<Self, AllocError>
+        requires few { tasks + mutexes < 2 ^ 32 }
+        requires values { All (λ value. value < priorities) values.items }
+        ensures { IfOk result (λ part. part ≡ free_mutexes tasks priorities mutexes values.items) }
     {
         Ok(Mutexes {
             tasks,
             priorities,
             holders: free_holders(alloc, mutexes)?,
             lists: Lists::new(alloc, tasks, mutexes)?,
+            values,
         })
     }
 
@@ -81,18 +93,22 @@ impl Mutexes {
             priorities: self.priorities,
             holders: Vec::from_slice(alloc, &self.holders)?,
             lists: self.lists.copy(alloc)?,
+            values: Vec::from_slice(alloc, &self.values)?,
         })
     }
 
-    /// This becomes equal to the other, which has as many tasks and mutexes. No memory is taken.
+    /// This becomes equal to the other, which has as many tasks, mutexes and list values. No memory
+    /// is taken.
     pub fn copy_from(&mut self, other: &Self)
         requires tasks { self.old.tasks ≡ other.now.tasks }
         requires mutexes { length self.old.holders ≡ length other.now.holders }
+        requires values { length self.old.values ≡ length other.now.values }
         ensures { self.new ≡ other.now }
     {
         self.priorities = other.priorities;
         self.holders.copy_from_slice(&other.holders);
         self.lists.copy_from(&other.lists);
+        self.values.copy_from_slice(&other.values);
     }
 
     /// Whether all that can be seen of the two is equal.
@@ -100,7 +116,9 @@ impl Mutexes {
         ensures { IsTrue result ↔ (self.now ≡ other.now) }
     {
         // Nested, so that each test is proved where those before it hold.
-        self.has_same_sizes(other) && (self.has_same_holders(other) && self.has_same_waiters(other))
+        self.has_same_sizes(other)
+            && (self.has_same_holders(other)
+                && (self.has_same_values(other) && self.has_same_waiters(other)))
     }
 
     /// The task that holds the mutex; none where it is free.
@@ -128,8 +146,7 @@ impl Mutexes {
         self.lists.list_of(task)
     }
 
-    /// The tasks that wait: list m has those that wait for mutex m, the greatest waiting priority
-    /// first, those of one priority in the order in which they began to wait.
+    /// The tasks that wait: list m has those that wait for mutex m, in the order of the waiters.
     pub fn lists(&self) -> &Lists
         ensures items { result.now.items ≡ self.now.tasks }
         ensures mutexes { length result.now.lists ≡ length self.now.holders }
@@ -137,6 +154,27 @@ impl Mutexes {
             → items_of (list_at result.now m) ≡ tasks_for m self.now.waiters }
     {
         &self.lists
+    }
+
+    /// The list value of the task, a priority; none where the session has no list values.
+    pub fn list_value(&self, task: u32) -> Option<u32>
+        ensures value { result ≡ list_value_of task self.now.values }
+        ensures below { IfSome result (λ value. value < self.now.priorities) }
+    {
+        self.values.get(task as usize).copied()
+    }
+
+    /// The list value of the task becomes this one, a priority, where the session has list values.
+    /// Where the task waits, it does so with this priority from now on; no waiter moves.
+    pub fn set_list_value(&mut self, task: u32, value: u32)
+        requires task { task < self.old.tasks }
+        requires value { value < self.old.priorities }
+        ensures { self.new ≡ valued task value self.old }
+    {
+        if (task as usize) < self.values.len() {
+            self.values[task as usize] = value;
+            self.lists.set_key(task, self.priorities - value);
+        }
     }
 
     /// The task takes the mutex where it is free. Returns whether it was; where not, nothing
@@ -157,8 +195,9 @@ impl Mutexes {
         is_free
     }
 
-    /// The task waits for the mutex, which a task holds, after those that wait with its priority in
-    /// use or a greater one, and the holder inherits that priority. Returns the mark of the wait.
+    /// The task waits for the mutex, which a task holds, with its list value, or with its priority
+    /// in use where there are no list values: before the first that waits for it with a lesser
+    /// one. The holder inherits the task's priority in use. Returns the mark of the wait.
     pub fn wait_on(&mut self, cores: &mut Cores, acting: u32, task: u32, mutex: u32) -> bool
         requires task { task < self.old.tasks }
         requires tasks { length cores.old.control.tasks ≡ self.old.tasks }
@@ -172,17 +211,13 @@ impl Mutexes {
             ≡ cores_rule
             (inherited list_queues acting (holder_of self.old.holders mutex)
             (task_at cores.old.control task).in_use) cores.old }
-        ensures waiters { let rank = (task_at cores.old.control task).in_use in
-            self.new ≡ record self.old {
-              waiters = with_waiter
-                  (record { task = task; wait = record { mutex = mutex; priority = rank } })
-                  self.old.waiters;
-            } }
+        ensures part { self.new ≡ waited_part cores.old.control task mutex self.old }
     {
         let holder = self.holder_of(mutex);
-        let priority = cores.in_use(task);
+        let in_use = cores.in_use(task);
+        let priority = self.list_value(task).unwrap_or(in_use);
         let mark = is_marked(cores, task, holder);
-        inherit(cores, acting, holder, priority);
+        self.inherit(cores, acting, holder, in_use);
         self.enter(task, mutex, priority);
         mark
     }
@@ -192,13 +227,18 @@ impl Mutexes {
     pub fn give(&mut self, cores: &mut Cores, acting: u32, task: u32, mutex: u32) -> Option<u32>
         requires task { task < self.old.tasks }
         requires tasks { length cores.old.control.tasks ≡ self.old.tasks }
+        requires priorities { cores.old.priorities ≡ self.old.priorities }
         requires mutex { mutex < length self.old.holders }
         requires held { holder_at self.old.holders mutex ≡ Some task }
         ensures first { result
-            ≡ option_map (λ (waiter : Waiter). waiter.task) (first_of mutex self.old.waiters) }
+            ≡ option_map (λ (waiter : Waiter). waiter.task) (first_of mutex self.new.waiters) }
         ensures task { IfSome result (λ waiter. waiter < self.old.tasks) }
-        ensures holders { self.new
-            ≡ record self.old { holders = slice_set self.old.holders mutex None } }
+        ensures part { let holders = slice_set self.old.holders mutex None in
+            let given = record self.old { holders = holders } in
+            self.new
+            ≡ (if held_by holders task == 0
+            then disinherited_part cores.old.control task (task_at cores.old.control task).base
+            given else given) }
         ensures cores { cores.new
             ≡ (if held_by (slice_set self.old.holders mutex None) task == 0
             then cores_rule
@@ -207,7 +247,7 @@ impl Mutexes {
     {
         self.set_holder(mutex, None);
         if self.held(task) == 0 {
-            lower(cores, acting, task, cores.base(task));
+            self.disinherit(cores, acting, task, cores.base(task));
         }
         self.first_task(mutex)
     }
@@ -215,23 +255,29 @@ impl Mutexes {
     /// A wait with a mark has ended without the mutex, which another task may hold: where that task
     /// holds no other, it keeps what it owes to those that still wait (V11 tasks.c,
     /// vTaskPriorityDisinheritAfterTimeout).
-    pub fn after_timeout(&self, cores: &mut Cores, acting: u32, task: u32, mutex: u32)
-        requires tasks { length cores.old.control.tasks ≡ self.now.tasks }
-        requires priorities { cores.old.priorities ≡ self.now.priorities }
-        requires mutex { mutex < length self.now.holders }
-        requires held { IsSome (holder_at self.now.holders mutex) }
-        ensures { let holder
-            = holder_of self.now.holders mutex in cores.new
-            ≡ (if not (holder == task) && held_by self.now.holders holder == 1
-            then cores_rule
-            (after_disinherit list_queues acting holder
-            (disinherit_priority (first_of mutex self.now.waiters)
-            (task_at cores.old.control holder).base)) cores.old else cores.old) }
+    pub fn after_timeout(&mut self, cores: &mut Cores, acting: u32, task: u32, mutex: u32)
+        requires tasks { length cores.old.control.tasks ≡ self.old.tasks }
+        requires priorities { cores.old.priorities ≡ self.old.priorities }
+        requires mutex { mutex < length self.old.holders }
+        requires held { IsSome (holder_at self.old.holders mutex) }
+        ensures part { let holder = holder_of self.old.holders mutex in
+            let base = (task_at cores.old.control holder).base in
+            let owed = disinherit_priority (first_of mutex self.old.waiters) base in
+            self.new
+            ≡ (if not (holder == task) && held_by self.old.holders holder == 1
+            then disinherited_part cores.old.control holder owed self.old else self.old) }
+        ensures cores { let holder = holder_of self.old.holders mutex in
+            let base = (task_at cores.old.control holder).base in
+            let owed = disinherit_priority (first_of mutex self.old.waiters) base in
+            cores.new
+            ≡ (if not (holder == task) && held_by self.old.holders holder == 1
+            then cores_rule (after_disinherit list_queues acting holder owed) cores.old
+            else cores.old) }
     {
         let holder = self.holder_of(mutex);
         if holder != task && self.held(holder) == 1 {
             let owed = disinherit_priority(self.first_waiter(mutex), cores.base(holder));
-            lower(cores, acting, holder, owed);
+            self.disinherit(cores, acting, holder, owed);
         }
     }
 
@@ -255,6 +301,12 @@ impl Mutexes {
         ensures { IsTrue result ↔ (self.now.holders ≡ other.now.holders) }
     {
         self.holders == other.holders
+    }
+
+    fn has_same_values(&self, other: &Self) -> bool
+        ensures { IsTrue result ↔ (self.now.values ≡ other.now.values) }
+    {
+        self.values == other.values
     }
 
     // Whether the same tasks wait for each mutex, with the same priorities, in the same order.
@@ -287,6 +339,38 @@ impl Mutexes {
         ensures { self.new ≡ record self.old { holders = slice_set self.old.holders mutex holder } }
     {
         self.holders[mutex as usize] = holder;
+    }
+
+    // The holder takes over a greater priority in use, and as its list value too.
+    fn inherit(&mut self, cores: &mut Cores, acting: u32, holder: u32, priority: u32)
+        requires holder { holder < self.old.tasks }
+        requires tasks { length cores.old.control.tasks ≡ self.old.tasks }
+        requires priorities { cores.old.priorities ≡ self.old.priorities }
+        requires priority { priority < self.old.priorities }
+        ensures part { self.new ≡ inherited_part cores.old.control holder priority self.old }
+        ensures cores { cores.new
+            ≡ cores_rule (inherited list_queues acting holder priority) cores.old }
+    {
+        if cores.in_use(holder) < priority {
+            self.set_list_value(holder, priority);
+        }
+        inherit(cores, acting, holder, priority);
+    }
+
+    // The task's priority in use and its list value become this one, unless it is this one already.
+    fn disinherit(&mut self, cores: &mut Cores, acting: u32, task: u32, priority: u32)
+        requires task { task < self.old.tasks }
+        requires tasks { length cores.old.control.tasks ≡ self.old.tasks }
+        requires priorities { cores.old.priorities ≡ self.old.priorities }
+        requires priority { priority < self.old.priorities }
+        ensures part { self.new ≡ disinherited_part cores.old.control task priority self.old }
+        ensures cores { cores.new
+            ≡ cores_rule (after_disinherit list_queues acting task priority) cores.old }
+    {
+        if cores.in_use(task) != priority {
+            self.set_list_value(task, priority);
+        }
+        lower(cores, acting, task, priority);
     }
 
     // The task waits for the mutex with the priority.

@@ -1,6 +1,7 @@
 -- The control blocks of a start: how many there are, their priorities and their masks.
-use Rattle.std.proofs.Common.{◌≡◌, ℕ, zero, suc, ◌+◌, ◌-◌, ◌^◌, ◌<◌, true, false, List, [], ◌∷◌, length, map, replicate, get_or, sym, ap, subst, ◌∙◌, arith}
+use Rattle.std.proofs.Common.{◌≡◌, ℕ, zero, suc, ◌+◌, ◌-◌, ◌^◌, ◌<◌, true, false, Bool, cond, Option, Some, None, refl, List, [], ◌∷◌, length, map, replicate, get_or, sym, ap, subst, ◌∙◌, arith}
 use Rattle.std.proofs.Common.{inl, inr}
+use Rattle.std.specs.Prelude.{is_some, option_map, All}
 use Rattle.std.specs.List.{list_all}
 use Rattle.std.proofs.lemmas.Bool.Decides.{nat_tests}
 use Rattle.std.proofs.lemmas.Bool.{cases_lt}
@@ -10,13 +11,14 @@ use Rattle.std.proofs.Math.Pow.{pow-sub-lt}
 use Rattle.std.proofs.lemmas.List.{length-append, length-map, length-replicate, get_or_append_left, get_or-append_right, get_or-replicate, get_or-map}
 use Rattle.bench_types.specs.declared.header.Config.{Config}
 use Rattle.bench_types.specs.declared.header.Header.{Header}
+use Rattle.bench_types.specs.declared.header.QueueArgs.{QueueArgs}
 use Rattle.bench_types.specs.declared.header.TaskArgs.{TaskArgs}
 use Rattle.bench_types.specs.declared.kernel_data.TaskControl.{TaskControl}
 use Rattle.bench_types.proofs.Passes.{has_valid_args, IsWithinLimits}
 use Rattle.bench_types.specs.Step.{settings_of}
 use Rattle.bench_model.specs.Control.{task_at}
-use Rattle.bench_model.specs.Sound.{IsControlBlock}
-use Rattle.bench_model.specs.Start.{idle_control, user_control, first_control}
+use Rattle.bench_model.specs.Sound.{list_values, IsControlBlock}
+use Rattle.bench_model.specs.Start.{idle_control, user_control, first_control, first_values}
 
 no_args : TaskArgs
 no_args = record { name = []; priority = 0; mask = 0 }
@@ -66,3 +68,31 @@ module _ (header : Header) where
               (mod-lt (get_or header.tasks (i - cores) no_args).mask (pow_pos cores));
         }
   ]
+
+  -- each task's list value is its base priority, where there are list values
+  pub first_values_length : length (first_values header) ≡ list_values (settings_of header)
+  first_values_length = at header.queues
+    where
+      bases : List ℕ
+      bases = map (λ (t : TaskControl). t.base) (first_control header).tasks
+
+      at : (queues : Option (List QueueArgs)) → length (cond (is_some queues) bases []) ≡ cond (is_some (option_map length queues)) (cores + users) 0
+      at None = refl
+      at (Some queues) = length-map (first_control header).tasks (λ (t : TaskControl). t.base) ∙ first_tasks
+
+  pub first_values_below : IsWithinLimits header → All (λ value. value < header.config.priorities) (first_values header)
+  first_values_below valid = at header.queues
+    where
+      bases : List ℕ
+      bases = map (λ (t : TaskControl). t.base) (first_control header).tasks
+
+      below : All (λ value. value < header.config.priorities) bases
+      below i d low =
+          let within : i < cores + users = omega (arith, low, length-map (first_control header).tasks (λ (t : TaskControl). t.base), first_tasks) in
+          let at = get_or-map (λ (t : TaskControl). t.base) (first_control header).tasks i (record { base = 0; in_use = 0; mask = 0; preempt = false }) d
+          (omega (arith, within, first_tasks)) in
+          omega (arith, at, (first_blocks valid i within).base)
+
+      at : (queues : Option (List QueueArgs)) → All (λ value. value < header.config.priorities) (cond (is_some queues) bases [])
+      at None = λ i d low. absurd (omega (arith, low))
+      at (Some queues) = below

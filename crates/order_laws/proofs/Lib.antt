@@ -6,6 +6,7 @@ pub mod FirstBlocks
 pub mod FirstWaiters
 pub mod Looks
 pub mod Restamps
+pub mod Revalued
 pub mod SeenMoves
 pub mod SeenSteps
 pub mod Selects

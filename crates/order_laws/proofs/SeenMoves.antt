@@ -18,7 +18,8 @@ use Rattle.bench_model.specs.declared.row.TaskState.TheVariants.{Ready, Blocked}
 use Rattle.list_orders.specs.Search.{numbers, by_stamp, placed, ranked, without, has}
 use Rattle.bench_model.specs.Control.{Control, may_select}
 use Rattle.bench_model.specs.Table.{Stamps, row_at, stamp_of, tasks_of, is_ready, stands_ready, wake_in, ahead, wakes_at, pick, add_to_ready_list}
-use Rattle.bench_model.specs.Table.{delay, deadline_left, forget_deadline, advance, due}
+use Rattle.bench_model.specs.Table.{delay, deadline_left, forget_deadline, set_list_value, advance, due}
+use Rattle.bench_model.specs.Waiters.{list_value_of}
 use Rattle.bench_model.specs.Lists as seen
 use Rattle.bench_model.specs.Lists.{Lists, lists_of, delayed_of, outranks, wakes_first}
 use Rattle.bench_model.specs.Sound.{IsStamped}
@@ -56,13 +57,20 @@ pick_seen control core stamps stamped =
     (All-ranked (outranks control) (λ i. i < n) xs (All-by_stamp (stamp_of stamps) test (numbers n) (λ i. i < n) stamps.next (numbers_below n)))
     among stamped.once
 
-abbrev pub lists_from : List ℕ → ℕ → List Delayed → List Waiter → List (Option ℕ) → Lists
-lists_from ready tick delayed waiters deadlines = record { ready = ready; tick = tick; delayed = delayed; waiters = waiters; deadlines = deadlines }
+abbrev pub lists_from : List ℕ → ℕ → List Delayed → List Waiter → List (Option ℕ) → List ℕ → Lists
+lists_from ready tick delayed waiters deadlines values = record {
+  ready = ready;
+  tick = tick;
+  delayed = delayed;
+  waiters = waiters;
+  deadlines = deadlines;
+  values = values;
+}
 
-pub same_seen : (ready other : List ℕ) (tick later : ℕ) (delayed left : List Delayed) (waiters ones : List Waiter) (deadlines ends : List (Option ℕ)) → ready ≡
-    other → tick ≡ later → delayed ≡ left → waiters ≡ ones → deadlines ≡ ends → lists_from ready tick delayed waiters deadlines ≡ lists_from other later left
-    ones ends
-same_seen ready other tick later delayed left waiters ones deadlines ends a b c d e = cc
+pub same_seen : (ready other : List ℕ) (tick later : ℕ) (delayed left : List Delayed) (waiters ones : List Waiter) (deadlines ends : List (Option ℕ))
+    (values : List ℕ) → ready ≡ other → tick ≡ later → delayed ≡ left → waiters ≡ ones → deadlines ≡ ends → lists_from ready tick delayed waiters deadlines
+    values ≡ lists_from other later left ones ends values
+same_seen ready other tick later delayed left waiters ones deadlines ends values a b c d e = cc
 
 -- the entries of tasks that wait for some ticks
 abbrev pub delayed_from : ℕ → ℕ → TaskState → Delayed
@@ -81,7 +89,7 @@ pub add_to_ready_seen : (control : Control) (stamps : Stamps) (task : ℕ) → I
 unfolding lists_of add_to_ready_list seen.add_to_ready_list
 add_to_ready_seen control stamps task given below =
     let ready = standing_so stands_ready stamps in
-    same_seen _ _ _ _ _ _ _ _ _ _
+    same_seen _ _ _ _ _ _ _ _ _ _ _
     (ap (ranked (outranks control)) (standing_so_moved stamps task Ready below stands_ready given) ∙ ranked-push (outranks control) (without task ready) task ∙
     ap (placed (outranks control) task) (ready_without control task ready))
     refl
@@ -122,7 +130,7 @@ delay_seen control stamps task ticks wait given below ready_now =
     let ready = standing_so stands_ready stamps in
     let standing = initial stamps ticks in
     let none = ready_waits_not (row_at stamps task).standing ready_now in
-    same_seen _ _ _ _ _ _ _ _ _ _
+    same_seen _ _ _ _ _ _ _ _ _ _ _
     (ap (ranked (outranks control)) (standing_so_moved stamps task standing below stands_ready given ∙ append-nil (without task ready)) ∙ ready_without control
     task ready)
     refl
@@ -139,7 +147,17 @@ deadline_left_seen control stamps task = get_or-map (deadline_from stamps.tick) 
 pub forget_deadline_seen : (control : Control) (stamps : Stamps) (task : ℕ) → lists_of control (forget_deadline task stamps) ≡ seen.forget_deadline task
     (lists_of control stamps)
 unfolding lists_of forget_deadline seen.forget_deadline
-forget_deadline_seen control stamps task = same_seen _ _ _ _ _ _ _ _ _ _ refl refl refl refl (map-set (deadline_from stamps.tick) stamps.deadlines task None)
+forget_deadline_seen control stamps task = same_seen _ _ _ _ _ _ _ _ _ _ _ refl refl refl refl (map-set (deadline_from stamps.tick) stamps.deadlines task None)
+
+-- another list value
+pub set_list_value_seen : (control : Control) (stamps : Stamps) (task value : ℕ) → lists_of control (set_list_value task value stamps) ≡ seen.set_list_value
+    task value (lists_of control stamps)
+unfolding lists_of set_list_value seen.set_list_value
+set_list_value_seen control stamps task value = refl
+
+pub list_value_seen : (control : Control) (stamps : Stamps) (task : ℕ) → seen.list_value task (lists_of control stamps) ≡ list_value_of task stamps.values
+unfolding lists_of
+list_value_seen control stamps task = refl
 
 -- each waiting task still waits
 abbrev pub IsAhead : Stamps → Type 0
@@ -196,7 +214,7 @@ pub advance_seen : (control : Control) (stamps : Stamps) → IsAhead stamps → 
 unfolding lists_of advance seen.advance
 advance_seen control stamps ahead =
     let waiting = standing_so waits stamps in
-    same_seen _ _ _ _ _ _ _ _ _ _ refl (one_more stamps.tick)
+    same_seen _ _ _ _ _ _ _ _ _ _ _ refl (one_more stamps.tick)
     (ap (ranked wakes_first) (sym (map_aged stamps waiting))
     ∙ sym (map-ranked wakes_first wakes_first aged (λ (e : Delayed). 0 < e.left) (λ a b h k. grind (arith, nat_tests, h, k)) (map (delayed_of stamps) waiting)
     (all_left stamps ahead)))

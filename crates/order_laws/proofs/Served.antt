@@ -1,13 +1,14 @@
 -- The turn in which waiters are served: what keeps it, and who is first.
-use Rattle.std.proofs.Common.{◌≡◌, ◌≢◌, ℕ, ◌<◌, Bool, true, false, not, eqb, cond, List, [], ◌∷◌, ◌++◌, Some, refl, subst, arith}
+use Rattle.std.proofs.Common.{◌≡◌, ◌≢◌, ◌≤◌, ℕ, ◌<◌, Bool, true, false, eqb, cond, List, [], ◌∷◌, Some, refl, sym, subst, arith}
 use Rattle.std.specs.List.{filter, AllByRecursion}
 use Rattle.std.proofs.lemmas.Bool.Decides.{nat_tests}
 use Rattle.bench_types.specs.declared.kernel_data.Waiter.{Waiter}
 use Rattle.bench_model.specs.Table.{Stamps, stamp_of}
 use Rattle.bench_model.specs.Waiters.{waits_first, first_of}
-use Rattle.bench_model.specs.Turns.{is_served_before, IsServedBefore, AreInTurn, IsServedFirst}
-use Rattle.list_orders.specs.Search.{placed}
-use Rattle.list_orders.proofs.Filters.{All-append, All-both, All-filter, All-filter_passes, All-weaker}
+use Rattle.bench_model.specs.Turns.{is_served_before, IsServedBefore, AreByMutex, AreInTurn, IsServedFirst}
+use Rattle.list_orders.specs.Search.{inserted}
+use Rattle.list_orders.proofs.Filters.{All-both, All-filter, All-weaker}
+use Rattle.list_orders.proofs.Insertions.{All-inserted, inserted_behind, inserted_here}
 
 -- some of them are in turn as well
 pub turn_filter : (stamps : Stamps) (test : Waiter → Bool) (waiters : List Waiter) → AreInTurn stamps waiters → AreInTurn stamps (filter test waiters)
@@ -17,15 +18,6 @@ turn_filter stamps test (waiter ∷ waiters) turn = at (test waiter) (turn_filte
     at : (b : Bool) → AreInTurn stamps (filter test waiters) → AreInTurn stamps (cond b (waiter ∷ filter test waiters) (filter test waiters))
     at true rest = (All-filter (IsServedBefore stamps waiter) test waiters turn.0, rest)
     at false rest = rest
-
--- so are two lists after one another, where each of the one is served before each of the other
-turn_append : (stamps : Stamps) (xs ys : List Waiter) → AreInTurn stamps xs → AreInTurn stamps ys → AllByRecursion
-    (λ x. AllByRecursion (IsServedBefore stamps x) ys) xs → AreInTurn stamps (xs ++ ys)
-turn_append stamps [] ys left right cross = right
-turn_append stamps (x ∷ xs) ys left right cross = (
-  All-append (IsServedBefore stamps x) xs ys left.0 cross.0,
-  turn_append stamps xs ys left.1 right cross.1,
-)
 
 -- so are they in other stamps, where the waiters keep theirs
 pub turn_moved : (one other : Stamps) (waiters : List Waiter) → AllByRecursion (λ (w : Waiter). stamp_of other w.task ≡ stamp_of one w.task) waiters →
@@ -39,37 +31,33 @@ turn_moved one other (waiter ∷ waiters) same turn = (
 )
 
 -- and with one that begins to wait last
-module _ (stamps : Stamps) (waiter : Waiter) (waiters : List Waiter) (turn : AreInTurn stamps waiters)
-    (last : AllByRecursion (λ (w : Waiter). stamp_of stamps w.task < stamp_of stamps waiter.task) waiters) where
-  abbrev stays : Waiter → Bool
-  stays w = waits_first w waiter
+module _ (stamps : Stamps) (waiter : Waiter) where
+  abbrev CameEarlier : Waiter → Type 0
+  CameEarlier w = stamp_of stamps w.task < stamp_of stamps waiter.task
 
-  abbrev goes : Waiter → Bool
-  goes w = not (stays w)
-
-  behind : AllByRecursion (IsServedBefore stamps waiter) (filter goes waiters)
-  behind = All-weaker (λ w. goes w ≡ true) (IsServedBefore stamps waiter) (λ w after mutex. grind (arith, nat_tests, after, mutex)) (filter goes waiters)
-      (All-filter_passes goes waiters)
-
-  abbrev IsAhead : Waiter → Type 0
-  IsAhead w = (stays w ≡ true) × (stamp_of stamps w.task < stamp_of stamps waiter.task)
-
-  ahead : AllByRecursion IsAhead (filter stays waiters)
-  ahead = All-both (λ w. stays w ≡ true) (λ (w : Waiter). stamp_of stamps w.task < stamp_of stamps waiter.task) (filter stays waiters)
-      (All-filter_passes stays waiters) (All-filter (λ (w : Waiter). stamp_of stamps w.task < stamp_of stamps waiter.task) stays waiters last)
-
-  crosses : (w : Waiter) → IsAhead w → AllByRecursion (IsServedBefore stamps w) (waiter ∷ filter goes waiters)
-  crosses w is = (
-    λ mutex. grind (arith, nat_tests, is.0, is.1, mutex),
-    All-weaker (λ z. goes z ≡ true) (IsServedBefore stamps w) (λ z after mutex. grind (arith, nat_tests, is.0, after, mutex)) (filter goes waiters)
-        (All-filter_passes goes waiters),
-  )
-
-  pub turn_placed : AreInTurn stamps (placed waits_first waiter waiters)
-  unfolding placed
-  turn_placed = turn_append stamps (filter stays waiters) (waiter ∷ filter goes waiters) (turn_filter stamps stays waiters turn)
-      (behind, turn_filter stamps goes waiters turn)
-      (All-weaker IsAhead (λ w. AllByRecursion (IsServedBefore stamps w) (waiter ∷ filter goes waiters)) crosses (filter stays waiters) ahead)
+  pub turn_inserted : (waiters : List Waiter) → AreInTurn stamps waiters → AreByMutex waiters → AllByRecursion CameEarlier waiters → AreInTurn stamps
+      (inserted waits_first waiter waiters)
+  turn_inserted [] turn ordered last = (tt, tt)
+  turn_inserted (w ∷ ws) turn ordered last = at (waits_first w waiter) refl (turn_inserted ws turn.1 ordered.1 last.1)
+    where
+      at : (b : Bool) → waits_first w waiter ≡ b → AreInTurn stamps (inserted waits_first waiter ws) → AreInTurn stamps
+          (inserted waits_first waiter (w ∷ ws))
+      at true on rest =
+          let before : IsServedBefore stamps w waiter = λ mutex. grind (arith, nat_tests, on, last.0, mutex) in
+          subst (AreInTurn stamps) (sym (inserted_behind waits_first waiter w ws on))
+          (All-inserted waits_first waiter (IsServedBefore stamps w) ws before turn.0, rest)
+      at false off rest =
+          subst (AreInTurn stamps) (sym (inserted_here waits_first waiter w ws off)) (
+            (
+              λ mutex. grind (arith, nat_tests, off, mutex),
+              All-weaker (λ z. IsServedBefore stamps w z × (w.wait.mutex ≤ z.wait.mutex)) (IsServedBefore stamps waiter)
+                  (λ z both mutex.
+                  let one : w.wait.mutex ≡ z.wait.mutex = grind (arith, nat_tests, off, both.1, mutex) in
+                  grind (arith, nat_tests, off, both.0 one, mutex, one)) ws
+                  (All-both (IsServedBefore stamps w) (λ (z : Waiter). w.wait.mutex ≤ z.wait.mutex) ws turn.0 ordered.0),
+            ),
+            turn,
+          )
 
 -- the first waiter of a mutex is served before all others of it
 pub first_is_served : (stamps : Stamps) (mutex : ℕ) (waiters : List Waiter) (waiter : Waiter) → AreInTurn stamps waiters → first_of mutex waiters ≡ Some waiter →

@@ -2,7 +2,7 @@
 use Rattle.std.proofs.Common.{◌≡◌, ℕ, ◌*◌, ◌<◌, ◌≤◌, length, sym, ap, subst, ◌∙◌}
 use Rattle.bench_types.specs.declared.kernel_data.Settings.{Settings}
 use Rattle.bench_model.specs.Table.{Table}
-use Rattle.bench_model.specs.Sound.{IsSized}
+use Rattle.bench_model.specs.Sound.{list_values, IsSized}
 
 pub record Lengths : Type 0 where
   pub cores : ℕ
@@ -12,6 +12,7 @@ pub record Lengths : Type 0 where
   pub holders : ℕ
   pub rows : ℕ
   pub deadlines : ℕ
+  pub values : ℕ
 
 abbrev pub lengths_of : Table → Lengths
 lengths_of table = record {
@@ -22,6 +23,7 @@ lengths_of table = record {
   holders = length table.holders;
   rows = length table.orders.rows;
   deadlines = length table.orders.deadlines;
+  values = length table.orders.values;
 }
 
 -- a table is sized where its lists are as long as those of a sized one with the same settings
@@ -35,6 +37,7 @@ resized table later same lengths sized =
       holders = ap (λ (l : Lengths). l.holders) lengths ∙ sized.holders ∙ ap (λ (s : Settings). s.mutexes) (sym same);
       rows = ap (λ (l : Lengths). l.rows) lengths ∙ sized.rows ∙ ap (λ (s : Settings). s.tasks) (sym same);
       deadlines = ap (λ (l : Lengths). l.deadlines) lengths ∙ sized.deadlines ∙ ap (λ (s : Settings). s.tasks) (sym same);
+      values = ap (λ (l : Lengths). l.values) lengths ∙ sized.values ∙ ap list_values (sym same);
       some_core = subst (λ (s : Settings). 0 < s.cores) (sym same) sized.some_core;
       some_note = subst (λ (s : Settings). 0 < s.notes) (sym same) sized.some_note;
       idle_tasks = subst (λ (s : Settings). s.cores ≤ s.tasks) (sym same) sized.idle_tasks;

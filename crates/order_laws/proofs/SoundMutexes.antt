@@ -1,7 +1,8 @@
 -- What is kept of mutexes where tasks are made ready, where a tick passes, and where a task waits, ends its wait, takes or gives.
-use Rattle.std.proofs.Common.{◌≡◌, ◌≢◌, ℕ, suc, ◌+◌, ◌<◌, ◌^◌, true, not, eqb, cond, List, length, Option, Some, None, refl, sym, ap, ◌∙◌, arith, inl, inr}
+use Rattle.std.proofs.Common.{◌≡◌, ◌≢◌, ℕ, suc, ◌+◌, ◌<◌, ◌^◌, true, not, eqb, cond, List, [], length, Option, Some, None, refl, sym, ap, subst, ◌∙◌, arith, inl, inr}
 use Rattle.std.specs.Prelude.{slice_set, is_some, option_map, IfSome}
 use Rattle.std.specs.List.{AllByRecursion}
+use Rattle.std.proofs.lemmas.List.Elements.{All-set}
 use Rattle.std.proofs.lemmas.Bool.{cases_eq}
 use Rattle.std.proofs.lemmas.Bool.Decides.{nat_tests}
 use Rattle.std.proofs.lemmas.List.{get_or-set_same, get_or-set_other}
@@ -13,14 +14,15 @@ use Rattle.bench_model.specs.declared.row.TaskState.{TaskState}
 use Rattle.bench_model.specs.declared.row.TaskState.TheVariants.{Ready, Blocked}
 use Rattle.bench_model.specs.declared.row.TaskRow.{TaskRow}
 use Rattle.bench_model.specs.State.{call_at, holder_at}
-use Rattle.bench_model.specs.Table.{Stamps, row_at, ahead, deadline_at, is_ready, stands_ready, stamp_of, restamped, add_to_ready_list, delay, forget_deadline, advance}
+use Rattle.bench_model.specs.Table.{Stamps, row_at, ahead, deadline_at, is_ready, stands_ready, stamp_of, restamped, add_to_ready_list, delay, forget_deadline, set_list_value, advance}
 use Rattle.bench_model.specs.Waiters.{mutex_awaited, waiter_of, waits_first, with_wait, without_waiter}
 use Rattle.bench_model.specs.Sound.{IsMutexWait, IsMutexTime, IsWaiter, IsWaitOf, HasMutexes, mutex_taken}
 use Rattle.list_orders.proofs.Filters.{All-both, All-filter, All-filter_passes, All-weaker}
-use Rattle.list_orders.proofs.Ranks.{All-placed}
+use Rattle.list_orders.proofs.Insertions.{All-inserted}
 use Rattle.order_laws.proofs.Restamps.{IsGiven, moved_length, row_same, row_other, stamp_same, stamp_other}
-use Rattle.order_laws.proofs.Served.{turn_filter, turn_moved, turn_placed}
-use Rattle.order_laws.proofs.WaitingOnce.{by_mutex_filter, by_mutex_placed, none_found, once_filter, once_placed, other_found, others_found, placed_found, IsNoneOf}
+use Rattle.order_laws.proofs.Served.{turn_filter, turn_inserted, turn_moved}
+use Rattle.order_laws.proofs.WaitingOnce.{by_mutex_filter, by_mutex_inserted, none_found, once_filter, once_waiting, other_found, others_found, waiter_found, IsNoneOf}
+use Rattle.order_laws.proofs.Revalued.{all_revalued, once_revalued, by_mutex_revalued, awaited_revalued, none_revalued, set_none}
 use Rattle.bench_model.specs.Turns.{AreByMutex, AreInTurn, WaitOnce}
 
 -- a task that was set to stand so, and the others
@@ -86,8 +88,9 @@ module _ (settings : Settings) (calls : List (Option Unfinished)) (holders : Lis
       | inr away ↦ ap (option_map (λ (waiter : Waiter). waiter.wait.mutex)) (other_found i task away stamps.waiters) ∙ kept.awaited i
           (omega (arith, moved_length stamps task Ready below, low)) (sym (ap stands_ready (standing_other stamps task Ready below i away)) ∙ blocked)
     ];
-    turns = turn_moved stamps (restamped task Ready stamps) (without_waiter task stamps.waiters) (others_stamped stamps task below stamps.waiters)
-        (turn_filter stamps (λ (waiter : Waiter). not (eqb waiter.task task)) stamps.waiters kept.turns);
+    turns = λ none. turn_moved stamps (restamped task Ready stamps) (without_waiter task stamps.waiters) (others_stamped stamps task below stamps.waiters)
+        (turn_filter stamps (λ (waiter : Waiter). not (eqb waiter.task task)) stamps.waiters (kept.turns none));
+    values = kept.values;
     deadlines = kept.deadlines;
   }
 
@@ -100,6 +103,7 @@ module _ (settings : Settings) (calls : List (Option Unfinished)) (holders : Lis
     by_mutex = kept.by_mutex;
     awaited = kept.awaited;
     turns = kept.turns;
+    values = kept.values;
     deadlines = λ i deadline has. let near = kept.deadlines i deadline has in (omega (arith, near.0), near.1);
   }
 
@@ -117,6 +121,7 @@ module _ (settings : Settings) (calls : List (Option Unfinished)) (holders : Lis
       | inr away ↦ kept.awaited i low blocked ∙ sym (ap mutex_taken (get_or-set_other calls task i None None away))
     ];
     turns = kept.turns;
+    values = kept.values;
     deadlines = λ i deadline has. elim (cases_eq i task) [
       | inl here ↦ absurd (cc (sym (get_or-set_same stamps.deadlines task None None in_deadlines) ∙ ap (λ j. deadline_at (forget_deadline task stamps) j)
           (sym here) ∙ has))
@@ -139,6 +144,22 @@ module _ (settings : Settings) (calls : List (Option Unfinished)) (holders : Lis
     by_mutex = kept.by_mutex;
     awaited = kept.awaited;
     turns = kept.turns;
+    values = kept.values;
+    deadlines = kept.deadlines;
+  }
+
+  -- another list value, of a priority that there is
+  pub valued_mutexes : (task value : ℕ) → value < settings.priorities → HasMutexes settings calls holders (set_list_value task value stamps)
+  unfolding set_list_value
+  valued_mutexes task value below = record {
+    held_by_tasks = kept.held_by_tasks;
+    waits = all_revalued task value stamps.values stamps.waiters (IsWaiter settings stamps) (λ w is. (is.0, is.1, (is.2.0, below))) kept.waits;
+    once = once_revalued task value stamps.values stamps.waiters kept.once;
+    by_mutex = by_mutex_revalued task value stamps.values stamps.waiters kept.by_mutex;
+    awaited = λ i low blocked. awaited_revalued task value stamps.values stamps.waiters i ∙ kept.awaited i low blocked;
+    turns = λ none. let empty = set_none stamps.values task value none in
+        subst (AreInTurn stamps) (sym (none_revalued task value stamps.values stamps.waiters empty)) (kept.turns empty);
+    values = All-set (λ v. v < settings.priorities) stamps.values task value below kept.values;
     deadlines = kept.deadlines;
   }
 
@@ -176,7 +197,7 @@ module _ (settings : Settings) (calls : List (Option Unfinished)) (holders : Lis
   all_wait : (wait : Option MutexWait) → task < length stamps.rows → is_ready task stamps ≡ true → IfSome wait (IsMutexWait settings) → AllByRecursion
       (IsWaiter settings moved) (with_wait task wait stamps.waiters)
   all_wait None below ready there = others_wait below ready
-  all_wait (Some wait) below ready there = All-placed waits_first (IsWaiter settings moved) (record { task = task; wait = wait }) stamps.waiters
+  all_wait (Some wait) below ready there = All-inserted waits_first (record { task = task; wait = wait }) (IsWaiter settings moved) stamps.waiters
       (omega (arith, moved_length stamps task standing below), ap stands_ready (standing_same stamps task standing below), there) (others_wait below ready)
 
   -- the stamps of the others stay
@@ -185,12 +206,12 @@ module _ (settings : Settings) (calls : List (Option Unfinished)) (holders : Lis
   others_stay below ready = All-weaker (IsWaiter settings stamps) (λ (w : Waiter). stamp_of moved w.task ≡ stamp_of stamps w.task)
       (λ waiter is. stamp_other stamps task standing below waiter.task (λ same. cc (ap (λ i. is_ready i stamps) same, ready, is.1))) stamps.waiters kept.waits
 
-  in_turn : (wait : Option MutexWait) → task < length stamps.rows → IsGiven stamps → is_ready task stamps ≡ true → AreInTurn moved
+  in_turn : (wait : Option MutexWait) → task < length stamps.rows → IsGiven stamps → is_ready task stamps ≡ true → stamps.values ≡ [] → AreInTurn moved
       (with_wait task wait stamps.waiters)
-  in_turn None below given ready = turn_moved stamps moved stamps.waiters (others_stay below ready) kept.turns
-  in_turn (Some wait) below given ready =
+  in_turn None below given ready none = turn_moved stamps moved stamps.waiters (others_stay below ready) (kept.turns none)
+  in_turn (Some wait) below given ready none =
       let waiter : Waiter = record { task = task; wait = wait } in
-      turn_placed moved waiter stamps.waiters (turn_moved stamps moved stamps.waiters (others_stay below ready) kept.turns)
+      turn_inserted moved waiter stamps.waiters (turn_moved stamps moved stamps.waiters (others_stay below ready) (kept.turns none)) kept.by_mutex
       (All-weaker (λ (w : Waiter). IsWaiter settings stamps w × (stamp_of moved w.task ≡ stamp_of stamps w.task))
       (λ (w : Waiter). stamp_of moved w.task < stamp_of moved task)
       (λ w both. omega (arith, both.1, stamp_same stamps task standing below, given w.task both.0.0)) stamps.waiters
@@ -203,21 +224,21 @@ module _ (settings : Settings) (calls : List (Option Unfinished)) (holders : Lis
 
   waits_once : (wait : Option MutexWait) → is_ready task stamps ≡ true → WaitOnce (with_wait task wait stamps.waiters)
   waits_once None ready = kept.once
-  waits_once (Some wait) ready = once_placed waits_first (record { task = task; wait = wait }) stamps.waiters kept.once (is_new ready)
+  waits_once (Some wait) ready = once_waiting waits_first (record { task = task; wait = wait }) stamps.waiters kept.once (is_new ready)
 
   in_mutex_order : (wait : Option MutexWait) → AreByMutex (with_wait task wait stamps.waiters)
   in_mutex_order None = kept.by_mutex
-  in_mutex_order (Some wait) = by_mutex_placed (record { task = task; wait = wait }) stamps.waiters kept.by_mutex
+  in_mutex_order (Some wait) = by_mutex_inserted (record { task = task; wait = wait }) stamps.waiters kept.by_mutex
 
   task_awaits : (wait : Option MutexWait) → is_ready task stamps ≡ true → mutex_awaited task (with_wait task wait stamps.waiters) ≡ option_map
       (λ (wait : MutexWait). wait.mutex) wait
   task_awaits None ready = ap (option_map (λ (w : Waiter). w.wait.mutex)) (none_found task stamps.waiters (is_new ready))
   task_awaits (Some wait) ready = ap (option_map (λ (w : Waiter). w.wait.mutex))
-      (placed_found waits_first (record { task = task; wait = wait }) stamps.waiters kept.once (is_new ready))
+      (waiter_found waits_first (record { task = task; wait = wait }) stamps.waiters (is_new ready))
 
   others_await : (i : ℕ) (wait : Option MutexWait) → i ≢ task → waiter_of i (with_wait task wait stamps.waiters) ≡ waiter_of i stamps.waiters
   others_await i None away = refl
-  others_await i (Some wait) away = others_found waits_first (record { task = task; wait = wait }) stamps.waiters kept.once i away
+  others_await i (Some wait) away = others_found waits_first (record { task = task; wait = wait }) stamps.waiters i away
 
   pub waiting_mutexes : task < length stamps.rows → IsGiven stamps → is_ready task stamps ≡ true → task < length calls → task < length stamps.deadlines → IfSome wait
       (IsMutexWait settings) →
@@ -236,6 +257,7 @@ module _ (settings : Settings) (calls : List (Option Unfinished)) (holders : Lis
           (ap mutex_taken (get_or-set_other calls task i (Some call) None away))
     ];
     turns = in_turn wait below given ready;
+    values = kept.values;
     deadlines = λ i deadline has. elim (cases_eq i task) [
       | inl here ↦
           let near = initial_near stamps.tick deadline ticks wait takes.1

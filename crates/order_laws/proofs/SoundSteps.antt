@@ -68,6 +68,10 @@ add_to_ready_deadlines : (stamps : Stamps) (task : ℕ) → length (add_to_ready
 unfolding add_to_ready_list
 add_to_ready_deadlines stamps task = refl
 
+add_to_ready_values : (stamps : Stamps) (task : ℕ) → (add_to_ready_list task stamps).values ≡ stamps.values
+unfolding add_to_ready_list
+add_to_ready_values stamps task = refl
+
 pub add_to_ready_tick : (stamps : Stamps) (task : ℕ) → (add_to_ready_list task stamps).tick ≡ stamps.tick
 unfolding add_to_ready_list
 add_to_ready_tick stamps task = refl
@@ -144,8 +148,11 @@ pub ready_sound : (table : Table) (task : ℕ) → IsConsistent table → task <
 ready_sound table task sound low =
     let below : task < length table.orders.rows = omega (arith, sound.sized.rows) in
     record {
-      sized = resized table _ refl (ap₂ (λ a b. record (lengths_of table) { rows = a; deadlines = b }) (add_to_ready_length table.orders task below)
-          (add_to_ready_deadlines table.orders task)) sound.sized;
+      sized = resized table _ refl (cc (
+        add_to_ready_length table.orders task below,
+        add_to_ready_deadlines table.orders task,
+        add_to_ready_values table.orders task,
+      )) sound.sized;
       stamped = add_to_ready_once table.orders task sound.stamped below;
       in_place = add_to_ready_placed table.control table.orders task below sound.in_place;
       in_time = add_to_ready_in_time table.orders task below sound.in_time;
@@ -184,6 +191,13 @@ queued_deadlines stamps task = either (is_ready task stamps)
     either true = add_to_ready_deadlines stamps task
     either false = refl
 
+queued_values : (stamps : Stamps) (task : ℕ) → (queued stamps task).values ≡ stamps.values
+queued_values stamps task = either (is_ready task stamps)
+  where
+    either : (b : Bool) → (cond b (add_to_ready_list task stamps) stamps).values ≡ stamps.values
+    either true = add_to_ready_values stamps task
+    either false = refl
+
 queued_mutexes : (table : Table) (task : ℕ) → task < length table.orders.rows → HasMutexes table.settings table.calls table.holders table.orders → HasMutexes
     table.settings table.calls table.holders (queued table.orders task)
 queued_mutexes table task below kept = either (is_ready task table.orders)
@@ -206,7 +220,7 @@ after_select_sound core table sound below =
     (omega (arith, same, sound.sized.cores, sound.sized.rows, sound.sized.idle_tasks)) place.idle_is_ready in
     let now = ap (λ o. unwrap_or o left) found.1 in
     record {
-      sized = resized table _ refl (cc (cores_length control core _, same, queued_deadlines table.orders left)) sound.sized;
+      sized = resized table _ refl (cc (cores_length control core _, same, queued_deadlines table.orders left, queued_values table.orders left)) sound.sized;
       stamped = queued_once table.orders left sound.stamped low;
       in_place = subst (λ task. HasCurrentTasks (run_on core task control) orders) (sym now)
           (run_placed control core found.0 orders place below found.2 found.3 found.4);
@@ -308,6 +322,14 @@ readied_deadlines : (tasks : List ℕ) (stamps : Stamps) → length (readied sta
 readied_deadlines [] stamps = refl
 readied_deadlines (task ∷ tasks) stamps = readied_deadlines tasks (add_to_ready_list task stamps) ∙ add_to_ready_deadlines stamps task
 
+readied_values : (tasks : List ℕ) (stamps : Stamps) → (readied stamps tasks).values ≡ stamps.values
+readied_values [] stamps = refl
+readied_values (task ∷ tasks) stamps = readied_values tasks (add_to_ready_list task stamps) ∙ add_to_ready_values stamps task
+
+advanced_values : (stamps : Stamps) → (advance stamps).values ≡ stamps.values
+unfolding advance
+advanced_values stamps = refl
+
 advanced_deadlines : (stamps : Stamps) → length (advance stamps).deadlines ≡ length stamps.deadlines
 unfolding advance
 advanced_deadlines stamps = refl
@@ -325,8 +347,11 @@ readied_sound table sound =
     let later = advance table.orders in
     let low = due_below later in
     record {
-      sized = resized table _ refl (ap₂ (λ a b. record (lengths_of table) { rows = a; deadlines = b })
-          (readied_length (due later) later low ∙ advanced_length table.orders) (readied_deadlines (due later) later ∙ advanced_deadlines table.orders))
+      sized = resized table _ refl (cc (
+        readied_length (due later) later low ∙ advanced_length table.orders,
+        readied_deadlines (due later) later ∙ advanced_deadlines table.orders,
+        readied_values (due later) later ∙ advanced_values table.orders,
+      ))
           sound.sized;
       stamped = readied_stamped (due later) later low (advanced_stamped table.orders sound.stamped);
       in_place = readied_placed table.control (due later) later low (advanced_placed table.control table.orders sound.in_place);
@@ -477,6 +502,10 @@ module _ (stamps : Stamps) (task : ℕ) (ticks : Option ℕ) (wait : Option Mute
   unfolding delay
   delayed_deadlines = length-set stamps.deadlines task _
 
+  delayed_values : (delay task ticks wait stamps).values ≡ stamps.values
+  unfolding delay
+  delayed_values = refl
+
   delayed_stamped : IsStamped stamps → IsStamped (delay task ticks wait stamps)
   unfolding delay
   delayed_stamped stamped =
@@ -504,6 +533,7 @@ blocked_sound core task call ticks wait table sound place checked user fits ther
         delayed_length table.orders task
             ticks wait place.2,
         delayed_deadlines table.orders task ticks wait place.2,
+        delayed_values table.orders task ticks wait place.2,
       )) sound.sized;
       stamped = delayed_stamped table.orders task ticks wait place.2 sound.stamped;
       in_place = delayed_placed table.orders task ticks wait place.2 table.control core place.0 place.1 user sound.in_place;

@@ -1,13 +1,13 @@
 -- Each task waits at one place, and what is found of it there.
-use Rattle.std.proofs.Common.{◌≡◌, ◌≢◌, ◌≤◌, ℕ, Bool, true, false, not, eqb, cond, List, [], ◌∷◌, ◌++◌, Some, None, refl, sym, ◌∙◌, arith}
-use Rattle.std.specs.List.{filter, find, AllByRecursion}
-use Rattle.std.specs.Option.{option_or}
+use Rattle.std.proofs.Common.{◌≡◌, ◌≢◌, ◌≤◌, ℕ, zero, suc, Bool, true, false, not, eqb, cond, List, [], ◌∷◌, Some, None, refl, sym, subst, arith}
+use Rattle.std.specs.List.{filter, find, insert, prefix_len, AllByRecursion}
 use Rattle.std.proofs.lemmas.Bool.Decides.{nat_tests}
 use Rattle.bench_types.specs.declared.kernel_data.Waiter.{Waiter}
 use Rattle.bench_model.specs.Turns.{AreByMutex, WaitOnce}
 use Rattle.bench_model.specs.Waiters.{waiter_of, waits_first, without_waiter}
-use Rattle.list_orders.specs.Search.{placed}
-use Rattle.list_orders.proofs.Filters.{All-append, All-both, All-filter, All-filter_passes, All-weaker, find_none}
+use Rattle.list_orders.specs.Search.{inserted}
+use Rattle.list_orders.proofs.Filters.{All-filter, All-weaker, find_none}
+use Rattle.list_orders.proofs.Insertions.{All-insert, All-inserted, inserted_behind, inserted_here}
 
 -- no waiter is the task
 abbrev pub IsNoneOf : ℕ → List Waiter → Type 0
@@ -42,85 +42,49 @@ once_filter q (waiter ∷ waiters) once = at (q waiter) (once_filter q waiters o
     at true rest = (All-filter (λ (other : Waiter). other.task ≢ waiter.task) q waiters once.0, rest)
     at false rest = rest
 
--- none of the one is one of the other
-abbrev AreApart : List Waiter → List Waiter → Type 0
-AreApart xs ys = AllByRecursion (λ (x : Waiter). IsNoneOf x.task ys) xs
-
-once_append : (xs ys : List Waiter) → WaitOnce xs → WaitOnce ys → AreApart xs ys → WaitOnce (xs ++ ys)
-once_append [] ys left right apart = right
-once_append (x ∷ xs) ys left right apart = (
-  All-append (λ (other : Waiter). other.task ≢ x.task) xs ys left.0 apart.0,
-  once_append xs ys left.1 right apart.1,
-)
-
--- one more on the right
-apart_more : (x : Waiter) (xs ys : List Waiter) → IsNoneOf x.task xs → AreApart xs ys → AreApart xs (x ∷ ys)
-apart_more x xs ys away apart = All-weaker (λ (w : Waiter). (w.task ≢ x.task) × IsNoneOf w.task ys) (λ (w : Waiter). IsNoneOf w.task (x ∷ ys))
-    (λ w both. (λ same. both.0 (sym same), both.1)) xs
-    (All-both (λ (w : Waiter). w.task ≢ x.task) (λ (w : Waiter). IsNoneOf w.task ys) xs away apart)
-
-module _ (q : Waiter → Bool) where
-  abbrev fails : Waiter → Bool
-  fails waiter = not (q waiter)
-
-  parts_apart : (waiters : List Waiter) → WaitOnce waiters → AreApart (filter q waiters) (filter fails waiters)
-  parts_apart [] once = tt
-  parts_apart (w ∷ ws) once = at (q w) (parts_apart ws once.1)
-    where
-      at : (b : Bool) → AreApart (filter q ws) (filter fails ws) → AreApart (cond b (w ∷ filter q ws) (filter q ws)) (cond (not b) (w ∷ filter fails ws) (filter fails ws))
-      at true rest = (All-filter (λ (other : Waiter). other.task ≢ w.task) fails ws once.0, rest)
-      at false rest = apart_more w (filter q ws) (filter fails ws) (All-filter (λ (other : Waiter). other.task ≢ w.task) q ws once.0) rest
-
-  found_in_parts : (i : ℕ) (waiters : List Waiter) → WaitOnce waiters → option_or (waiter_of i (filter q waiters)) (waiter_of i (filter fails waiters)) ≡
-      waiter_of i waiters
-  found_in_parts i [] once = refl
-  found_in_parts i (w ∷ ws) once = at (eqb w.task i) refl (q w) refl (found_in_parts i ws once.1)
-    where
-      -- none of those behind it has its task
-      gone : eqb w.task i ≡ true → waiter_of i (filter q ws) ≡ None
-      gone is = none_found i (filter q ws)
-          (All-weaker (λ (other : Waiter). other.task ≢ w.task) (λ (other : Waiter). other.task ≢ i) (λ other away same. away (grind (arith, nat_tests, is, same)))
-          (filter q ws) (All-filter (λ (other : Waiter). other.task ≢ w.task) q ws once.0))
-
-      at : (a : Bool) → eqb w.task i ≡ a → (b : Bool) → q w ≡ b → option_or (waiter_of i (filter q ws)) (waiter_of i (filter fails ws)) ≡ waiter_of i ws →
-          option_or (waiter_of i (filter q (w ∷ ws))) (waiter_of i (filter fails (w ∷ ws))) ≡ waiter_of i (w ∷ ws)
-      at true is true kept rest = grind (arith, is, kept)
-      at true is false out rest = grind (arith, is, out, gone is)
-      at false is true kept rest = grind (arith, is, kept, rest)
-      at false is false out rest = grind (arith, is, out, rest)
-
-find_append : (p : Waiter → Bool) (xs ys : List Waiter) → find p (xs ++ ys) ≡ option_or (find p xs) (find p ys)
-find_append p [] ys = refl
-find_append p (x ∷ xs) ys = grind (arith, find_append p xs ys)
-
-module _ (front : Waiter → Waiter → Bool) (waiter : Waiter) (waiters : List Waiter) (once : WaitOnce waiters) where
-  abbrev stays : Waiter → Bool
-  stays w = front w waiter
-
-  abbrev goes : Waiter → Bool
-  goes w = not (front w waiter)
-
+module _ (waiter : Waiter) where
   -- a task that begins to wait waits once
-  pub once_placed : IsNoneOf waiter.task waiters → WaitOnce (placed front waiter waiters)
-  unfolding placed
-  once_placed new = once_append (filter stays waiters) (waiter ∷ filter goes waiters) (once_filter stays waiters once)
-      (All-filter (λ (w : Waiter). w.task ≢ waiter.task) goes waiters new, once_filter goes waiters once)
-      (apart_more waiter (filter stays waiters) (filter goes waiters) (All-filter (λ (w : Waiter). w.task ≢ waiter.task) stays waiters new)
-      (parts_apart stays waiters once))
+  once_inserted : (n : ℕ) (waiters : List Waiter) → WaitOnce waiters → IsNoneOf waiter.task waiters → WaitOnce (insert waiters n waiter)
+  once_inserted zero [] once new = (tt, tt)
+  once_inserted zero (w ∷ ws) once new = (new, once)
+  once_inserted (suc n) [] once new = (tt, tt)
+  once_inserted (suc n) (w ∷ ws) once new = (
+    All-insert (λ (other : Waiter). other.task ≢ w.task) waiter (λ same. new.0 (sym same)) n ws once.0,
+    once_inserted n ws once.1 new.1,
+  )
 
-  -- it is found, and the others as before
-  pub placed_found : IsNoneOf waiter.task waiters → waiter_of waiter.task (placed front waiter waiters) ≡ Some waiter
-  unfolding placed
-  placed_found new =
-      let none = none_found waiter.task (filter stays waiters) (All-filter (λ (w : Waiter). w.task ≢ waiter.task) stays waiters new) in
-      let self : eqb waiter.task waiter.task ≡ true = grind (arith, nat_tests) in
-      find_append (λ (w : Waiter). eqb w.task waiter.task) (filter stays waiters) (waiter ∷ filter goes waiters) ∙ grind (arith, none, self)
+  -- it is found
+  inserted_found : (n : ℕ) (waiters : List Waiter) → IsNoneOf waiter.task waiters → waiter_of waiter.task (insert waiters n waiter) ≡ Some waiter
+  inserted_found zero [] new = let self : eqb waiter.task waiter.task ≡ true = grind (arith, nat_tests) in grind (arith, self)
+  inserted_found zero (w ∷ ws) new = let self : eqb waiter.task waiter.task ≡ true = grind (arith, nat_tests) in grind (arith, self)
+  inserted_found (suc n) [] new = let self : eqb waiter.task waiter.task ≡ true = grind (arith, nat_tests) in grind (arith, self)
+  inserted_found (suc n) (w ∷ ws) new =
+      let other : eqb w.task waiter.task ≡ false = grind (arith, nat_tests, new.0) in
+      grind (arith, other, inserted_found n ws new.1)
 
-  pub others_found : (i : ℕ) → i ≢ waiter.task → waiter_of i (placed front waiter waiters) ≡ waiter_of i waiters
-  unfolding placed
-  others_found i away =
-      let other : eqb waiter.task i ≡ false = grind (arith, nat_tests, away) in
-      find_append (λ (w : Waiter). eqb w.task i) (filter stays waiters) (waiter ∷ filter goes waiters) ∙ grind (arith, other, found_in_parts stays i waiters once)
+  -- and the others as before
+  others_found_at : (i n : ℕ) (waiters : List Waiter) → i ≢ waiter.task → waiter_of i (insert waiters n waiter) ≡ waiter_of i waiters
+  others_found_at i zero [] away = let other : eqb waiter.task i ≡ false = grind (arith, nat_tests, away) in grind (arith, other)
+  others_found_at i zero (w ∷ ws) away = let other : eqb waiter.task i ≡ false = grind (arith, nat_tests, away) in grind (arith, other)
+  others_found_at i (suc n) [] away = let other : eqb waiter.task i ≡ false = grind (arith, nat_tests, away) in grind (arith, other)
+  others_found_at i (suc n) (w ∷ ws) away = at (eqb w.task i) refl (others_found_at i n ws away)
+    where
+      at : (b : Bool) → eqb w.task i ≡ b → waiter_of i (insert ws n waiter) ≡ waiter_of i ws → waiter_of i (insert (w ∷ ws) (suc n) waiter) ≡ waiter_of i (w ∷ ws)
+      at true is rest = grind (arith, is)
+      at false is rest = grind (arith, is, rest)
+
+module _ (front : Waiter → Waiter → Bool) (waiter : Waiter) (waiters : List Waiter) where
+  abbrev place : ℕ
+  place = prefix_len (λ w. front w waiter) waiters
+
+  pub once_waiting : WaitOnce waiters → IsNoneOf waiter.task waiters → WaitOnce (inserted front waiter waiters)
+  once_waiting once new = once_inserted waiter place waiters once new
+
+  pub waiter_found : IsNoneOf waiter.task waiters → waiter_of waiter.task (inserted front waiter waiters) ≡ Some waiter
+  waiter_found new = inserted_found waiter place waiters new
+
+  pub others_found : (i : ℕ) → i ≢ waiter.task → waiter_of i (inserted front waiter waiters) ≡ waiter_of i waiters
+  others_found i away = others_found_at waiter i place waiters away
 
 -- ---- the order of mutexes
 
@@ -132,35 +96,23 @@ by_mutex_filter q (waiter ∷ waiters) ordered = at (q waiter) (by_mutex_filter 
     at true rest = (All-filter (λ (other : Waiter). waiter.wait.mutex ≤ other.wait.mutex) q waiters ordered.0, rest)
     at false rest = rest
 
-by_mutex_append : (xs ys : List Waiter) → AreByMutex xs → AreByMutex ys → AllByRecursion
-    (λ (x : Waiter). AllByRecursion (λ (y : Waiter). x.wait.mutex ≤ y.wait.mutex) ys) xs → AreByMutex (xs ++ ys)
-by_mutex_append [] ys left right cross = right
-by_mutex_append (x ∷ xs) ys left right cross = (
-  All-append (λ (other : Waiter). x.wait.mutex ≤ other.wait.mutex) xs ys left.0 cross.0,
-  by_mutex_append xs ys left.1 right cross.1,
-)
-
 -- one that begins to wait stands behind those of lesser mutexes, and in front of those of greater ones
-module _ (waiter : Waiter) (waiters : List Waiter) where
-  abbrev comes_first : Waiter → Bool
-  comes_first w = waits_first w waiter
-
-  abbrev comes_later : Waiter → Bool
-  comes_later w = not (waits_first w waiter)
-
-  later_ones : AllByRecursion (λ (w : Waiter). waiter.wait.mutex ≤ w.wait.mutex) (filter comes_later waiters)
-  later_ones = All-weaker (λ w. comes_later w ≡ true) (λ (w : Waiter). waiter.wait.mutex ≤ w.wait.mutex) (λ w later. grind (arith, nat_tests, later))
-      (filter comes_later waiters) (All-filter_passes comes_later waiters)
-
-  pub by_mutex_placed : AreByMutex waiters → AreByMutex (placed waits_first waiter waiters)
-  unfolding placed
-  by_mutex_placed ordered = by_mutex_append (filter comes_first waiters) (waiter ∷ filter comes_later waiters) (by_mutex_filter comes_first waiters ordered)
-      (later_ones, by_mutex_filter comes_later waiters ordered)
-      (All-weaker (λ w. comes_first w ≡ true) (λ (w : Waiter). AllByRecursion (λ (y : Waiter). w.wait.mutex ≤ y.wait.mutex) (waiter ∷ filter comes_later waiters))
-      (λ w first.
-      let before : w.wait.mutex ≤ waiter.wait.mutex = grind (arith, nat_tests, first) in (
-        before,
-        All-weaker (λ (y : Waiter). waiter.wait.mutex ≤ y.wait.mutex) (λ (y : Waiter). w.wait.mutex ≤ y.wait.mutex) (λ y after. omega (arith, before, after))
-            (filter comes_later waiters) later_ones,
-      ))
-      (filter comes_first waiters) (All-filter_passes comes_first waiters))
+pub by_mutex_inserted : (waiter : Waiter) (waiters : List Waiter) → AreByMutex waiters → AreByMutex (inserted waits_first waiter waiters)
+by_mutex_inserted waiter [] ordered = (tt, tt)
+by_mutex_inserted waiter (w ∷ ws) ordered = at (waits_first w waiter) refl (by_mutex_inserted waiter ws ordered.1)
+  where
+    at : (b : Bool) → waits_first w waiter ≡ b → AreByMutex (inserted waits_first waiter ws) → AreByMutex (inserted waits_first waiter (w ∷ ws))
+    at true on rest =
+        let before : w.wait.mutex ≤ waiter.wait.mutex = grind (arith, nat_tests, on) in
+        subst AreByMutex (sym (inserted_behind waits_first waiter w ws on))
+        (All-inserted waits_first waiter (λ (other : Waiter). w.wait.mutex ≤ other.wait.mutex) ws before ordered.0, rest)
+    at false off rest =
+        let after : waiter.wait.mutex ≤ w.wait.mutex = grind (arith, nat_tests, off) in
+        subst AreByMutex (sym (inserted_here waits_first waiter w ws off)) (
+          (
+            after,
+            All-weaker (λ (y : Waiter). w.wait.mutex ≤ y.wait.mutex) (λ (y : Waiter). waiter.wait.mutex ≤ y.wait.mutex)
+                (λ y later. omega (arith, after, later)) ws ordered.0,
+          ),
+          ordered,
+        )

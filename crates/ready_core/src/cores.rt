@@ -1,8 +1,9 @@
 //! The cores, the control blocks of tasks, and the ready lists.
-ghost use Rattle.std.specs.Prelude.{◌≡◌, ℕ, ◌↔◌, ◌+◌, ◌-◌, ◌<◌, ◌≤◌, ◌==◌, ◌&&◌, nat_lt, if◌then◌else◌, length, true, false, not, find, map, unwrap_or, slice_get, IsTrue, IfOk, IfSome, Ok, Some};
+ghost use Rattle.std.specs.Prelude.{◌≡◌, ℕ, ◌↔◌, ◌+◌, ◌-◌, ◌<◌, ◌≤◌, ◌==◌, ◌&&◌, nat_lt, if◌then◌else◌, length, true, false, not, find, map, unwrap_or, slice_get, All, IsTrue, IfOk, IfSome, Ok, Some};
 ghost use Rattle.std.specs.Option.{ForSome};
 ghost use Rattle.bench_types.specs.Header.{header_check};
 ghost use Rattle.bench_types.specs.Limits.{max_cores};
+ghost use Rattle.bench_types.specs.declared.kernel_data.TaskControl.{TaskControl};
 ghost use Rattle.std.specs.List.{range_with_len};
 ghost use Rattle.list_orders.specs.Listings.{IsListing};
 ghost use Rattle.list_orders.specs.Search.{numbers, placed, without, has};
@@ -216,6 +217,17 @@ impl Cores {
         ensures below { result < self.now.priorities }
     {
         self.control(task).base
+    }
+
+    /// The base priority of each task, task 0 first.
+    pub fn bases(&self, alloc: Global) -> Result<Vec<u32>, AllocError>
+        ensures bases { IfOk result
+            (λ bases. bases.items
+            ≡ map (λ (task : TaskControl). task.base) self.now.control.tasks) }
+        ensures below { IfOk result
+            (λ bases. All (λ base. base < self.now.priorities) bases.items) }
+    {
+        self.tasks.iter().map(|task| task.base).collect(alloc)
     }
 
     /// The priority in use of the task.

@@ -3,18 +3,20 @@ use Rattle.order_laws.proofs.ControlBlocks.{block_same, block_other, outranks_ke
 use Rattle.std.proofs.Common.{◌≡◌, ℕ, ◌<◌, Bool, true, false, cond, List, [], length, refl, sym, ap, subst, ◌∙◌, arith, inl, inr}
 use Rattle.std.proofs.lemmas.Bool.{cases_eq}
 use Rattle.std.proofs.lemmas.List.{length-set}
+use Rattle.bench_types.specs.declared.kernel_data.Settings.{Settings}
 use Rattle.bench_types.specs.declared.kernel_data.TaskControl.{TaskControl}
 use Rattle.list_orders.specs.Search.{placed, ranked, without, has}
 use Rattle.bench_model.specs.Control.{Control, task_at}
-use Rattle.bench_model.specs.ControlFields.{with_task, with_in_use, in_use_set}
-use Rattle.bench_model.specs.Table.{Stamps, Table, stamp_queues, stands_ready, is_ready, add_to_ready_list}
+use Rattle.bench_model.specs.ControlFields.{with_task, with_in_use, in_use_set, value_set, in_use_and_value_set}
+use Rattle.bench_model.specs.Table.{Stamps, Table, stamp_queues, stands_ready, is_ready, add_to_ready_list, set_list_value}
 use Rattle.bench_model.specs.Lists as seen
 use Rattle.bench_model.specs.Lists.{Lists, list_queues, lists_of, outranks, view_of}
 use Rattle.bench_model.specs.Sound.{IsControlBlock, IsConsistent}
 use Rattle.order_laws.proofs.Entries.{without_absent}
 use Rattle.order_laws.proofs.Restamps.{standing_so}
-use Rattle.order_laws.proofs.SeenMoves.{is_ready_seen, add_to_ready_seen}
+use Rattle.order_laws.proofs.SeenMoves.{is_ready_seen, add_to_ready_seen, set_list_value_seen}
 use Rattle.order_laws.proofs.SeenSteps.{same_state}
+use Rattle.order_laws.proofs.SoundMutexes.{valued_mutexes}
 use Rattle.order_laws.proofs.SoundSteps.{ready_sound}
 use Rattle.order_laws.proofs.Sizes.{lengths_of, resized}
 
@@ -125,3 +127,45 @@ in_use_sound table task priority sound low below = at (is_ready task table.order
     at : (b : Bool) → IsConsistent (record changed { orders = cond b (add_to_ready_list task changed.orders) changed.orders })
     at true = ready_sound changed task still low
     at false = still
+
+-- ---- another list value
+
+pub value_seen : (table : Table) (task value : ℕ) → view_of (value_set stamp_queues task value table) ≡ value_set list_queues task value (view_of table)
+value_seen table task value = ap (λ orders. record (view_of table) { orders = orders }) (set_list_value_seen table.control table.orders task value)
+
+pub value_sound : (table : Table) (task value : ℕ) → IsConsistent table → value < table.settings.priorities → IsConsistent
+    (value_set stamp_queues task value table)
+unfolding set_list_value
+value_sound table task value sound below = record {
+  sized = resized table _ refl (ap (λ a. record (lengths_of table) { values = a }) (length-set table.orders.values task value)) sound.sized;
+  stamped = record { given = sound.stamped.given; once = sound.stamped.once };
+  in_place = record {
+    is_task = sound.in_place.is_task;
+    on_one_core = sound.in_place.on_one_core;
+    blocked_is_due = sound.in_place.blocked_is_due;
+    idle_is_ready = sound.in_place.idle_is_ready;
+  };
+  in_time = sound.in_time;
+  blocks = sound.blocks;
+  calls = sound.calls;
+  notes = sound.notes;
+  mutexes = valued_mutexes table.settings table.calls table.holders table.orders sound.mutexes task value below;
+}
+
+-- with the priority in use
+pub both_seen : (table : Table) (task priority : ℕ) → IsConsistent table → task < table.settings.tasks → view_of
+    (in_use_and_value_set stamp_queues task priority table) ≡ in_use_and_value_set list_queues task priority (view_of table)
+unfolding in_use_and_value_set
+both_seen table task priority sound low =
+    value_seen (in_use_set stamp_queues task priority table) task priority ∙ ap (value_set list_queues task priority) (in_use_seen table task priority sound low)
+
+pub in_use_settings : (table : Table) (task priority : ℕ) → (in_use_set stamp_queues task priority table).settings ≡ table.settings
+unfolding in_use_set
+in_use_settings table task priority = refl
+
+pub both_sound : (table : Table) (task priority : ℕ) → IsConsistent table → task < table.settings.tasks → priority < table.settings.priorities → IsConsistent
+    (in_use_and_value_set stamp_queues task priority table)
+unfolding in_use_and_value_set
+both_sound table task priority sound low below =
+    value_sound (in_use_set stamp_queues task priority table) task priority (in_use_sound table task priority sound low below)
+    (subst (λ (s : Settings). priority < s.priorities) (sym (in_use_settings table task priority)) below)

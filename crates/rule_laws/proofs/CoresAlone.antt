@@ -11,7 +11,7 @@ use Rattle.bench_model.specs.Lists.{Lists, View, list_queues, lists_of, view_of}
 use Rattle.bench_model.specs.Mutexes.{inherited, after_disinherit}
 use Rattle.bench_model.specs.Seek.{seek, may_move, wake, after_eviction, after_switch, shares_its_time, sliced}
 use Rattle.rule_laws.specs.SeekLaws.{sought}
-use Rattle.bench_model.specs.ControlFields.{with_in_use, in_use_set}
+use Rattle.bench_model.specs.ControlFields.{with_in_use, in_use_set, in_use_and_value_set}
 use Rattle.bench_model.specs.Cores.{cores_of, bare_view, cores_rule}
 use Rattle.rule_laws.specs.CoresLaws.{cores_seen}
 use Rattle.bench_model.specs.Sound.{IsStamped, IsConsistent}
@@ -128,14 +128,17 @@ wait_on table task ticks wait sound low ready =
 
 inherited_alone : (acting holder priority : ℕ) (view : View) → cores_of (inherited list_queues acting holder priority view) ≡ cores_rule
     (inherited list_queues acting holder priority) (cores_of view)
-unfolding inherited in_use_set seen.add_to_ready_list
+unfolding inherited in_use_set in_use_and_value_set seen.add_to_ready_list seen.set_list_value
 inherited_alone acting holder priority view = at (ltb (task_at view.control holder).in_use priority) (has holder view.orders.ready)
   where
     changed : Control
     changed = with_in_use holder priority view.control
 
     later : Bool → View → View
-    later b of = record of { control = changed; orders = cond b (seen.add_to_ready_list changed holder of.orders) of.orders }
+    later b of = record of {
+      control = changed;
+      orders = seen.set_list_value holder priority (cond b (seen.add_to_ready_list changed holder of.orders) of.orders);
+    }
 
     sought_for : View → View
     sought_for of = record of { control = seek acting holder (in_mask of.control holder) of.control }
@@ -148,14 +151,17 @@ inherited_alone acting holder priority view = at (ltb (task_at view.control hold
 
 after_disinherit_alone : (acting task priority : ℕ) (view : View) → cores_of (after_disinherit list_queues acting task priority view) ≡ cores_rule
     (after_disinherit list_queues acting task priority) (cores_of view)
-unfolding after_disinherit in_use_set seen.add_to_ready_list
+unfolding after_disinherit in_use_set in_use_and_value_set seen.add_to_ready_list seen.set_list_value
 after_disinherit_alone acting task priority view = at (eqb (task_at view.control task).in_use priority) (has task view.orders.ready)
   where
     changed : Control
     changed = with_in_use task priority view.control
 
     later : Bool → View → View
-    later b of = record of { control = changed; orders = cond b (seen.add_to_ready_list changed task of.orders) of.orders }
+    later b of = record of {
+      control = changed;
+      orders = seen.set_list_value task priority (cond b (seen.add_to_ready_list changed task of.orders) of.orders);
+    }
 
     asked : View → View
     asked of = record of { control = ask_its_core acting task of.control }

@@ -1,7 +1,7 @@
 -- Mutexes with priority inheritance: each rule as lists, and that it keeps a table sound.
-use Rattle.std.proofs.Common.{◌≡◌, suc, ℕ, ◌+◌, ◌-◌, ◌<◌, ◌≤◌, ◌^◌, Bool, true, false, cond, not, eqb, ltb, ◌&&◌, length, Option, Some, None, refl, sym, ap}
+use Rattle.std.proofs.Common.{◌≡◌, zero, suc, ℕ, ◌+◌, ◌-◌, ◌<◌, ◌≤◌, ◌^◌, Bool, true, false, cond, not, eqb, ltb, ◌&&◌, List, [], ◌∷◌, length, Option, Some, None, refl, sym, ap}
 use Rattle.std.proofs.Common.{ap₂, subst, ◌∙◌, arith}
-use Rattle.std.specs.Prelude.{slice_set, option_map}
+use Rattle.std.specs.Prelude.{slice_set, option_map, unwrap_or, All}
 use Rattle.std.specs.Option.{option_map_or}
 use Rattle.std.proofs.lemmas.Bool.Decides.{nat_tests}
 use Rattle.std.proofs.lemmas.List.{length-set}
@@ -12,7 +12,7 @@ use Rattle.bench_types.specs.declared.reply.Reply.TheVariants.{Blocked, Flag}
 use Rattle.bench_types.specs.declared.step.Unfinished.{Unfinished}
 use Rattle.bench_types.specs.declared.step.Unfinished.TheVariants.{Made, Take}
 use Rattle.bench_types.specs.Step.{IsCheckedUnfinished}
-use Rattle.bench_model.specs.ControlFields.{in_use_set}
+use Rattle.bench_model.specs.ControlFields.{in_use_set, in_use_and_value_set}
 use Rattle.bench_model.specs.Control.{task_at, current, in_mask, ask_its_core}
 use Rattle.bench_model.specs.Lists.{seen_of}
 use Rattle.bench_model.specs.Lists.{View, list_queues, view_of}
@@ -24,12 +24,13 @@ use Rattle.bench_model.specs.Seek.{seek, wake}
 use Rattle.rule_laws.specs.SeekLaws.{sought}
 use Rattle.rule_laws.specs.SetLaws.{on_control}
 use Rattle.bench_model.specs.Sound.{IsCaller, IsConsistent, IsWait, IsMutexTime, IsWaiter}
+use Rattle.bench_model.specs.Waiters.{list_value_of}
 use Rattle.bench_model.specs.State.{State, holder_at, blocked, after_return}
-use Rattle.bench_model.specs.Table.{Stamps, Table, stamp_queues, is_ready, add_to_ready_list, deadline_at, deadline_left, forget_deadline, first_waiter}
+use Rattle.bench_model.specs.Table.{Stamps, Table, stamp_queues, is_ready, add_to_ready_list, deadline_at, deadline_left, forget_deadline, first_waiter, set_list_value}
 use Rattle.rule_laws.proofs.Awaiting.{waits_on, waits_short, completed_seen, completed_sound}
-use Rattle.rule_laws.proofs.ControlFields.{in_use_seen, in_use_sound}
+use Rattle.rule_laws.proofs.ControlFields.{both_seen, both_sound}
 use Rattle.order_laws.proofs.FirstWaiters.{first_waiter_seen, first_waiter_all}
-use Rattle.order_laws.proofs.SeenMoves.{deadline_left_seen, forget_deadline_seen}
+use Rattle.order_laws.proofs.SeenMoves.{deadline_left_seen, forget_deadline_seen, list_value_seen}
 use Rattle.order_laws.proofs.SeenSteps.{blocked_seen}
 use Rattle.rule_laws.proofs.Seeks.{seek_seen, seek_sound, seek_more, wake_seen, wake_sound}
 use Rattle.rule_laws.proofs.PriorityAffinity.{either_seen, either_sound, ready_seen, its_core_seen, its_core_sound}
@@ -70,10 +71,10 @@ taken_sound table task mutex sound low below = given_sound table mutex (Some tas
 
 module _ (table : Table) (acting holder priority : ℕ) (sound : IsConsistent table) (low : holder < table.settings.tasks) where
   abbrev later : Table
-  later = in_use_set stamp_queues holder priority table
+  later = in_use_and_value_set stamp_queues holder priority table
 
   abbrev later_view : View
-  later_view = in_use_set list_queues holder priority (view_of table)
+  later_view = in_use_and_value_set list_queues holder priority (view_of table)
 
   abbrev sought_for : {Orders : Type 0} → State Orders → State Orders
   sought_for state = record state { control = seek acting holder (in_mask state.control holder) state.control }
@@ -84,7 +85,7 @@ module _ (table : Table) (acting holder priority : ℕ) (sound : IsConsistent ta
   pub inherited_seen : view_of (inherited stamp_queues acting holder priority table) ≡ inherited list_queues acting holder priority (view_of table)
   unfolding inherited
   inherited_seen =
-      let raised = in_use_seen table holder priority sound low in
+      let raised = both_seen table holder priority sound low in
       let ready = is_ready holder table.orders in
       either_seen is_below (cond ready (sought_for later) later) table (cond ready (sought_for later_view) later_view) (view_of table)
       (either_seen ready (sought_for later) later (sought_for later_view) later_view
@@ -95,7 +96,7 @@ module _ (table : Table) (acting holder priority : ℕ) (sound : IsConsistent ta
   pub inherited_sound : priority < table.settings.priorities → IsConsistent (inherited stamp_queues acting holder priority table)
   unfolding inherited
   inherited_sound below =
-      let raised = in_use_sound table holder priority sound low below in
+      let raised = both_sound table holder priority sound low below in
       either_sound is_below (cond (is_ready holder table.orders) (sought_for later) later) table
       (either_sound (is_ready holder table.orders) (sought_for later) later (seek_sound later acting holder (in_mask later.control holder) raised) raised)
       sound
@@ -116,8 +117,8 @@ either_kept true table one other first second = first
 either_kept false table one other first second = second
 
 in_use_kept : (table : Table) (task priority : ℕ) → IsConsistent table → task < table.settings.tasks → IsKept table
-    (in_use_set stamp_queues task priority table)
-unfolding in_use_set
+    (in_use_and_value_set stamp_queues task priority table)
+unfolding in_use_set in_use_and_value_set set_list_value
 in_use_kept table task priority sound low = record {
   cores = refl;
   currents = λ core. refl;
@@ -137,7 +138,7 @@ inherited_kept : (table : Table) (acting holder priority : ℕ) → IsConsistent
     (inherited stamp_queues acting holder priority table)
 unfolding inherited
 inherited_kept table acting holder priority sound low =
-    let later = in_use_set stamp_queues holder priority table in
+    let later = in_use_and_value_set stamp_queues holder priority table in
     let kept = in_use_kept table holder priority sound low in
     either_kept (ltb (task_at table.control holder).in_use priority) table _ table
     (either_kept (is_ready holder table.orders) table _ later (sought_kept table later acting holder (in_mask later.control holder) kept) kept)
@@ -145,11 +146,11 @@ inherited_kept table acting holder priority sound low =
 
 -- settings and mutexes are as they were
 inherited_settings : (table : Table) (acting holder priority : ℕ) → (inherited stamp_queues acting holder priority table).settings ≡ table.settings
-unfolding inherited in_use_set
+unfolding inherited in_use_set in_use_and_value_set
 inherited_settings table acting holder priority = at (ltb (task_at table.control holder).in_use priority) (is_ready holder table.orders)
   where
     later : Table
-    later = in_use_set stamp_queues holder priority table
+    later = in_use_and_value_set stamp_queues holder priority table
 
     at : (b d : Bool) → (cond b (cond d (record later { control = seek acting holder (in_mask later.control holder) later.control }) later) table).settings ≡
         table.settings
@@ -158,6 +159,13 @@ inherited_settings table acting holder priority = at (ltb (task_at table.control
     at false d = refl
 
 -- ---- waiting
+
+-- a list value is a priority that there is, and so is the priority in use
+waiting_below : (values : List ℕ) (task mine bound : ℕ) → All (λ value. value < bound) values → mine < bound → unwrap_or (list_value_of task values) mine <
+    bound
+waiting_below [] task mine bound all low = low
+waiting_below (value ∷ values) zero mine bound all low = all 0 0 (omega arith)
+waiting_below (value ∷ values) (suc task) mine bound all low = waiting_below values task mine bound (λ i d below. all (suc i) d (omega (arith, below))) low
 
 abbrev outcome : Reply → View → Reply × View
 outcome reply view = (reply, view)
@@ -173,8 +181,12 @@ module _ (table : Table) (core task mutex holder : ℕ) (ticks : Option ℕ) (so
   abbrev marked : Unfinished
   marked = Take mutex (is_marked table.control task holder)
 
+  -- the wait with this list value, where there is one
+  abbrev wait_with : Option ℕ → Option MutexWait
+  wait_with value = Some (record { mutex = mutex; priority = unwrap_or value mine })
+
   abbrev wait : Option MutexWait
-  wait = Some (record { mutex = mutex; priority = mine })
+  wait = wait_with (list_value_of task table.orders.values)
 
   caller_low : task < table.settings.tasks
   caller_low = omega (arith, sound.sized.rows, place.2)
@@ -192,7 +204,9 @@ module _ (table : Table) (core task mutex holder : ℕ) (ticks : Option ℕ) (so
   pub waited_seen : view_of (waited_at stamp_queues core task mutex holder ticks table) ≡ waited_at list_queues core task mutex holder ticks (view_of table)
   unfolding waited_at
   waited_seen = blocked_seen core task marked ticks wait raised raised_sound.stamped.given raised_place.2 raised_place.3 ∙ ap
-      (blocked list_queues core task marked ticks wait) (inherited_seen table core holder mine sound low)
+      (blocked list_queues core task marked ticks wait) (inherited_seen table core holder mine sound low) ∙ ap
+      (λ value. blocked list_queues core task marked ticks (wait_with value) (inherited list_queues core holder mine (view_of table)))
+      (sym (list_value_seen table.control table.orders task))
 
   pub waited_sound : length table.control.cores ≤ task → IsWait ticks → IsMutexTime ticks → mutex < table.settings.mutexes → IsConsistent
       (waited_at stamp_queues core task mutex holder ticks table)
@@ -200,7 +214,9 @@ module _ (table : Table) (core task mutex holder : ℕ) (ticks : Option ℕ) (so
   waited_sound user fits short below =
       let same = sym (inherited_settings table core holder mine) in
       let there : mutex < raised.settings.mutexes = subst (λ s. mutex < s.mutexes) same below in
-      let rank : mine < raised.settings.priorities = subst (λ s. mine < s.priorities) same (sound.blocks task caller_low).in_use in
+      let waiting = unwrap_or (list_value_of task table.orders.values) mine in
+      let rank : waiting < raised.settings.priorities = subst (λ s. waiting < s.priorities) same
+      (waiting_below table.orders.values task mine table.settings.priorities sound.mutexes.values (sound.blocks task caller_low).in_use) in
       blocked_sound core task marked ticks wait raised raised_sound raised_place there
       (omega (arith, (inherited_kept table core holder mine sound low).cores, user)) fits (there, rank) (refl, λ is. short)
 
@@ -276,18 +292,18 @@ module _ (table : Table) (acting task priority : ℕ) (sound : IsConsistent tabl
       (view_of table)
   unfolding after_disinherit
   after_disinherit_seen =
-      let now = in_use_set stamp_queues task priority table in
+      let now = in_use_and_value_set stamp_queues task priority table in
       either_seen (eqb (task_at table.control task).in_use priority) table (on_control (ask_its_core acting task) now) (view_of table)
-      (on_control (ask_its_core acting task) (in_use_set list_queues task priority (view_of table)))
+      (on_control (ask_its_core acting task) (in_use_and_value_set list_queues task priority (view_of table)))
       refl
-      (its_core_seen now acting task ∙ ap (on_control (ask_its_core acting task)) (in_use_seen table task priority sound low))
+      (its_core_seen now acting task ∙ ap (on_control (ask_its_core acting task)) (both_seen table task priority sound low))
 
   pub after_disinherit_sound : priority < table.settings.priorities → IsConsistent (after_disinherit stamp_queues acting task priority table)
   unfolding after_disinherit
   after_disinherit_sound below =
-      let now = in_use_set stamp_queues task priority table in
+      let now = in_use_and_value_set stamp_queues task priority table in
       either_sound (eqb (task_at table.control task).in_use priority) table (on_control (ask_its_core acting task) now) sound
-      (its_core_sound now acting task (in_use_sound table task priority sound low below))
+      (its_core_sound now acting task (both_sound table task priority sound low below))
 
 disinherit_seen : (table : Table) (task mutex : ℕ) → IsConsistent table → owed list_queues task mutex (view_of table) ≡ owed stamp_queues task mutex table
 disinherit_seen table task mutex sound = ap (λ first. disinherit_priority first (task_at table.control task).base)

@@ -5,6 +5,7 @@ use Rattle.std.specs.Option.{option_map_or}
 use Rattle.std.proofs.lemmas.Bool.Decides.{nat_tests}
 use Rattle.std.proofs.lemmas.Nat.{pow_pos}
 use Rattle.std.proofs.Math.Nat.{mod-lt}
+use Rattle.bench_types.specs.declared.kernel_data.Settings.{Settings}
 use Rattle.bench_types.specs.declared.kernel_data.TaskControl.{TaskControl}
 use Rattle.bench_types.specs.Header.{cores_of_mask}
 use Rattle.list_orders.specs.Search.{numbers}
@@ -13,13 +14,13 @@ use Rattle.bench_model.specs.Table.{Stamps, Table, stamp_queues, is_ready}
 use Rattle.bench_model.specs.Lists as seen
 use Rattle.bench_model.specs.Lists.{View, list_queues, lists_of, view_of}
 use Rattle.bench_model.specs.Seek.{seek}
-use Rattle.bench_model.specs.ControlFields.{with_task, with_base, with_affinity, with_preemption, in_use_set}
+use Rattle.bench_model.specs.ControlFields.{with_task, with_base, with_affinity, with_preemption, in_use_set, value_set}
 use Rattle.bench_model.specs.PriorityAffinity.{capped, in_use_after, yields_after_priority_set, yields_after_affinity_set, priority_set, affinity_set}
 use Rattle.bench_model.specs.PriorityAffinity.{preemption_off, preemption_on}
 use Rattle.rule_laws.specs.SetLaws.{on_control}
 use Rattle.bench_model.specs.Sound.{IsControlBlock, IsConsistent}
 use Rattle.list_orders.proofs.Bests.{found}
-use Rattle.rule_laws.proofs.ControlFields.{change_apart, change_sound, in_use_seen, in_use_sound}
+use Rattle.rule_laws.proofs.ControlFields.{change_apart, change_sound, in_use_seen, in_use_settings, in_use_sound, value_seen, value_sound}
 use Rattle.list_orders.proofs.Filters.{All-has}
 use Rattle.rule_laws.proofs.Seeks.{seek_more}
 use Rattle.order_laws.proofs.SeenMoves.{is_ready_seen}
@@ -214,24 +215,33 @@ module _ (table : Table) (task priority : ℕ) (sound : IsConsistent table) (low
   based_sound = change_sound table task (record block { base = new }) sound
       (record { in_use = (sound.blocks task low).in_use; base = new_below; mask = (sound.blocks task low).mask })
 
-  later_seen : view_of (in_use_set stamp_queues task (in_use_after block new) based) ≡ in_use_set list_queues task (in_use_after block new) based_view
-  later_seen =
+  set_seen : view_of (in_use_set stamp_queues task (in_use_after block new) based) ≡ in_use_set list_queues task (in_use_after block new) based_view
+  set_seen =
       in_use_seen based task (in_use_after block new) based_sound low
       ∙ ap (in_use_set list_queues task (in_use_after block new)) (change_seen table task (record block { base = new }) refl)
 
-  later_sound : IsConsistent (in_use_set stamp_queues task (in_use_after block new) based)
-  later_sound = in_use_sound based task (in_use_after block new) based_sound low
+  later_seen : view_of (value_set stamp_queues task new (in_use_set stamp_queues task (in_use_after block new) based)) ≡ value_set list_queues task new
+      (in_use_set list_queues task (in_use_after block new) based_view)
+  later_seen = value_seen (in_use_set stamp_queues task (in_use_after block new) based) task new ∙ ap (value_set list_queues task new) set_seen
+
+  set_sound : IsConsistent (in_use_set stamp_queues task (in_use_after block new) based)
+  set_sound = in_use_sound based task (in_use_after block new) based_sound low
       (either_below new block.in_use table.settings.priorities (eqb block.in_use block.base || ltb block.in_use new) new_below (sound.blocks task low).in_use)
+
+  later_sound : IsConsistent (value_set stamp_queues task new (in_use_set stamp_queues task (in_use_after block new) based))
+  later_sound = value_sound (in_use_set stamp_queues task (in_use_after block new) based) task new set_sound
+      (subst (λ (s : Settings). new < s.priorities) (sym (in_use_settings based task (in_use_after block new))) new_below)
 
 pub priority_seen : (table : Table) (acting task priority : ℕ) → IsConsistent table → task < table.settings.tasks → view_of
     (priority_set stamp_queues acting task priority table) ≡ priority_set list_queues acting task priority (view_of table)
 unfolding priority_set
 priority_seen table acting task priority sound low =
     let rule = yields_after_priority_set acting task (block table task priority sound low).base (new table task priority sound low) in
-    let later = in_use_set stamp_queues task (in_use_after (task_at table.control task) (capped table.settings.priorities priority))
-    (based table task priority sound low) in
-    let later_view = in_use_set list_queues task (in_use_after (task_at table.control task) (capped table.settings.priorities priority))
-    (based_view table task priority sound low) in
+    let new = capped table.settings.priorities priority in
+    let later = value_set stamp_queues task new
+    (in_use_set stamp_queues task (in_use_after (task_at table.control task) new) (based table task priority sound low)) in
+    let later_view = value_set list_queues task new
+    (in_use_set list_queues task (in_use_after (task_at table.control task) new) (based_view table task priority sound low)) in
     either_seen (eqb (capped table.settings.priorities priority) (task_at table.control task).base) table _ (view_of table) _ refl
     (after_priority_set_seen later acting task (task_at table.control task).base (capped table.settings.priorities priority) (is_ready task table.orders)
     ∙ ap (on_control (rule (is_ready task table.orders))) (later_seen table task priority sound low)

@@ -1,5 +1,5 @@
 -- The laws of mutexes. Each is the contract of a public function.
-use Rattle.std.specs.Prelude.{◌≡◌, ℕ, ◌<◌, ◌≤◌, ◌^◌, Some}
+use Rattle.std.specs.Prelude.{◌≡◌, ℕ, ◌<◌, ◌≤◌, ◌^◌, Some, None}
 use Rattle.bench_types.specs.declared.kernel_data.Waiter.{Waiter}
 use Rattle.bench_types.specs.declared.step.Unfinished.{Unfinished}
 use Rattle.bench_types.specs.Step.{IsCheckedUnfinished}
@@ -20,11 +20,11 @@ FirstWaiterSimulates =
     (control : Control) (mutex : ℕ) (stamps : Stamps)
     → seen.first_waiter mutex (lists_of control stamps) ≡ first_waiter mutex stamps
 
--- the first waiter of a mutex is served before all others that wait for it
+-- without list values the first waiter of a mutex is served before all others that wait for it
 abbrev pub FirstWaiterIsServedFirst : Type 0
 FirstWaiterIsServedFirst =
     (table : Table) (mutex : ℕ) (waiter : Waiter) → IsConsistent table
-    → first_waiter mutex table.orders ≡ Some waiter
+    → table.settings.queues ≡ None → first_waiter mutex table.orders ≡ Some waiter
     → IsServedFirst table.orders mutex table.orders.waiters waiter
 
 abbrev pub DeadlineSimulates : Type 0

@@ -33,10 +33,10 @@ use Rattle.bench_types.specs.Step.{settings_of, IsCheckedCall, IsCheckedStep}
 use Rattle.bench_model.specs.declared.row.TaskRow.{TaskRow}
 use Rattle.bench_model.specs.declared.row.TaskState.TheVariants as standings
 use Rattle.bench_model.specs.Control.{current, task_at}
-use Rattle.bench_model.specs.ControlFields.{in_use_set}
+use Rattle.bench_model.specs.ControlFields.{in_use_set, in_use_and_value_set}
 use Rattle.bench_model.specs.Holds.{hold_opened, hold_closed}
 use Rattle.bench_model.specs.Looks.{ticks_left}
-use Rattle.bench_model.specs.Mutexes.{after_disinherit, finish_from, inherited, is_marked, mutex_take, owed, take_finished, take_from, timed_out, waited_at}
+use Rattle.bench_model.specs.Mutexes.{after_disinherit, finish_from, inherited, is_marked, mutex_take, owed, take_finished, take_from, timed_out, waited_at, waiting_priority}
 use Rattle.bench_model.specs.Notes.{of_slot, slot_of, take_entered, wait_entered}
 use Rattle.bench_model.specs.Notifying.{awaited, interrupted, timeout_of}
 use Rattle.bench_model.specs.Refusals.{refusal}
@@ -47,7 +47,7 @@ use Rattle.bench_model.specs.Start.{first_stamps, ready_row, start, started, uns
 use Rattle.bench_model.specs.State.{after_return, after_select, blocked, call_at, holder_at}
 use Rattle.bench_model.specs.Steps.{after, after_finish, called, delayed_until, performed}
 use Rattle.bench_model.specs.Table.{Stamps, Table, add_to_ready_list, ahead, deadline_left, delay, forget_deadline, is_ready, stamp_queues, stands_ready}
-use Rattle.bench_model.specs.Table.{tick_count}
+use Rattle.bench_model.specs.Table.{tick_count, set_list_value}
 use Rattle.bench_model.specs.Until.{is_ahead, next_wake, ticks_to}
 use Rattle.order_laws.proofs.SoundSteps.{add_to_ready_keeps}
 use Rattle.step_laws.proofs.Along.{checked_rest}
@@ -150,8 +150,8 @@ readied_where : (b : Bool) (stamps : Stamps) (task i : ℕ) → is_ready i stamp
 readied_where true stamps task i ready = readied stamps task i ready
 readied_where false stamps task i ready = ready
 
-in_use_calm : (task priority : ℕ) (table : Table) → IsCalm table (in_use_set stamp_queues task priority table)
-unfolding in_use_set
+in_use_calm : (task priority : ℕ) (table : Table) → IsCalm table (in_use_and_value_set stamp_queues task priority table)
+unfolding in_use_set in_use_and_value_set set_list_value
 in_use_calm task priority table = record { ready = readied_where (is_ready task table.orders) table.orders task; calls = refl }
 
 disinherit_calm : (acting task priority : ℕ) (table : Table) → IsCalm table (after_disinherit stamp_queues acting task priority table)
@@ -222,7 +222,7 @@ module _ (core task : ℕ) (table : Table) (sound : IsConsistent table) (place :
   unfolding waited_at
   waited_but mutex holder ticks low =
       let priority = (task_at table.control task).in_use in
-      blocked_but (Take mutex (is_marked table.control task holder)) ticks (Some (record { mutex = mutex; priority = priority }))
+      blocked_but (Take mutex (is_marked table.control task holder)) ticks (Some (record { mutex = mutex; priority = waiting_priority stamp_queues task table }))
       (inherited stamp_queues core holder priority table) (inherited_undisturbed core holder priority table low)
 
   holder_low : (mutex holder : ℕ) → holder_at table.holders mutex ≡ Some holder → holder < length table.orders.rows

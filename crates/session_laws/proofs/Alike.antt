@@ -167,12 +167,13 @@ module _ (a b : Table) (first : IsConsistent a) (second : IsConsistent b) (setti
   unfolding lists_of
   lists_same alike =
       let agree : AgreeOnTasks = record { ready = alike.ready; left = alike.left } in
-      same_seen _ _ _ _ _ _ _ _ _ _
+      same_seen _ _ _ _ _ _ _ _ _ _ _
       (ready_listed.0 ((ready_pairs agree).1 alike.ready_order))
       alike.ticks
       ((delayed_pairs agree).1 alike.delay_order)
       (waiters_same alike.waits alike.wait_order)
       (deadlines_same alike.deadlines)
+      ∙ ap (λ (values : List ℕ). record (lists_of b.control b.orders) { values = values }) alike.values
 
 pub same_from_alike : (a b : Table) → IsConsistent a → IsConsistent b → SamePairwise a b → Same a b
 same_from_alike a b first second alike =
@@ -196,6 +197,7 @@ alike_from_same a b first second same = record {
       (ap (λ (l : Lists). l.ready) lists));
   delay_order = (delayed_pairs a b first second settings control agree).0 (ap (λ (l : Lists). l.delayed) lists);
   waits = (waits_from_same a.settings.tasks a.orders.waiters b.orders.waiters waiters).0;
+  values = ap (λ (l : Lists). l.values) lists;
   wait_order = (waits_from_same a.settings.tasks a.orders.waiters b.orders.waiters waiters).1;
 }
   where

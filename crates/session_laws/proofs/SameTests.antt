@@ -183,10 +183,18 @@ orders : Tells are_same_orders
 orders a b =
     let maybe = options (λ m n. nat_eq m n) Decides-eqb in
     Decides-like (are_same_orders a b)
-    (λ h i. record { ready = h.0.0.0.0 i; tick = h.0.0.0.1 i; delayed = h.0.0.1 i; waiters = h.0.1 i; deadlines = h.1 i })
-    (λ e. ((((λ i. (e i).ready, λ i. (e i).tick), λ i. (e i).delayed), λ i. (e i).waiters), λ i. (e i).deadlines))
-    (two (two (two (two (lists (λ m n. nat_eq m n) Decides-eqb a.ready b.ready) (Decides-eqb a.tick b.tick)) (lists are_same_delays delays a.delayed b.delayed))
+    (λ h i. record {
+      ready = h.0.0.0.0.0 i;
+      tick = h.0.0.0.0.1 i;
+      delayed = h.0.0.0.1 i;
+      waiters = h.0.0.1 i;
+      deadlines = h.0.1 i;
+      values = h.1 i;
+    })
+    (λ e. (((((λ i. (e i).ready, λ i. (e i).tick), λ i. (e i).delayed), λ i. (e i).waiters), λ i. (e i).deadlines), λ i. (e i).values))
+    (two (two (two (two (two (lists (λ m n. nat_eq m n) Decides-eqb a.ready b.ready) (Decides-eqb a.tick b.tick)) (lists are_same_delays delays a.delayed b.delayed))
     (lists are_same_waiters waiters a.waiters b.waiters)) (lists (are_same_options (λ m n. nat_eq m n)) maybe a.deadlines b.deadlines))
+    (lists (λ m n. nat_eq m n) Decides-eqb a.values b.values))
 
 pub views : Tells are_same_views
 views a b =

@@ -14,7 +14,7 @@ use Rattle.bench_types.specs.declared.step.Unfinished.TheVariants.{Made, Take}
 use Rattle.bench_types.specs.Step.{IsCheckedStep}
 use Rattle.bench_model.specs.declared.row.TaskState.TheVariants as standings
 use Rattle.bench_model.specs.Control.{Control, task_at, in_mask}
-use Rattle.bench_model.specs.ControlFields.{in_use_set}
+use Rattle.bench_model.specs.ControlFields.{in_use_set, in_use_and_value_set}
 use Rattle.bench_model.specs.Mutexes.{held_by, taken, inherited, waited_at, after_disinherit, timed_out, finish_from, take_finished}
 use Rattle.bench_model.specs.Notifying.{completed}
 use Rattle.bench_model.specs.Refusals.{call_refusal}
@@ -23,7 +23,7 @@ use Rattle.bench_model.specs.Session.{step_of}
 use Rattle.bench_model.specs.Sound.{IsConsistent, IsSound, IsCaller}
 use Rattle.bench_model.specs.State.{call_at, holder_at, after_return, blocked}
 use Rattle.bench_model.specs.Steps.{after_finish, called, performed}
-use Rattle.bench_model.specs.Table.{Stamps, Table, stamp_queues, is_ready, stands_ready, add_to_ready_list, ahead, delay, deadline_left, forget_deadline}
+use Rattle.bench_model.specs.Table.{Stamps, Table, stamp_queues, is_ready, stands_ready, add_to_ready_list, ahead, delay, deadline_left, forget_deadline, set_list_value}
 use Rattle.order_laws.proofs.SoundMutexes.{standing_same, standing_other}
 use Rattle.rule_laws.proofs.Awaiting.{completed_notes}
 use Rattle.step_laws.proofs.Holds.{accepted, in_place}
@@ -61,8 +61,8 @@ either_calm false table one other first second = second
 -- ---- rules that leave who is ready
 
 in_use_ready : (table : Table) (task priority : ℕ) → task < length table.orders.rows → (i : ℕ)
-    → is_ready i (in_use_set stamp_queues task priority table).orders ≡ is_ready i table.orders
-unfolding in_use_set
+    → is_ready i (in_use_and_value_set stamp_queues task priority table).orders ≡ is_ready i table.orders
+unfolding in_use_set in_use_and_value_set set_list_value
 in_use_ready table task priority below i = at (is_ready task table.orders) refl
   where
     at : (b : Bool) → is_ready task table.orders ≡ b → is_ready i (cond b (add_to_ready_list task table.orders) table.orders) ≡ is_ready i table.orders
@@ -70,12 +70,12 @@ in_use_ready table task priority below i = at (is_ready task table.orders) refl
     at false waits = refl
 
 in_use_calm : (table : Table) (task priority : ℕ) (control : Control) → task < length table.orders.rows
-    → IsCalm table (record (in_use_set stamp_queues task priority table) { control = control })
-unfolding in_use_set
+    → IsCalm table (record (in_use_and_value_set stamp_queues task priority table) { control = control })
+unfolding in_use_set in_use_and_value_set set_list_value
 in_use_calm table task priority control below = record { ready = in_use_ready table task priority below; calls = refl }
 
-set_calm : (table : Table) (task priority : ℕ) → task < length table.orders.rows → IsCalm table (in_use_set stamp_queues task priority table)
-unfolding in_use_set
+set_calm : (table : Table) (task priority : ℕ) → task < length table.orders.rows → IsCalm table (in_use_and_value_set stamp_queues task priority table)
+unfolding in_use_set in_use_and_value_set set_list_value
 set_calm table task priority below = record { ready = in_use_ready table task priority below; calls = refl }
 
 inherited_calm : (table : Table) (acting holder priority : ℕ) → holder < length table.orders.rows
@@ -106,8 +106,8 @@ taken_calm table task mutex = record { ready = λ i. refl; calls = refl }
 completed_calm : (table : Table) (task : ℕ) (call : BlockingCall) → IsCalm table (completed task call table).1
 completed_calm table task call = let made = completed_notes task call table in subst (IsCalm table) (sym made.1) (record { ready = λ i. refl; calls = refl })
 
-in_use_rows : (table : Table) (task priority : ℕ) → length (in_use_set stamp_queues task priority table).orders.rows ≡ length table.orders.rows
-unfolding in_use_set add_to_ready_list
+in_use_rows : (table : Table) (task priority : ℕ) → length (in_use_and_value_set stamp_queues task priority table).orders.rows ≡ length table.orders.rows
+unfolding in_use_set in_use_and_value_set set_list_value add_to_ready_list
 in_use_rows table task priority = at (is_ready task table.orders)
   where
     at : (b : Bool) → length (cond b (add_to_ready_list task table.orders) table.orders).rows ≡ length table.orders.rows
@@ -120,7 +120,7 @@ unfolding inherited
 inherited_rows table acting holder priority = at (ltb (task_at table.control holder).in_use priority) (is_ready holder table.orders)
   where
     later : Table
-    later = in_use_set stamp_queues holder priority table
+    later = in_use_and_value_set stamp_queues holder priority table
 
     at : (b d : Bool)
         → length (cond b (cond d (record later { control = seek acting holder (in_mask later.control holder) later.control }) later) table).orders.rows ≡ length

@@ -95,7 +95,7 @@ module _ (by : ℕ) (stamps : Stamps) where
   lists_later : (control : Control)
       → lists_of control (later_stamps by stamps) ≡ record (lists_of control stamps) { tick = later_tick by (lists_of control stamps).tick }
   unfolding lists_of
-  lists_later control = same_seen _ _ _ _ _ _ _ _ _ _
+  lists_later control = same_seen _ _ _ _ _ _ _ _ _ _ _
       (ap (ranked (outranks control)) (standing_later stands_ready (ready_later by)))
       (sym (mod-add-mod stamps.tick (2 ^ 32) by))
       (ap (ranked wakes_first) (ap₂ map (fun_ext delayed_later) (standing_later waits waits_later)))
@@ -147,9 +147,10 @@ mutexes_later by table mutexes = record {
   once = mutexes.once;
   by_mutex = mutexes.by_mutex;
   awaited = λ i low blocked. mutexes.awaited i (omega (arith, rows_later by table.orders, low)) (sym (is_ready_later by table.orders i) ∙ blocked);
-  turns = turn_moved table.orders (later_stamps by table.orders) table.orders.waiters
+  turns = λ none. turn_moved table.orders (later_stamps by table.orders) table.orders.waiters
       (All_each (λ (w : Waiter). stamp_of (later_stamps by table.orders) w.task ≡ stamp_of table.orders w.task) (λ w. stamp_later by table.orders w.task)
-      table.orders.waiters) mutexes.turns;
+      table.orders.waiters) (mutexes.turns none);
+  values = mutexes.values;
   deadlines = λ i deadline is.
       let before = was_before by deadline (deadline_at table.orders i) (sym (deadline_at_later by table.orders i) ∙ is) in
       let was = mutexes.deadlines i before.0 before.1 in

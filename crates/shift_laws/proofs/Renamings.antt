@@ -36,6 +36,8 @@ pub record Carries {A B : Type 0} (f : A → B) (a : QueueOps A) (b : QueueOps B
   pub first_waiter : (mutex : ℕ) (o : A) → b.first_waiter mutex (f o) ≡ a.first_waiter mutex o
   pub deadline_left : (task : ℕ) (o : A) → b.deadline_left task (f o) ≡ a.deadline_left task o
   pub forget_deadline : (task : ℕ) (o : A) → b.forget_deadline task (f o) ≡ f (a.forget_deadline task o)
+  pub list_value : (task : ℕ) (o : A) → b.list_value task (f o) ≡ a.list_value task o
+  pub set_list_value : (task value : ℕ) (o : A) → b.set_list_value task value (f o) ≡ f (a.set_list_value task value o)
 
 -- rules that do the same under the same names are the same
 same_ops : {A : Type 0} (a b : QueueOps A) → Carries (λ o. o) a b → b ≡ a
@@ -50,6 +52,8 @@ same_ops a b same = λ i. record {
   first_waiter = λ mutex o. same.first_waiter mutex o i;
   deadline_left = λ task o. same.deadline_left task o i;
   forget_deadline = λ task o. same.forget_deadline task o i;
+  list_value = λ task o. same.list_value task o i;
+  set_list_value = λ task value o. same.set_list_value task value o i;
 }
 
 -- so a step under other names is the step, with its outcome under these names

@@ -6,9 +6,9 @@ use Rattle.bench_types.specs.declared.step.Step.{Step}
 use Rattle.bench_types.specs.declared.step.Step.TheVariants.{Call}
 use Rattle.bench_types.specs.Step.{IsCheckedStep}
 use Rattle.bench_model.specs.Equal.{Same}
-use Rattle.bench_model.specs.Lists.{Lists, View, list_queues, lists_of, view_of, pick, add_to_ready_list, delay, advance, first_waiter, forget_deadline}
+use Rattle.bench_model.specs.Lists.{Lists, View, list_queues, lists_of, view_of, pick, add_to_ready_list, delay, advance, first_waiter, forget_deadline, set_list_value}
 use Rattle.bench_model.specs.Mutexes.{inherited, waited_at, mutex_take, after_disinherit, timed_out, take_finished, disinherited, first_woken, mutex_give}
-use Rattle.bench_model.specs.ControlFields.{in_use_set}
+use Rattle.bench_model.specs.ControlFields.{in_use_set, in_use_and_value_set}
 use Rattle.bench_model.specs.Notifying.{state_forgotten, bits_cleared, completed, notify, interrupted, awaited}
 use Rattle.bench_model.specs.PriorityAffinity.{priority_set, affinity_set, preemption_off, preemption_on}
 use Rattle.bench_model.specs.Refusals.{would_block, refusal}
@@ -33,7 +33,7 @@ after_clocked :
     {A : Type 0} (count : A → ℕ) (ops : QueueOps A) (step : Step) (state : State A) → delays_until step ≡ false
     → after (clocked count ops) step state ≡ after ops step state
 unfolding after performed refusal would_block called ticked sliced wake after_switch after_eviction after_select
-    yielded blocked priority_set affinity_set preemption_off preemption_on in_use_set notify interrupted
+    yielded blocked priority_set affinity_set preemption_off preemption_on in_use_set in_use_and_value_set notify interrupted
     state_forgotten bits_cleared awaited completed mutex_take mutex_give take_finished
     after_finish delayed_until inherited waited_at after_disinherit timed_out disinherited first_woken
 after_clocked count ops (Call core task (DelayUntil prev inc)) state delays = absurd (true≢false delays)
@@ -44,7 +44,7 @@ abbrev blind : QueueOps Lists
 blind = clocked (λ lists. 0) list_queues
 
 turns_carry : (by : ℕ) → Carries (turned_lists by) blind blind
-unfolding pick add_to_ready_list delay advance first_waiter forget_deadline
+unfolding pick add_to_ready_list delay advance first_waiter forget_deadline set_list_value
 turns_carry by = record {
   is_ready = λ task o. refl;
   pick = λ control core o. refl;
@@ -56,6 +56,8 @@ turns_carry by = record {
   first_waiter = λ mutex o. refl;
   deadline_left = λ task o. refl;
   forget_deadline = λ task o. refl;
+  list_value = λ task o. refl;
+  set_list_value = λ task value o. refl;
 }
 
 after_turned :

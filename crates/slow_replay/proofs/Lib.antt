@@ -1,3 +1,4 @@
 pub mod SlowRuns
 pub mod SlowSlices
 pub mod SlowTicks
+pub mod SlowWaiters

@@ -16,7 +16,7 @@ ghost use Rattle.bench_types.specs.Limits.{max_cores, max_notes, max_tasks};
 ghost use Rattle.bench_model.specs.Table.{stamp_queues, advance, add_to_ready_list, ahead, is_ready, goes_before, pick, restamped, row_at, stamp_of, tasks_of, wakes_at};
 ghost use Rattle.bench_model.specs.Waiters.{without_waiter};
 ghost use Rattle.list_orders.specs.Search.{is_best, numbers};
-ghost use Rattle.bench_model.specs.Start.{first_look, ready_row, idle_control, user_control, first_control, first_stamps, unstarted, start};
+ghost use Rattle.bench_model.specs.Start.{first_look, ready_row, idle_control, user_control, first_control, first_values, first_stamps, unstarted, start};
 ghost use Rattle.slow_replay.specs.SlowDue.{first_due};
 
 mod holds;
@@ -47,6 +47,8 @@ struct SlowTable {
     rows: Vec<TaskRow>,
     waiters: Vec<Waiter>,
     deadlines: Vec<Option<u128>>,
+    /// Per task its list value; empty where the session has none.
+    values: Vec<u32>,
     tick: u128,
     next: u128,
 }
@@ -65,6 +67,7 @@ impl Drop for SlowTable {
             rows: _,
             waiters: _,
             deadlines: _,
+            values: _,
             tick: _,
             next: _,
         } = self;
@@ -89,6 +92,7 @@ impl Model for SlowTable {
         rows = t.rows.items;
         waiters = t.waiters.items;
         deadlines = t.deadlines.items;
+        values = t.values.items;
         tick = t.tick;
         next = t.next;
       };
@@ -648,6 +652,21 @@ fn first_controls(alloc: Global, header: &Header) -> Result<Vec<TaskControl>, Al
     Ok(controls)
 }
 
+// In a session with queues each task's list value is its base priority; in another there are none.
+fn first_values(
+    alloc: Global,
+    header: &Header,
+    tasks: &[TaskControl],
+) -> Result<Vec<u32>, AllocError>
+    requires { tasks.now ≡ (first_control header.now).tasks }
+    ensures { IfOk result (λ values. values.items ≡ first_values header.now) }
+{
+    if header.queues.is_none() {
+        return Ok(Vec::new(alloc));
+    }
+    tasks.iter().map(|block| block.base).collect(alloc)
+}
+
 fn settings_of(header: &Header) -> Settings
     requires few { header.now.config.cores + length header.now.tasks < 2 ^ 32 }
     requires passes { header_check header.now ≡ Ok tt }
@@ -683,6 +702,7 @@ fn unstarted(alloc: Global, header: &Header) -> Result<SlowTable, AllocError>
     let rows = first_rows(alloc, settings.cores, users)?;
     let waiters = no_waiters(alloc);
     let deadlines = no_deadlines(alloc, settings.tasks)?;
+    let values = first_values(alloc, header, &tasks)?;
     Ok(SlowTable {
         settings,
         cores,
@@ -694,6 +714,7 @@ fn unstarted(alloc: Global, header: &Header) -> Result<SlowTable, AllocError>
         rows,
         waiters,
         deadlines,
+        values,
         tick: u128::from(header.config.tick),
         next: u128::from(settings.tasks),
     })

@@ -1,9 +1,9 @@
 -- No ready task waits, whatever move is made.
-use Rattle.std.proofs.Common.{◌≡◌, ℕ, Bool, true, false, cond, not, eqb, ◌&&◌, ◌||◌, List, [], ◌∷◌, map, Some, None, refl, ap, ◌∙◌, arith}
-use Rattle.std.specs.List.{filter, find, list_any}
+use Rattle.std.proofs.Common.{◌≡◌, ℕ, zero, suc, Bool, true, false, cond, not, eqb, ◌&&◌, ◌||◌, List, [], ◌∷◌, map, Some, None, refl, ap, ◌∙◌, arith}
+use Rattle.std.specs.List.{filter, find, insert, list_any, prefix_len}
 use Rattle.std.proofs.lemmas.Bool.Decides.{nat_tests}
 use Rattle.bench_types.specs.declared.kernel_data.Delayed.{Delayed}
-use Rattle.list_orders.specs.Search.{placed, without, has}
+use Rattle.list_orders.specs.Search.{inserted, placed, without, has}
 use Rattle.bench_model.specs.Control.{Control}
 use Rattle.bench_model.specs.Lists.{outranks, one_tick_less}
 use Rattle.list_orders.proofs.Filters.{has-filter}
@@ -83,6 +83,33 @@ module _ {E : Type 0} (task_of : E → ℕ) where
             (λ m. not (eqb m (task_of entry))) t ready,
       )
       at false before = absurd (cc (found, before, has-filter (λ m. not (eqb m (task_of entry))) t ready, and_false (not (eqb t (task_of entry)))))
+
+  waits-inserted : (t n : ℕ) (entry : E) (entries : List E) → waits t (insert entries n entry) ≡ (eqb (task_of entry) t || waits t entries)
+  waits-inserted t zero entry [] = refl
+  waits-inserted t zero entry (e ∷ es) = refl
+  waits-inserted t (suc n) entry [] = refl
+  waits-inserted t (suc n) entry (e ∷ es) = grind (arith, waits-inserted t n entry es)
+
+  -- also before the first that does not stay in front of it
+  pub apart_inserted : (front : E → E → Bool) (entry : E) (ready : List ℕ) (entries : List E) → IsDisjoint task_of ready entries → IsDisjoint task_of
+      (without (task_of entry) ready) (inserted front entry entries)
+  apart_inserted front entry ready entries apart t found = at (has t ready) refl
+    where
+      there : waits t (inserted front entry entries) ≡ (eqb (task_of entry) t || waits t entries)
+      there = waits-inserted t (prefix_len (λ e. front e entry) entries) entry entries
+
+      at : (b : Bool) → has t ready ≡ b → waits t (inserted front entry entries) ≡ false
+      at true before = grind (arith, nat_tests, found, before, apart t before, there, has-filter (λ m. not (eqb m (task_of entry))) t ready)
+      at false before = absurd (cc (found, before, has-filter (λ m. not (eqb m (task_of entry))) t ready, and_false (not (eqb t (task_of entry)))))
+
+  -- where each entry stays that of its task, all stay apart
+  pub apart_mapped : (f : E → E) → ((e : E) → task_of (f e) ≡ task_of e) → (ready : List ℕ) (entries : List E) → IsDisjoint task_of ready entries →
+      IsDisjoint task_of ready (map f entries)
+  apart_mapped f same ready entries apart t found = waits-mapped entries ∙ apart t found
+    where
+      waits-mapped : (entries : List E) → waits t (map f entries) ≡ waits t entries
+      waits-mapped [] = refl
+      waits-mapped (e ∷ es) = grind (arith, same e, waits-mapped es)
 
   -- the ready lists where a task that is ready goes to the end of its list
   pub apart_queued : (task : ℕ) (control : Control) (ready : List ℕ) (entries : List E) → IsDisjoint task_of ready entries → IsDisjoint task_of

@@ -1,6 +1,6 @@
 -- A task that begins to wait.
 use Rattle.std.proofs.Common.{◌≡◌, ℕ, true, cond, eqb, List, length, Option, Some, None, refl, ap, ◌∙◌}
-use Rattle.std.specs.Prelude.{is_some, option_map, slice_set}
+use Rattle.std.specs.Prelude.{is_some, option_map, slice_set, unwrap_or}
 use Rattle.std.specs.Option.{option_map_or}
 use Rattle.std.proofs.lemmas.List.{length-set}
 use Rattle.bench_types.specs.declared.kernel_data.Delayed.{Delayed}
@@ -8,24 +8,25 @@ use Rattle.bench_types.specs.declared.kernel_data.MutexWait.{MutexWait}
 use Rattle.bench_types.specs.declared.kernel_data.Waiter.{Waiter}
 use Rattle.bench_types.specs.declared.step.Unfinished.{Unfinished}
 use Rattle.bench_types.specs.declared.step.Unfinished.TheVariants.{Take}
-use Rattle.list_orders.specs.Search.{placed, without, has}
+use Rattle.list_orders.specs.Search.{inserted, placed, without, has}
 use Rattle.bench_model.specs.Control.{task_at, ask}
 use Rattle.bench_model.specs.State.{blocked}
 use Rattle.bench_model.specs.Lists.{list_queues, wakes_first, delay}
-use Rattle.bench_model.specs.Waiters.{waits_first}
+use Rattle.bench_model.specs.Waiters.{list_value_of, waits_first}
 use Rattle.bench_model.specs.Cores.{cores_rule}
 use Rattle.bench_model.specs.Mutexes.{is_marked, inherited, waited_at}
 use Rattle.bench_model.specs.Waiters.{wait_of}
+use Rattle.mutex_inherit.specs.Parts.{inherited_part}
 use Rattle.smp_kernel.specs.Kernel.{IsDisjoint, Parts, kernel_view, IsKernelShape, delayed_task, waiting_task}
 use Rattle.smp_kernel.proofs.Sizes.{reshaped}
-use Rattle.smp_kernel.proofs.CoreMoves.{with_cores, inherit_seen, inherit_shape}
-use Rattle.smp_kernel.proofs.Apart.{none_found, apart_unready, apart_waiting}
+use Rattle.smp_kernel.proofs.CoreMoves.{heir_parts, inherit_seen, inherit_shape, with_both}
+use Rattle.smp_kernel.proofs.Apart.{none_found, apart_inserted, apart_unready, apart_waiting}
 
 abbrev delayed_more : ℕ → Option ℕ → List Delayed → List Delayed
 delayed_more task ticks delayed = option_map_or (λ left. placed wakes_first (record { task = task; left = left }) delayed) ticks delayed
 
 abbrev waiters_more : ℕ → Option MutexWait → List Waiter → List Waiter
-waiters_more task wait waiters = option_map_or (λ wait. placed waits_first (record { task = task; wait = wait }) waiters) wait waiters
+waiters_more task wait waiters = option_map_or (λ wait. inserted waits_first (record { task = task; wait = wait }) waiters) wait waiters
 
 -- a ready task waits at no mutex
 pub not_waiting : (parts : Parts) → IsKernelShape parts → (task : ℕ) → has task parts.cores.ready ≡ true → wait_of task parts.mutexes.waiters ≡ None
@@ -50,7 +51,7 @@ apart_delayed task (Some left) ready delayed apart = apart_waiting delayed_task 
 apart_queued : (task : ℕ) (wait : Option MutexWait) (ready : List ℕ) (waiters : List Waiter) → IsDisjoint waiting_task ready waiters → IsDisjoint waiting_task
     (without task ready) (waiters_more task wait waiters)
 apart_queued task None ready waiters apart = apart_unready waiting_task task ready waiters apart
-apart_queued task (Some wait) ready waiters apart = apart_waiting waiting_task waits_first (record { task = task; wait = wait }) ready waiters apart
+apart_queued task (Some wait) ready waiters apart = apart_inserted waiting_task waits_first (record { task = task; wait = wait }) ready waiters apart
 
 module _ (parts : Parts) (shape : IsKernelShape parts) where
   pub block_seen : (core task : ℕ) (call : Unfinished) (ticks : Option ℕ) (wait : Option MutexWait) → kernel_view
@@ -64,12 +65,18 @@ module _ (parts : Parts) (shape : IsKernelShape parts) where
       (length-set parts.cores.control.cores core _, length-set parts.calls task _, length-set parts.deadlines task _))
       (apart_delayed task ticks _ _ shape.undelayed) (apart_queued task wait _ _ shape.unqueued) shape
 
+-- what a task waits for that begins to wait for a mutex
+abbrev pub wait_for : Parts → ℕ → ℕ → MutexWait
+wait_for parts task mutex =
+    record { mutex = mutex; priority = unwrap_or (list_value_of task parts.mutexes.values) (task_at parts.cores.control task).in_use }
+
 -- a kernel whose task begins to wait for a mutex, when the holder has inherited
 abbrev pub waited_parts : ℕ → ℕ → ℕ → ℕ → Option ℕ → Parts → Parts
 waited_parts core task mutex holder ticks parts =
     let priority = (task_at parts.cores.control task).in_use in
-    blocked_parts core task (Take mutex (is_marked parts.cores.control task holder)) ticks (Some (record { mutex = mutex; priority = priority }))
-    (with_cores parts (cores_rule (inherited list_queues core holder priority) parts.cores))
+    blocked_parts core task (Take mutex (is_marked parts.cores.control task holder)) ticks (Some (wait_for parts task mutex))
+    (with_both parts (cores_rule (inherited list_queues core holder priority) parts.cores)
+    (inherited_part parts.cores.control holder priority parts.mutexes))
 
 module _ (parts : Parts) (shape : IsKernelShape parts) (core task mutex holder : ℕ) (ticks : Option ℕ) where
   abbrev priority : ℕ
@@ -79,10 +86,10 @@ module _ (parts : Parts) (shape : IsKernelShape parts) (core task mutex holder :
   call = Take mutex (is_marked parts.cores.control task holder)
 
   abbrev wait : Option MutexWait
-  wait = Some (record { mutex = mutex; priority = priority })
+  wait = Some (wait_for parts task mutex)
 
   abbrev raised : Parts
-  raised = with_cores parts (cores_rule (inherited list_queues core holder priority) parts.cores)
+  raised = heir_parts parts shape core holder priority
 
   pub wait_seen : kernel_view (waited_parts core task mutex holder ticks parts) ≡ waited_at list_queues core task mutex holder ticks (kernel_view parts)
   unfolding waited_at

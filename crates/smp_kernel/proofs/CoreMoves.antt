@@ -1,5 +1,5 @@
 -- What the rules do to the cores and ready lists of a kernel, where no ready task waits: they read these alone.
-use Rattle.std.proofs.Common.{◌≡◌, ℕ, Bool, true, false, cond, not, eqb, ltb, ◌&&◌, List, [], ◌∷◌, length, refl, sym, ap, ap₂, ◌∙◌}
+use Rattle.std.proofs.Common.{◌≡◌, ℕ, Bool, true, false, cond, not, eqb, ltb, ◌&&◌, List, [], ◌∷◌, length, map, refl, sym, ap, ap₂, ◌∙◌}
 use Rattle.std.specs.Prelude.{unwrap_or, slice_set, Option, Some, None}
 use Rattle.std.specs.Option.{option_map_or}
 use Rattle.std.specs.List.{find}
@@ -13,15 +13,17 @@ use Rattle.bench_model.specs.Notes.{note_at, is_waiting, notified, slot_of}
 use Rattle.bench_model.specs.Notifying.{notify}
 use Rattle.bench_model.specs.Mutexes.{inherited, after_disinherit}
 use Rattle.bench_model.specs.Steps.{woken}
-use Rattle.bench_model.specs.ControlFields.{with_in_use, in_use_set}
+use Rattle.bench_types.specs.declared.kernel_data.Waiter.{Waiter}
+use Rattle.bench_model.specs.ControlFields.{with_in_use, in_use_set, value_set, in_use_and_value_set}
 use Rattle.bench_model.specs.Cores.{CoresView, cores_of, bare_view, cores_rule}
-use Rattle.bench_model.specs.Lists.{Lists, View, list_queues, outranks, pick, add_to_ready_list, without_delay}
-use Rattle.bench_model.specs.Waiters.{without_waiter}
+use Rattle.bench_model.specs.Lists.{Lists, View, list_queues, outranks, pick, add_to_ready_list, set_list_value, without_delay}
+use Rattle.bench_model.specs.Waiters.{revalued, with_value, without_waiter}
+use Rattle.mutex_inherit.specs.Parts.{MutexPart, disinherited_part, inherited_part, valued}
 use Rattle.order_laws.proofs.SoundSteps.{IsAskedMore}
 use Rattle.rule_laws.proofs.Seeks.{seek_more, each_more}
 use Rattle.smp_kernel.specs.Kernel.{IsDisjoint, Parts, kernel_view, IsKernelShape, delayed_task, waiting_task}
 use Rattle.smp_kernel.proofs.Sizes.{reshaped, sizes_of}
-use Rattle.smp_kernel.proofs.Apart.{left_free, apart_ready, apart_queued}
+use Rattle.smp_kernel.proofs.Apart.{left_free, apart_mapped, apart_ready, apart_queued}
 
 -- no ready task waits
 pub record NoneWaits (lists : Lists) : Type 0 where
@@ -250,12 +252,31 @@ after_disinherit_cores acting task priority cores =
     let later = with_in_use task priority cores.control in
     changed_part (not (eqb (task_at cores.control task).in_use priority)) task later (ask_its_core acting task later) cores
 
-inherited_part : (acting holder priority : ℕ) (view : View) → NoneWaits view.orders → inherited list_queues acting holder priority view ≡ with_part view
-    (raised_cores acting holder priority (cores_of view)).control (raised_cores acting holder priority (cores_of view)).ready
-unfolding inherited
-inherited_part acting holder priority view apart =
-    ap (λ later. cond raises (cond (has holder view.orders.ready) (sought later) later) view) (in_use_part holder priority view apart) ∙ at raises
-    (has holder view.orders.ready)
+-- the waiters after another list value of a task, where it changes
+abbrev waiters_when : Bool → ℕ → ℕ → Lists → List Waiter
+waiters_when changes task value lists = cond changes (revalued lists.values task value lists.waiters) lists.waiters
+
+abbrev values_when : Bool → ℕ → ℕ → Lists → List ℕ
+values_when changes task value lists = cond changes (slice_set lists.values task value) lists.values
+
+-- a view with other cores and ready lists, and another list value of a task, where it changes
+abbrev with_value_part : Bool → ℕ → ℕ → View → Control → List ℕ → View
+with_value_part changes task value view control ready = record view {
+  control = control;
+  orders = record view.orders {
+    ready = ready;
+    waiters = waiters_when changes task value view.orders;
+    values = values_when changes task value view.orders;
+  };
+}
+
+inherited_whole : (acting holder priority : ℕ) (view : View) → NoneWaits view.orders → inherited list_queues acting holder priority view ≡ with_value_part
+    (ltb (task_at view.control holder).in_use priority) holder priority view (raised_cores acting holder priority (cores_of view)).control
+    (raised_cores acting holder priority (cores_of view)).ready
+unfolding inherited in_use_and_value_set set_list_value
+inherited_whole acting holder priority view apart =
+    ap (λ later. cond raises (cond (has holder view.orders.ready) (sought (valued_view later)) (valued_view later)) view)
+    (in_use_part holder priority view apart) ∙ at raises (has holder view.orders.ready)
   where
     raises : Bool
     raises = ltb (task_at view.control holder).in_use priority
@@ -263,24 +284,29 @@ inherited_part acting holder priority view apart =
     later : Control
     later = with_in_use holder priority view.control
 
+    valued_view : View → View
+    valued_view of = value_set list_queues holder priority of
+
     raised : View
-    raised = with_part view later (queue_of holder later view.orders.ready)
+    raised = valued_view (with_part view later (queue_of holder later view.orders.ready))
 
     sought : View → View
     sought of = record of { control = seek acting holder (in_mask of.control holder) of.control }
 
-    at : (b d : Bool) → cond b (cond d (sought raised) raised) view ≡ with_part view
+    at : (b d : Bool) → cond b (cond d (sought raised) raised) view ≡ with_value_part b holder priority view
         (cond b (cond d (seek acting holder (in_mask later holder) later) later) view.control)
         (cond b (queue_of holder later view.orders.ready) view.orders.ready)
     at true true = refl
     at true false = refl
     at false d = refl
 
-after_disinherit_part : (acting task priority : ℕ) (view : View) → NoneWaits view.orders → after_disinherit list_queues acting task priority view ≡ with_part
-    view (after_disinherit_cores acting task priority (cores_of view)).control (after_disinherit_cores acting task priority (cores_of view)).ready
-unfolding after_disinherit
-after_disinherit_part acting task priority view apart =
-    ap (λ (later : View). cond stays view (record later { control = ask_its_core acting task later.control })) (in_use_part task priority view apart) ∙ at stays
+after_disinherit_whole : (acting task priority : ℕ) (view : View) → NoneWaits view.orders → after_disinherit list_queues acting task priority view ≡
+    with_value_part (not (eqb (task_at view.control task).in_use priority)) task priority view
+    (after_disinherit_cores acting task priority (cores_of view)).control (after_disinherit_cores acting task priority (cores_of view)).ready
+unfolding after_disinherit in_use_and_value_set set_list_value
+after_disinherit_whole acting task priority view apart =
+    ap (λ (later : View). cond stays view (record (valued_view later) { control = ask_its_core acting task later.control })) (in_use_part task priority view apart)
+    ∙ at stays
   where
     stays : Bool
     stays = eqb (task_at view.control task).in_use priority
@@ -291,18 +317,21 @@ after_disinherit_part acting task priority view apart =
     queue : List ℕ
     queue = queue_of task later view.orders.ready
 
-    at : (b : Bool) → cond b view (with_part view (ask_its_core acting task later) queue) ≡ with_part view
+    valued_view : View → View
+    valued_view of = value_set list_queues task priority of
+
+    at : (b : Bool) → cond b view (valued_view (with_part view (ask_its_core acting task later) queue)) ≡ with_value_part (not b) task priority view
         (cond (not b) (ask_its_core acting task later) view.control) (cond (not b) queue view.orders.ready)
     at true = refl
     at false = refl
 
 inherited_cores : (acting holder priority : ℕ) (cores : CoresView) → cores_rule (inherited list_queues acting holder priority) cores ≡ raised_cores acting
     holder priority cores
-inherited_cores acting holder priority cores = ap cores_of (inherited_part acting holder priority (bare_view cores) (none_waits_alone cores))
+inherited_cores acting holder priority cores = ap cores_of (inherited_whole acting holder priority (bare_view cores) (none_waits_alone cores))
 
 given_back_cores : (acting task priority : ℕ) (cores : CoresView) → cores_rule (after_disinherit list_queues acting task priority) cores ≡
     after_disinherit_cores acting task priority cores
-given_back_cores acting task priority cores = ap cores_of (after_disinherit_part acting task priority (bare_view cores) (none_waits_alone cores))
+given_back_cores acting task priority cores = ap cores_of (after_disinherit_whole acting task priority (bare_view cores) (none_waits_alone cores))
 
 -- the core of a task is asked, and no number of cores and tasks changes
 record HasSameSizes (control other : Control) : Type 0 where
@@ -350,28 +379,89 @@ changed_shape parts true task priority asked shape same =
     cores_shape parts _ shape kept (queued_apart parts task later shape)
 changed_shape parts false task priority asked shape same = shape
 
+-- a kernel with other cores and mutexes
+abbrev pub with_both : Parts → CoresView → MutexPart → Parts
+with_both parts cores mutexes = record parts { cores = cores; mutexes = mutexes }
+
+-- the mutexes after another list value of a task, where it changes
+abbrev pub valued_when : Bool → ℕ → ℕ → MutexPart → MutexPart
+valued_when changes task value part = cond changes (valued task value part) part
+
+valued_view_when : (parts : Parts) (cores : CoresView) (changes : Bool) (task value : ℕ) → kernel_view
+    (with_both parts cores (valued_when changes task value parts.mutexes)) ≡ with_value_part changes task value (kernel_view parts) cores.control cores.ready
+valued_view_when parts cores true task value = refl
+valued_view_when parts cores false task value = refl
+
+value_keeps_task : (task value : ℕ) (w : Waiter) → (with_value task value w).task ≡ w.task
+value_keeps_task task value w = at (eqb w.task task)
+  where
+    at : (b : Bool) → (cond b (record w { wait = record w.wait { priority = value } }) w).task ≡ w.task
+    at true = refl
+    at false = refl
+
+-- another list value of a task leaves who waits
+revalued_apart : (values : List ℕ) (task value : ℕ) (ready : List ℕ) (waiters : List Waiter) → IsDisjoint waiting_task ready waiters → IsDisjoint waiting_task
+    ready (revalued values task value waiters)
+revalued_apart values task value ready waiters apart = at (ltb task (length values))
+  where
+    at : (b : Bool) → IsDisjoint waiting_task ready (cond b (map (with_value task value) waiters) waiters)
+    at true = apart_mapped waiting_task (with_value task value) (value_keeps_task task value) ready waiters apart
+    at false = apart
+
+pub valued_shape : (parts : Parts) → IsKernelShape parts → (changes : Bool) (task value : ℕ) → IsKernelShape
+    (record parts { mutexes = valued_when changes task value parts.mutexes })
+valued_shape parts shape true task value = reshaped parts _ refl
+    (ap (λ a. record (sizes_of parts) { values = a }) (length-set parts.mutexes.values task value)) shape.undelayed
+    (revalued_apart parts.mutexes.values task value parts.cores.ready parts.mutexes.waiters shape.unqueued) shape
+valued_shape parts shape false task value = shape
+
 module _ (parts : Parts) (shape : IsKernelShape parts) where
-  pub inherit_seen : (acting holder priority : ℕ) → kernel_view (with_cores parts (cores_rule (inherited list_queues acting holder priority) parts.cores)) ≡
-      inherited list_queues acting holder priority (kernel_view parts)
+  abbrev pub heir_parts : ℕ → ℕ → ℕ → Parts
+  heir_parts acting holder priority = with_both parts (cores_rule (inherited list_queues acting holder priority) parts.cores)
+      (inherited_part parts.cores.control holder priority parts.mutexes)
+
+  pub inherit_seen : (acting holder priority : ℕ) → kernel_view (heir_parts acting holder priority) ≡ inherited list_queues acting holder priority
+      (kernel_view parts)
   inherit_seen acting holder priority =
-      ap (λ cores. kernel_view (with_cores parts cores)) (inherited_cores acting holder priority parts.cores) ∙ sym
-      (inherited_part acting holder priority (kernel_view parts) (none_waits parts shape))
+      ap (λ cores. kernel_view (with_both parts cores (inherited_part parts.cores.control holder priority parts.mutexes)))
+      (inherited_cores acting holder priority parts.cores)
+      ∙ valued_view_when parts (raised_cores acting holder priority parts.cores) (ltb (task_at parts.cores.control holder).in_use priority) holder priority
+      ∙ sym (inherited_whole acting holder priority (kernel_view parts) (none_waits parts shape))
 
-  pub inherit_shape : (acting holder priority : ℕ) → IsKernelShape (with_cores parts (cores_rule (inherited list_queues acting holder priority) parts.cores))
+  pub inherit_shape : (acting holder priority : ℕ) → IsKernelShape (heir_parts acting holder priority)
   inherit_shape acting holder priority =
+      let cores : IsKernelShape (with_cores parts (cores_rule (inherited list_queues acting holder priority) parts.cores)) =
       rw (inherited_cores acting holder priority parts.cores) (changed_shape parts _ holder priority _ shape
-      (sought_sizes acting holder parts.cores.ready (with_in_use holder priority parts.cores.control)))
+      (sought_sizes acting holder parts.cores.ready (with_in_use holder priority parts.cores.control))) in
+      valued_shape (with_cores parts (cores_rule (inherited list_queues acting holder priority) parts.cores)) cores
+      (ltb (task_at parts.cores.control holder).in_use priority) holder priority
 
-  pub lower_seen : (acting task priority : ℕ) → kernel_view (with_cores parts (cores_rule (after_disinherit list_queues acting task priority) parts.cores)) ≡
-      after_disinherit list_queues acting task priority (kernel_view parts)
+  abbrev pub lowered_parts : ℕ → ℕ → ℕ → Parts
+  lowered_parts acting task priority = with_both parts (cores_rule (after_disinherit list_queues acting task priority) parts.cores)
+      (disinherited_part parts.cores.control task priority parts.mutexes)
+
+  -- the list value changes where the priority in use does
+  either_valued : (stays : Bool) (task priority : ℕ) → cond stays parts.mutexes (valued task priority parts.mutexes) ≡ valued_when (not stays) task priority
+      parts.mutexes
+  either_valued true task priority = refl
+  either_valued false task priority = refl
+
+  pub lower_seen : (acting task priority : ℕ) → kernel_view (lowered_parts acting task priority) ≡ after_disinherit list_queues acting task priority
+      (kernel_view parts)
   lower_seen acting task priority =
-      ap (λ cores. kernel_view (with_cores parts cores)) (given_back_cores acting task priority parts.cores) ∙ sym
-      (after_disinherit_part acting task priority (kernel_view parts) (none_waits parts shape))
+      let stays = eqb (task_at parts.cores.control task).in_use priority in
+      ap₂ (λ cores mutexes. kernel_view (with_both parts cores mutexes)) (given_back_cores acting task priority parts.cores) (either_valued stays task priority)
+      ∙ valued_view_when parts (after_disinherit_cores acting task priority parts.cores) (not stays) task priority
+      ∙ sym (after_disinherit_whole acting task priority (kernel_view parts) (none_waits parts shape))
 
-  pub lower_shape : (acting task priority : ℕ) → IsKernelShape (with_cores parts (cores_rule (after_disinherit list_queues acting task priority) parts.cores))
+  pub lower_shape : (acting task priority : ℕ) → IsKernelShape (lowered_parts acting task priority)
   lower_shape acting task priority =
+      let stays = eqb (task_at parts.cores.control task).in_use priority in
+      let cores : IsKernelShape (with_cores parts (cores_rule (after_disinherit list_queues acting task priority) parts.cores)) =
       rw (given_back_cores acting task priority parts.cores) (changed_shape parts _ task priority _ shape
-      (its_core_sizes acting task (with_in_use task priority parts.cores.control)))
+      (its_core_sizes acting task (with_in_use task priority parts.cores.control))) in
+      rw (either_valued stays task priority)
+      (valued_shape (with_cores parts (cores_rule (after_disinherit list_queues acting task priority) parts.cores)) cores (not stays) task priority)
 
 -- the end of time slices
 slice_kept : (cores : CoresView) → IsKept cores (cores_rule (sliced list_queues) cores)

@@ -12,9 +12,9 @@ use Rattle.bench_model.specs.Cores.{cores_of}
 use Rattle.bench_model.specs.Lists.{View, list_queues}
 use Rattle.notify_core.specs.Parts.{fresh_notes}
 use Rattle.bench_model.specs.Seek.{after_switch}
-use Rattle.bench_model.specs.Start.{first_look, first_lists, unstarted, started, start_seen}
+use Rattle.bench_model.specs.Start.{first_look, first_lists, first_values, unstarted, started, start_seen}
 use Rattle.list_orders.proofs.Filters.{fold-append}
-use Rattle.order_laws.proofs.FirstBlocks.{first_tasks}
+use Rattle.order_laws.proofs.FirstBlocks.{first_tasks, first_values_length}
 use Rattle.mutex_inherit.specs.Parts.{free_mutexes}
 use Rattle.list_orders.proofs.Stamped.{numbers_more}
 use Rattle.tick_delay.specs.Parts.{no_delays}
@@ -53,7 +53,7 @@ first_parts header = let tasks = header.config.cores + length header.tasks in re
   cores = cores_of (unstarted (first_lists header) header);
   calls = replicate tasks None;
   notes = fresh_notes tasks header.config.notes;
-  mutexes = free_mutexes tasks header.config.priorities header.config.mutexes;
+  mutexes = free_mutexes tasks header.config.priorities header.config.mutexes (first_values header);
   delays = no_delays header.config.tick tasks;
   deadlines = replicate tasks None;
   hold = None;
@@ -84,6 +84,7 @@ first_kernel_shape header passes = let tasks = header.config.cores + length head
   holders = length-replicate header.config.mutexes None;
   delays = refl;
   deadlines = length-replicate tasks None;
+  values = first_values_length header;
   undelayed = λ task found. refl;
   unqueued = λ task found. refl;
 }

@@ -6,7 +6,7 @@ use Rattle.std.proofs.lemmas.List.{length-set}
 use Rattle.bench_types.specs.declared.kernel_data.Waiter.{Waiter}
 use Rattle.bench_types.specs.declared.reply.Reply.{Reply}
 use Rattle.bench_types.specs.declared.reply.Reply.TheVariants.{Flag}
-use Rattle.bench_model.specs.Control.{task_at}
+use Rattle.bench_model.specs.Control.{Control, task_at}
 use Rattle.bench_model.specs.State.{holder_at}
 use Rattle.bench_model.specs.Seek.{wake}
 use Rattle.bench_model.specs.Cores.{CoresView, cores_rule}
@@ -15,28 +15,35 @@ use Rattle.bench_model.specs.Waiters.{first_of}
 use Rattle.bench_model.specs.Mutexes.{held_by, disinherit_priority, after_disinherit, timed_out, disinherited, first_woken, mutex_give}
 use Rattle.smp_kernel.specs.Kernel.{Parts, kernel_view, IsKernelShape}
 use Rattle.smp_kernel.proofs.Sizes.{reshaped, sizes_of}
-use Rattle.smp_kernel.proofs.CoreMoves.{with_cores, lower_seen, lower_shape}
+use Rattle.mutex_inherit.specs.Parts.{MutexPart, disinherited_part}
+use Rattle.smp_kernel.proofs.CoreMoves.{with_both, lower_seen, lower_shape}
 
 -- the cores of a holder that may give up what it inherited
 abbrev pub after_disinherit_where : Bool → ℕ → ℕ → ℕ → CoresView → CoresView
 after_disinherit_where gives acting task priority cores = cond gives (cores_rule (after_disinherit list_queues acting task priority) cores) cores
 
+-- and the mutexes
+abbrev pub disinherited_where : Bool → Control → ℕ → ℕ → MutexPart → MutexPart
+disinherited_where gives control task priority part = cond gives (disinherited_part control task priority part) part
+
+abbrev pub lowered_where : Bool → ℕ → ℕ → ℕ → Parts → Parts
+lowered_where gives acting task priority parts = with_both parts (after_disinherit_where gives acting task priority parts.cores)
+    (disinherited_where gives parts.cores.control task priority parts.mutexes)
+
 module _ (parts : Parts) (shape : IsKernelShape parts) where
-  pub lower_where_seen : (gives : Bool) (acting task priority : ℕ) → kernel_view
-      (with_cores parts (after_disinherit_where gives acting task priority parts.cores)) ≡ cond gives
+  pub lower_where_seen : (gives : Bool) (acting task priority : ℕ) → kernel_view (lowered_where gives acting task priority parts) ≡ cond gives
       (after_disinherit list_queues acting task priority (kernel_view parts)) (kernel_view parts)
   lower_where_seen true acting task priority = lower_seen parts shape acting task priority
   lower_where_seen false acting task priority = refl
 
-  pub lower_where_shape : (gives : Bool) (acting task priority : ℕ) → IsKernelShape
-      (with_cores parts (after_disinherit_where gives acting task priority parts.cores))
+  pub lower_where_shape : (gives : Bool) (acting task priority : ℕ) → IsKernelShape (lowered_where gives acting task priority parts)
   lower_where_shape true acting task priority = lower_shape parts shape acting task priority
   lower_where_shape false acting task priority = shape
 
   -- a wait with a mark ends without the mutex
-  pub timed_out_seen : (core task mutex holder : ℕ) → kernel_view (with_cores parts
-      (after_disinherit_where (not (eqb holder task) && eqb (held_by parts.mutexes.holders holder) 1) core holder
-      (disinherit_priority (first_of mutex parts.mutexes.waiters) (task_at parts.cores.control holder).base) parts.cores)) ≡ timed_out list_queues core task
+  pub timed_out_seen : (core task mutex holder : ℕ) → kernel_view
+      (lowered_where (not (eqb holder task) && eqb (held_by parts.mutexes.holders holder) 1) core holder
+      (disinherit_priority (first_of mutex parts.mutexes.waiters) (task_at parts.cores.control holder).base) parts) ≡ timed_out list_queues core task
       mutex true holder (kernel_view parts)
   unfolding timed_out first_waiter
   timed_out_seen core task mutex holder =
@@ -56,8 +63,7 @@ module _ (parts : Parts) (shape : IsKernelShape parts) where
   holds_none task mutex = eqb (held_by (slice_set parts.mutexes.holders mutex None) task) 0
 
   abbrev pub given_parts : ℕ → ℕ → ℕ → Parts
-  given_parts core task mutex = with_cores (freed mutex) (after_disinherit_where (holds_none task mutex) core task (task_at parts.cores.control task).base
-      parts.cores)
+  given_parts core task mutex = lowered_where (holds_none task mutex) core task (task_at parts.cores.control task).base (freed mutex)
 
   pub give_seen : (core task mutex : ℕ) → kernel_view (given_parts core task mutex) ≡ disinherited list_queues core task
       (record (kernel_view parts) { holders = slice_set parts.mutexes.holders mutex None })

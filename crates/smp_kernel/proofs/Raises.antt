@@ -21,7 +21,7 @@ use Rattle.bench_types.specs.declared.step.BlockingCall.TheVariants as blocking
 use Rattle.bench_types.specs.declared.step.Unfinished.{Unfinished}
 use Rattle.bench_types.specs.declared.step.Unfinished.TheVariants.{Made, Take}
 use Rattle.bench_model.specs.Control.{Control, current, task_at, in_mask, ask_each, ask_its_core}
-use Rattle.bench_model.specs.ControlFields.{with_base, with_affinity, with_preemption, in_use_set}
+use Rattle.bench_model.specs.ControlFields.{with_base, with_affinity, with_preemption, in_use_set, value_set, in_use_and_value_set}
 use Rattle.bench_model.specs.Holds.{hold_opened, hold_closed}
 use Rattle.bench_model.specs.Mutexes.{held_by, taken, inherited, waited_at, take_from, mutex_take, owed, after_disinherit, timed_out, finish_from}
 use Rattle.bench_model.specs.Mutexes.{take_finished, disinherited, first_woken, give_from, mutex_give}
@@ -120,6 +120,10 @@ module _ {Orders : Type 0} (ops : QueueOps Orders) where
       ap (λ (t : TaskControl). t.in_use) (block_other state.control task (record (task_at state.control task) { in_use = priority }) other
       (λ same. away (ap Some (sym same))))
 
+  both_others : (task priority : ℕ) (state : State Orders) → KeepsOthers (Some task) state.control (in_use_and_value_set ops task priority state).control
+  unfolding in_use_and_value_set
+  both_others task priority state = in_use_others task priority state
+
   priority_others : (core task priority : ℕ) (state : State Orders) → KeepsOthers (Some task) state.control (priority_set ops core task priority state).control
   unfolding priority_set
   priority_others core task priority state = at (eqb new block.base)
@@ -137,7 +141,7 @@ module _ {Orders : Type 0} (ops : QueueOps Orders) where
       based = record state { control = with_base task new state.control }
 
       later : State Orders
-      later = in_use_set ops task (in_use_after block new) based
+      later = value_set ops task new (in_use_set ops task (in_use_after block new) based)
 
       at : (b : Bool) → KeepsOthers (Some task) state.control (cond b state
           (record later { control = yields_after_priority_set core task block.base new ready later.control })).control
@@ -212,16 +216,16 @@ module _ {Orders : Type 0} (ops : QueueOps Orders) where
   inherited_others core holder priority state = at (ltb (task_at state.control holder).in_use priority) (ops.is_ready holder state.orders)
     where
       later : State Orders
-      later = in_use_set ops holder priority state
+      later = in_use_and_value_set ops holder priority state
 
       control : Control
       control = seek core holder (in_mask later.control holder) later.control
 
       at : (b d : Bool) → KeepsOthers (Some holder) state.control (cond b (cond d (record later { control = control }) later) state).control
       at true true =
-          kept_then (Some holder) state.control later.control control (in_use_others holder priority state)
+          kept_then (Some holder) state.control later.control control (both_others holder priority state)
           (same_tasks later.control control (seek_more core holder (in_mask later.control holder) later.control).tasks)
-      at true false = in_use_others holder priority state
+      at true false = both_others holder priority state
       at false d = λ other away. refl
 
   waited_others : (core task mutex holder : ℕ) (ticks : Option ℕ) (state : State Orders) → KeepsOthers (Some holder) state.control
@@ -249,12 +253,12 @@ module _ {Orders : Type 0} (ops : QueueOps Orders) where
   disinherit_others core task priority state = at (eqb (task_at state.control task).in_use priority)
     where
       later : State Orders
-      later = in_use_set ops task priority state
+      later = in_use_and_value_set ops task priority state
 
       at : (b : Bool) → KeepsOthers (Some task) state.control (cond b state (record later { control = ask_its_core core task later.control })).control
       at true = λ other away. refl
       at false =
-          kept_then (Some task) state.control later.control (ask_its_core core task later.control) (in_use_others task priority state)
+          kept_then (Some task) state.control later.control (ask_its_core core task later.control) (both_others task priority state)
           (same_tasks later.control (ask_its_core core task later.control) (its_core_more core task later.control).tasks)
 
   timed_out_others : (core task mutex : ℕ) (mark : Bool) (holder : ℕ) (state : State Orders) → KeepsOthers (Some holder) state.control

@@ -3,6 +3,7 @@
 use Rattle.std.proofs.Common.{◌≡◌, ℕ, ◌<◌, ◌≤◌, Bool, length, sym, ap, subst, ◌∙◌}
 use Rattle.bench_types.specs.Limits.{max_cores}
 use Rattle.bench_types.specs.declared.kernel_data.Settings.{Settings}
+use Rattle.bench_model.specs.Sound.{list_values}
 use Rattle.smp_kernel.specs.Kernel.{IsDisjoint, Parts, IsKernelShape, delayed_task, waiting_task}
 
 pub record Sizes : Type 0 where
@@ -18,6 +19,7 @@ pub record Sizes : Type 0 where
   pub holders : ℕ
   pub delays : ℕ
   pub deadlines : ℕ
+  pub values : ℕ
 
 abbrev pub sizes_of : Parts → Sizes
 sizes_of parts = record {
@@ -33,6 +35,7 @@ sizes_of parts = record {
   holders = length parts.mutexes.holders;
   delays = parts.delays.tasks;
   deadlines = length parts.deadlines;
+  values = length parts.mutexes.values;
 }
 
 -- a kernel has its shape where its parts are as large as those of one that has, with the same
@@ -57,6 +60,7 @@ reshaped parts later same sizes undelayed unqueued shape = record {
   holders = ap (λ (s : Sizes). s.holders) sizes ∙ shape.holders ∙ ap (λ (s : Settings). s.mutexes) (sym same);
   delays = ap (λ (s : Sizes). s.delays) sizes ∙ shape.delays ∙ ap (λ (s : Settings). s.tasks) (sym same);
   deadlines = ap (λ (s : Sizes). s.deadlines) sizes ∙ shape.deadlines ∙ ap (λ (s : Settings). s.tasks) (sym same);
+  values = ap (λ (s : Sizes). s.values) sizes ∙ shape.values ∙ ap list_values (sym same);
   undelayed = undelayed;
   unqueued = unqueued;
 }

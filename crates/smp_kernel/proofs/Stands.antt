@@ -33,7 +33,7 @@ use Rattle.bench_model.specs.Notes.{wait_entered, take_entered, of_slot, slot_of
 use Rattle.bench_model.specs.Notifying.{interrupted, state_forgotten, bits_cleared, completed, awaited, timeout_of}
 use Rattle.bench_model.specs.Mutexes.{held_by, taken, inherited, waited_at, take_from, mutex_take, owed, after_disinherit, timed_out, finish_from}
 use Rattle.bench_model.specs.Mutexes.{take_finished, disinherited, first_woken, give_from, mutex_give}
-use Rattle.bench_model.specs.ControlFields.{with_base, in_use_set}
+use Rattle.bench_model.specs.ControlFields.{with_base, in_use_set, value_set, in_use_and_value_set}
 use Rattle.bench_model.specs.PriorityAffinity.{capped, in_use_after, yields_after_priority_set, priority_set, affinity_set, preemption_off, preemption_on}
 use Rattle.bench_model.specs.Looks.{task_look, look_in}
 use Rattle.bench_model.specs.Steps.{woken, ticked, delayed_until, called, performed, after, after_finish}
@@ -126,7 +126,8 @@ unfolding priority_set in_use_set
 priority_settings core task priority view =
     let block = task_at view.control task in
     let new = capped view.settings.priorities priority in
-    let later = in_use_set list_queues task (in_use_after block new) (record view { control = with_base task new view.control }) in
+    let later = value_set list_queues task new
+    (in_use_set list_queues task (in_use_after block new) (record view { control = with_base task new view.control })) in
     elim (eqb new block.base) as (λ b. (cond b view
     (record later { control = yields_after_priority_set core task block.base new (has task view.orders.ready) later.control })).settings ≡ view.settings)
     [ true ↦ refl | false ↦ refl ]
@@ -135,11 +136,11 @@ completed_settings : (task : ℕ) (call : BlockingCall) (view : View) → (compl
 completed_settings task call view = ap (λ (v : View). v.settings) (completed_notes task call view).1
 
 inherited_settings : (acting holder priority : ℕ) (view : View) → (inherited list_queues acting holder priority view).settings ≡ view.settings
-unfolding inherited in_use_set
+unfolding inherited in_use_set in_use_and_value_set
 inherited_settings acting holder priority view = at (ltb (task_at view.control holder).in_use priority) (has holder view.orders.ready)
   where
     later : View
-    later = in_use_set list_queues holder priority view
+    later = in_use_and_value_set list_queues holder priority view
 
     sought : View
     sought = record later { control = seek acting holder (in_mask later.control holder) later.control }
@@ -150,9 +151,9 @@ inherited_settings acting holder priority view = at (ltb (task_at view.control h
     at false d = refl
 
 after_disinherit_settings : (acting task priority : ℕ) (view : View) → (after_disinherit list_queues acting task priority view).settings ≡ view.settings
-unfolding after_disinherit in_use_set
+unfolding after_disinherit in_use_set in_use_and_value_set
 after_disinherit_settings acting task priority view =
-    let later = in_use_set list_queues task priority view in
+    let later = in_use_and_value_set list_queues task priority view in
     elim (eqb (task_at view.control task).in_use priority) as (λ b. (cond b view (record later { control = ask_its_core acting task later.control })).settings ≡
     view.settings) [ true ↦ refl | false ↦ refl ]
 

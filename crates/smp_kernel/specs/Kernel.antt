@@ -14,6 +14,7 @@ use Rattle.list_orders.specs.Search.{has}
 use Rattle.bench_model.specs.Control.{current, is_due}
 use Rattle.bench_model.specs.Holds.{depth_of}
 use Rattle.bench_model.specs.Refusals.{give_refusal}
+use Rattle.bench_model.specs.Sound.{list_values}
 use Rattle.bench_model.specs.State.{call_at}
 use Rattle.bench_model.specs.Table.{Table}
 use Rattle.bench_model.specs.Lists.{View, due_tasks, is_ready}
@@ -68,6 +69,7 @@ kernel_view parts = record {
     delayed = parts.delays.delayed;
     waiters = parts.mutexes.waiters;
     deadlines = parts.deadlines;
+    values = parts.mutexes.values;
   };
 }
 
@@ -99,6 +101,7 @@ pub record IsKernelShape (parts : Parts) : Type 0 where
   pub holders : length parts.mutexes.holders ≡ parts.settings.mutexes
   pub delays : parts.delays.tasks ≡ parts.settings.tasks
   pub deadlines : length parts.deadlines ≡ parts.settings.tasks
+  pub values : length parts.mutexes.values ≡ list_values parts.settings
   pub undelayed : IsDisjoint delayed_task parts.cores.ready parts.delays.delayed
   pub unqueued : IsDisjoint waiting_task parts.cores.ready parts.mutexes.waiters
 
@@ -158,3 +161,4 @@ pub record HasSameOrders (one other : View) : Type 0 where
   pub ready : one.orders.ready ≡ other.orders.ready
   pub waiters : one.orders.waiters ≡ other.orders.waiters
   pub deadlines : one.orders.deadlines ≡ other.orders.deadlines
+  pub values : one.orders.values ≡ other.orders.values

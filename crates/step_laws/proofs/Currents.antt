@@ -24,10 +24,10 @@ use Rattle.bench_types.specs.declared.step.Unfinished.TheVariants.{Made, Take}
 use Rattle.bench_types.proofs.Passes.{checked_mutex, checked_task, noted_task}
 use Rattle.bench_types.specs.Step.{core_of, IsCheckedCall, IsCheckedStep}
 use Rattle.bench_model.specs.Control.{Control, current, in_mask, running, task_at}
-use Rattle.bench_model.specs.ControlFields.{in_use_set}
+use Rattle.bench_model.specs.ControlFields.{in_use_set, in_use_and_value_set}
 use Rattle.bench_model.specs.Holds.{hold_opened, hold_closed}
 use Rattle.bench_model.specs.Mutexes.{held_by, inherited, waited_at, take_from, mutex_take, owed, after_disinherit, timed_out, finish_from, take_finished}
-use Rattle.bench_model.specs.Mutexes.{taken, is_marked}
+use Rattle.bench_model.specs.Mutexes.{taken, is_marked, waiting_priority}
 use Rattle.bench_model.specs.Notes.{wait_entered, take_entered, of_slot, slot_of}
 use Rattle.bench_model.specs.Notifying.{awaited, completed, interrupted, notify, timeout_of}
 use Rattle.bench_model.specs.Refusals.{refusal}
@@ -65,18 +65,18 @@ blocked_currents : (core task : ℕ) (call : Unfinished) (ticks : Option ℕ) (w
 unfolding blocked
 blocked_currents core task call ticks wait table low = (asked_more table.control core core low).currents
 
-in_use_currents : (task priority : ℕ) (table : Table) → HasCurrents table (in_use_set stamp_queues task priority table)
-unfolding in_use_set
+in_use_currents : (task priority : ℕ) (table : Table) → HasCurrents table (in_use_and_value_set stamp_queues task priority table)
+unfolding in_use_set in_use_and_value_set
 in_use_currents task priority table c = refl
 
-in_use_cores : (task priority : ℕ) (table : Table) → length (in_use_set stamp_queues task priority table).control.cores ≡ length table.control.cores
-unfolding in_use_set
+in_use_cores : (task priority : ℕ) (table : Table) → length (in_use_and_value_set stamp_queues task priority table).control.cores ≡ length table.control.cores
+unfolding in_use_set in_use_and_value_set
 in_use_cores task priority table = refl
 
 inherited_currents : (acting holder priority : ℕ) (table : Table) → HasCurrents table (inherited stamp_queues acting holder priority table)
 unfolding inherited
 inherited_currents acting holder priority table =
-    let later = in_use_set stamp_queues holder priority table in
+    let later = in_use_and_value_set stamp_queues holder priority table in
     let first = in_use_currents holder priority table in
     either_has table _ table (ltb (task_at table.control holder).in_use priority)
     (either_has table _ later (is_ready holder table.orders) (λ c. (seek_more acting holder (in_mask later.control holder) later.control).currents c ∙ first c)
@@ -89,7 +89,7 @@ unfolding inherited
 inherited_cores acting holder priority table = at (ltb (task_at table.control holder).in_use priority) (is_ready holder table.orders)
   where
     later : Table
-    later = in_use_set stamp_queues holder priority table
+    later = in_use_and_value_set stamp_queues holder priority table
 
     sought : Control
     sought = seek acting holder (in_mask later.control holder) later.control
@@ -104,15 +104,16 @@ waited_currents : (core task mutex holder : ℕ) (ticks : Option ℕ) (table : T
 unfolding waited_at
 waited_currents core task mutex holder ticks table low =
     let priority = (task_at table.control task).in_use in
+    let wait : MutexWait = record { mutex = mutex; priority = waiting_priority stamp_queues task table } in
     let inheriting = inherited stamp_queues core holder priority table in
-    λ c. blocked_currents core task (Take mutex (is_marked table.control task holder)) ticks (Some (record { mutex = mutex; priority = priority })) inheriting
+    λ c. blocked_currents core task (Take mutex (is_marked table.control task holder)) ticks (Some wait) inheriting
     (omega (arith, low, inherited_cores core holder priority table)) c
     ∙ inherited_currents core holder priority table c
 
 disinherit_currents : (acting task priority : ℕ) (table : Table) → HasCurrents table (after_disinherit stamp_queues acting task priority table)
 unfolding after_disinherit
 disinherit_currents acting task priority table =
-    let later = in_use_set stamp_queues task priority table in
+    let later = in_use_and_value_set stamp_queues task priority table in
     either_has table table _ (eqb (task_at table.control task).in_use priority) (λ c. refl)
     (λ c. (its_core_more acting task later.control).currents c ∙ in_use_currents task priority table c)
 

@@ -20,7 +20,7 @@ use Rattle.bench_types.specs.declared.step.Unfinished.{Unfinished}
 use Rattle.bench_types.specs.declared.step.Unfinished.TheVariants.{Made, Take}
 use Rattle.bench_types.specs.declared.kernel_data.MutexWait.{MutexWait}
 use Rattle.bench_types.specs.declared.note.Notification.{Notification}
-use Rattle.bench_model.specs.Mutexes.{is_marked, inherited, waited_at, take_from, mutex_take}
+use Rattle.bench_model.specs.Mutexes.{is_marked, inherited, waited_at, waiting_priority, take_from, mutex_take}
 use Rattle.bench_model.specs.Until.{next_wake, is_ahead, ticks_to}
 use Rattle.order_laws.proofs.SoundMutexes.{standing_same}
 use Rattle.bench_model.specs.declared.row.TaskState.TheVariants as standings
@@ -422,7 +422,7 @@ take_waits core task mutex ticks table sound below waits = at (holder_at table.h
     priority = (task_at table.control task).in_use
 
     wait : Option MutexWait
-    wait = Some (record { mutex = mutex; priority = priority })
+    wait = Some (record { mutex = mutex; priority = waiting_priority stamp_queues task table })
 
     raised : ℕ → Table
     raised holder = inherited stamp_queues core holder priority table

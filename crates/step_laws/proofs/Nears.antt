@@ -23,19 +23,19 @@ use Rattle.bench_types.specs.declared.kernel_data.MutexWait.{MutexWait}
 use Rattle.bench_types.specs.declared.kernel_data.Waiter.{Waiter}
 use Rattle.bench_model.specs.Holds.{hold_opened, hold_closed}
 use Rattle.bench_model.specs.Until.{next_wake, is_ahead, ticks_to}
-use Rattle.bench_model.specs.ControlFields.{with_base, in_use_set}
+use Rattle.bench_model.specs.ControlFields.{with_base, in_use_set, value_set, in_use_and_value_set}
 use Rattle.bench_model.specs.Control.{task_at, current, ask_each}
 use Rattle.bench_model.specs.Notes.{note_at, is_waiting, notified, wait_entered, take_entered, of_slot, slot_of}
 use Rattle.bench_model.specs.Notifying.{timeout_of, notify, interrupted, state_forgotten, bits_cleared, completed, awaited}
 use Rattle.bench_model.specs.Mutexes.{is_marked, held_by, taken, inherited, waited_at, take_from, mutex_take, owed, after_disinherit, timed_out, finish_from}
-use Rattle.bench_model.specs.Mutexes.{take_finished, disinherited, first_woken, give_from, mutex_give}
+use Rattle.bench_model.specs.Mutexes.{take_finished, disinherited, first_woken, give_from, mutex_give, waiting_priority}
 use Rattle.bench_model.specs.Refusals.{refusal}
 use Rattle.bench_model.specs.State.{call_at, holder_at, after_select, yielded, blocked, after_return}
 use Rattle.bench_model.specs.Steps.{woken, ticked, called, performed, after, delayed_until, after_finish}
 use Rattle.bench_model.specs.Seek.{seek, may_move, wake, after_eviction, after_switch, shares_its_time, sliced}
 use Rattle.bench_model.specs.PriorityAffinity.{capped, in_use_after, priority_set, affinity_set, preemption_off, preemption_on}
 use Rattle.bench_model.specs.Table.{Stamps, Table, stamp_queues, is_ready, add_to_ready_list, delay, advance, due, deadline_left, forget_deadline, first_waiter}
-use Rattle.bench_model.specs.Table.{tick_count}
+use Rattle.bench_model.specs.Table.{tick_count, set_list_value}
 use Rattle.rule_laws.proofs.Awaiting.{completed_notes}
 use Rattle.order_laws.proofs.SoundSteps.{add_to_ready_tick, readied_tick, advanced_tick}
 use Rattle.rule_laws.proofs.Ticks.{with_orders, after_wakes, woken_parts}
@@ -150,6 +150,11 @@ in_use_near task priority table some = at (is_ready task table.orders)
     at true = (omega arith, omega arith, refl, refl)
     at false = (omega arith, omega arith, refl, refl)
 
+-- another list value
+value_near : (task value : ℕ) (table next : Table) → IsNearer table next → IsNearer table (value_set stamp_queues task value next)
+unfolding set_list_value
+value_near task value table next near = near
+
 either_near : (table one other : Table) (b : Bool) → IsNearer table one → IsNearer table other → IsNearer table (cond b one other)
 either_near table one other true here there = here
 either_near table one other false here there = there
@@ -165,7 +170,9 @@ priority_near : (acting task priority : ℕ) (table : Table) → 0 < length tabl
 unfolding priority_set
 priority_near acting task priority table some =
     either_near table table _ (eqb (capped table.settings.priorities priority) (task_at table.control task).base) (omega arith, omega arith, refl, refl)
-    (in_use_near task (in_use task priority table) (based task priority table) some)
+    (value_near task (capped table.settings.priorities priority) table
+    (in_use_set stamp_queues task (in_use task priority table) (based task priority table))
+    (in_use_near task (in_use task priority table) (based task priority table) some))
 
 completed_beside : (task : ℕ) (call : BlockingCall) (table : Table) → IsSameBeside table (completed task call table).1
 completed_beside task call table =
@@ -198,11 +205,15 @@ in_use_gives task priority table = at (is_ready task table.orders)
     at true = (omega arith, refl, refl, refl)
     at false = (omega arith, refl, refl, refl)
 
+both_gives : (task priority : ℕ) (table : Table) → IsGiving 1 table (in_use_and_value_set stamp_queues task priority table)
+unfolding in_use_and_value_set set_list_value
+both_gives task priority table = in_use_gives task priority table
+
 inherited_gives : (acting holder priority : ℕ) (table : Table) → IsGiving 1 table (inherited stamp_queues acting holder priority table)
 unfolding inherited
 inherited_gives acting holder priority table =
-    let later = in_use_set stamp_queues holder priority table in
-    let gives = in_use_gives holder priority table in
+    let later = in_use_and_value_set stamp_queues holder priority table in
+    let gives = both_gives holder priority table in
     either_gives 1 table _ table (ltb (task_at table.control holder).in_use priority) (either_gives 1 table _ later (is_ready holder table.orders) gives gives)
     (giving_none 1 table)
 
@@ -215,15 +226,16 @@ waited_gives : (core task mutex holder : ℕ) (ticks : Option ℕ) (table : Tabl
 unfolding waited_at
 waited_gives core task mutex holder ticks table =
     let priority = (task_at table.control task).in_use in
+    let wait : MutexWait = record { mutex = mutex; priority = waiting_priority stamp_queues task table } in
     let inheriting = inherited stamp_queues core holder priority table in
-    giving_then 1 1 table inheriting (blocked stamp_queues core task (Take mutex (is_marked table.control task holder)) ticks
-    (Some (record { mutex = mutex; priority = priority })) inheriting) (inherited_gives core holder priority table)
-    (blocked_gives core task (Take mutex (is_marked table.control task holder)) ticks (Some (record { mutex = mutex; priority = priority })) inheriting)
+    giving_then 1 1 table inheriting (blocked stamp_queues core task (Take mutex (is_marked table.control task holder)) ticks (Some wait) inheriting)
+    (inherited_gives core holder priority table)
+    (blocked_gives core task (Take mutex (is_marked table.control task holder)) ticks (Some wait) inheriting)
 
 after_disinherit_gives : (acting task priority : ℕ) (table : Table) → IsGiving 1 table (after_disinherit stamp_queues acting task priority table)
 unfolding after_disinherit
 after_disinherit_gives acting task priority table = either_gives 1 table table _ (eqb (task_at table.control task).in_use priority) (giving_none 1 table)
-    (in_use_gives task priority table)
+    (both_gives task priority table)
 
 ended_gives : (task : ℕ) (table : Table) → IsGiving 0 table (after_return stamp_queues task table)
 unfolding forget_deadline

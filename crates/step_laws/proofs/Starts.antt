@@ -1,8 +1,8 @@
 -- The start of a checked header is sound, and seen as lists it is the start over lists.
-use Rattle.order_laws.proofs.FirstBlocks.{first_tasks, first_blocks}
+use Rattle.order_laws.proofs.FirstBlocks.{first_tasks, first_blocks, first_values_below, first_values_length}
 use Rattle.std.proofs.Common.{sym, ◌≡◌, ℕ, ◌*◌, zero, suc, ◌+◌, ◌-◌, ◌<◌, ◌≤◌, true, false, cond, ltb, List, [], ◌∷◌, ◌++◌, length, map, replicate, Bool, Option}
 use Rattle.std.proofs.Common.{Some, None, Ok, refl, ap, ◌∙◌, add-zero, arith, inl, inr}
-use Rattle.std.specs.Prelude.{slice_index_or}
+use Rattle.std.specs.Prelude.{slice_index_or, All}
 use Rattle.std.specs.List.{fold, range_with_len, AllByRecursion}
 use Rattle.std.proofs.lemmas.Bool.Decides.{nat_tests}
 use Rattle.std.proofs.lemmas.Bool.{cases_lt}
@@ -25,7 +25,7 @@ use Rattle.bench_model.specs.State.{call_at}
 use Rattle.bench_model.specs.Seek.{after_switch}
 use Rattle.bench_model.specs.Table.{Stamps, Table, stamp_queues, row_at, stamp_of, is_ready, stands_ready, wake_in, deadline_at}
 use Rattle.bench_model.specs.Lists.{list_queues, lists_of, delayed_of, outranks, wakes_first, view_of}
-use Rattle.bench_model.specs.Sound.{IsStamped, HasCurrentTasks, WakesInTime, HasWords, HasMutexes, IsConsistent, IsSound, IsWaiter, mutex_taken}
+use Rattle.bench_model.specs.Sound.{list_values, IsStamped, HasCurrentTasks, WakesInTime, HasWords, HasMutexes, IsConsistent, IsSound, IsWaiter, mutex_taken}
 use Rattle.bench_model.specs.Start.{first_look, first_control, ready_row, first_stamps, first_lists, unstarted, started, start, start_seen}
 use Rattle.list_orders.proofs.Filters.{All-weaker}
 use Rattle.step_laws.proofs.Nears.{turned_hold}
@@ -160,7 +160,7 @@ module _ (header : Header) where
   -- seen as lists, before any core has selected
   first_seen : lists_of (first_control header) first ≡ first_lists header
   unfolding lists_of first_lists first_stamps ranked
-  first_seen = same_seen _ _ _ _ _ _ _ _ _ _
+  first_seen = same_seen _ _ _ _ _ _ _ _ _ _ _
       (ap (ranked (outranks (first_control header))) ready_first)
       refl
       (ap (λ ids. ranked wakes_first (map (delayed_of first) ids)) (none_first waits refl))
@@ -219,14 +219,23 @@ module _ (header : Header) where
   unfolding first_stamps
   none_awaited i = refl
 
-  first_mutexes : HasMutexes (settings_of header) (replicate (cores + users) None) (replicate header.config.mutexes None) first
-  first_mutexes = record {
+  values_at_first : length first.values ≡ list_values (settings_of header)
+  unfolding first_stamps
+  values_at_first = first_values_length header
+
+  values_below : IsWithinLimits header → All (λ value. value < header.config.priorities) first.values
+  unfolding first_stamps
+  values_below valid = first_values_below header valid
+
+  first_mutexes : IsWithinLimits header → HasMutexes (settings_of header) (replicate (cores + users) None) (replicate header.config.mutexes None) first
+  first_mutexes valid = record {
     held_by_tasks = λ mutex task held. absurd (cc (none_at {A = ℕ} header.config.mutexes mutex, held));
     waits = no_waiters;
     once = once_at_first;
     by_mutex = by_mutex_at_first;
     awaited = λ i low blocked. none_awaited i ∙ sym (ap mutex_taken (none_at {A = Unfinished} (cores + users) i));
-    turns = no_turns;
+    turns = λ none. no_turns;
+    values = values_below valid;
     deadlines = λ i deadline has. absurd (cc (first_deadline i, has));
   }
 
@@ -251,6 +260,7 @@ module _ (header : Header) where
       holders = length-replicate header.config.mutexes None;
       rows = first_length;
       deadlines = first_deadlines;
+      values = values_at_first;
       some_core = valid.some_core;
       idle_tasks = omega arith;
     };
@@ -260,7 +270,7 @@ module _ (header : Header) where
     blocks = first_blocks header valid;
     calls = first_calls;
     notes = first_words;
-    mutexes = first_mutexes;
+    mutexes = first_mutexes valid;
   }
 
 -- cores that switch in turn, from a sound table

@@ -16,7 +16,7 @@ use Rattle.bench_types.specs.declared.step.BlockingCall.{BlockingCall}
 use Rattle.bench_types.specs.declared.step.BlockingCall.TheVariants as blocking
 use Rattle.bench_types.specs.declared.step.Unfinished.{Unfinished}
 use Rattle.bench_types.specs.declared.step.Unfinished.TheVariants.{Made}
-use Rattle.bench_model.specs.ControlFields.{with_task, with_base, with_in_use, in_use_set}
+use Rattle.bench_model.specs.ControlFields.{with_task, with_base, with_in_use, in_use_set, value_set, in_use_and_value_set}
 use Rattle.bench_model.specs.Control.{Control, current, task_at, in_mask}
 use Rattle.bench_model.specs.Mutexes.{held_by, taken, inherited, waited_at, take_from, mutex_take, after_disinherit, disinherited, first_woken, give_from}
 use Rattle.bench_model.specs.Mutexes.{mutex_give}
@@ -28,7 +28,7 @@ use Rattle.bench_model.specs.Sound.{IsConsistent, IsHeldWell, IsWaiter}
 use Rattle.bench_model.specs.State.{call_at, holder_at, yielded, blocked}
 use Rattle.bench_model.specs.Steps.{woken, ticked, delayed_until}
 use Rattle.bench_model.specs.Until.{next_wake, is_ahead, ticks_to}
-use Rattle.bench_model.specs.Table.{Table, stamp_queues, is_ready, add_to_ready_list, tick_count, advance, due, first_waiter}
+use Rattle.bench_model.specs.Table.{Table, stamp_queues, is_ready, add_to_ready_list, tick_count, advance, due, first_waiter, set_list_value}
 use Rattle.rule_laws.proofs.Awaiting.{completed_notes}
 use Rattle.order_laws.proofs.FirstWaiters.{first_waiter_all}
 use Rattle.rule_laws.proofs.Mutexes.{lower_sound}
@@ -158,6 +158,19 @@ in_use_undisturbed task priority table below =
     at true first second = undisturbed_then table (record table { control = with_in_use task priority table.control }) _ first second
     at false first second = first
 
+-- another list value
+value_undisturbed : (task value : ℕ) (table : Table) → IsUndisturbed table (value_set stamp_queues task value table)
+unfolding set_list_value
+value_undisturbed task value table =
+    record { settings = refl; currents = λ c. refl; rows = refl; ready = λ i is. is; calls = refl; hold = refl }
+
+both_undisturbed : (task priority : ℕ) (table : Table) → task < length table.orders.rows → IsUndisturbed table
+    (in_use_and_value_set stamp_queues task priority table)
+unfolding in_use_and_value_set
+both_undisturbed task priority table below =
+    let later = in_use_set stamp_queues task priority table in
+    undisturbed_then table later _ (in_use_undisturbed task priority table below) (value_undisturbed task priority later)
+
 pub priority_undisturbed : (acting task priority : ℕ) (table : Table) → task < length table.orders.rows → IsUndisturbed table
     (priority_set stamp_queues acting task priority table)
 unfolding priority_set
@@ -165,12 +178,13 @@ priority_undisturbed acting task priority table below =
     let block = task_at table.control task in
     let new = capped table.settings.priorities priority in
     let based = record table { control = with_base task new table.control } in
-    let later = in_use_set stamp_queues task (in_use_after block new) based in
+    let raised = in_use_set stamp_queues task (in_use_after block new) based in
+    let later = value_set stamp_queues task new raised in
     let ready = is_ready task table.orders in
     either_undisturbed table table _ (eqb new block.base) (undisturbed table)
     (undisturbed_then table later _
     (undisturbed_then table based later (block_undisturbed table task (record block { base = new }))
-    (in_use_undisturbed task (in_use_after block new) based below))
+    (undisturbed_then based raised later (in_use_undisturbed task (in_use_after block new) based below) (value_undisturbed task new raised)))
     (asked_undisturbed later (yields_after_priority_set acting task block.base new ready later.control)
     (after_priority_set_more acting task block.base new ready later.control)))
 
@@ -196,16 +210,16 @@ after_disinherit_undisturbed : (acting task priority : ℕ) (table : Table) → 
     (after_disinherit stamp_queues acting task priority table)
 unfolding after_disinherit
 after_disinherit_undisturbed acting task priority table below =
-    let later = in_use_set stamp_queues task priority table in
+    let later = in_use_and_value_set stamp_queues task priority table in
     either_undisturbed table table _ (eqb (task_at table.control task).in_use priority) (undisturbed table)
-    (undisturbed_then table later _ (in_use_undisturbed task priority table below) (asked_undisturbed later _ (its_core_more acting task later.control)))
+    (undisturbed_then table later _ (both_undisturbed task priority table below) (asked_undisturbed later _ (its_core_more acting task later.control)))
 
 pub inherited_undisturbed : (acting holder priority : ℕ) (table : Table) → holder < length table.orders.rows → IsUndisturbed table
     (inherited stamp_queues acting holder priority table)
 unfolding inherited
 inherited_undisturbed acting holder priority table below =
-    let later = in_use_set stamp_queues holder priority table in
-    let first = in_use_undisturbed holder priority table below in
+    let later = in_use_and_value_set stamp_queues holder priority table in
+    let first = both_undisturbed holder priority table below in
     either_undisturbed table _ table (ltb (task_at table.control holder).in_use priority)
     (either_undisturbed table _ later (is_ready holder table.orders) (undisturbed_then table later _ first
     (asked_undisturbed later _ (seek_more acting holder (in_mask later.control holder) later.control))) first)

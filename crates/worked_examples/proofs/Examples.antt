@@ -14,7 +14,7 @@ use Rattle.bench_model.specs.Notifying.{completed}
 use Rattle.bench_model.specs.Steps.{ticked, called, performed, after, after_finish}
 use Rattle.bench_model.specs.Seek.{core_to_yield, seek, wake, after_eviction, after_switch, sliced}
 use Rattle.bench_model.specs.Table.{Table, row_at, stamp_of, stands_ready, wake_in, deadline_at, deadline_left, pick, add_to_ready_list, delay}
-use Rattle.bench_model.specs.Table.{advance, due, forget_deadline}
+use Rattle.bench_model.specs.Table.{advance, due, forget_deadline, set_list_value}
 use Rattle.bench_model.specs.Lists.{View, lists_of}
 use Rattle.bench_model.specs.Start.{first_stamps, unstarted, started}
 use Rattle.bench_model.specs.Session.{state_at, reply_at}
@@ -23,6 +23,7 @@ use Rattle.worked_examples.specs.Examples.{WorkedSessions, TimedSessions, Endles
 -- whoever names this computes with all of the definitions
 unfoldable pub computed : ℕ
 unfolding best by_stamp placed ranked completed after_finish runs_on core_to_yield seek wake after_eviction after_switch sliced forget_deadline refusal
+    set_list_value
     after_select ticked yielded blocked called performed after pick add_to_ready_list delay advance due lists_of first_stamps unstarted started state_at
     reply_at
 computed = 0
@@ -96,6 +97,7 @@ alike_later table = let tick = table.orders.tick in record {
   left = λ i low. wake_so tick (row_at table.orders i).standing ∙ sym (ap (λ (r : TaskRow). option_map (λ wake. wake - (tick + 2 ^ 32)) (wake_in r.standing))
       (row_so table i));
   waits = λ i low. refl;
+  values = refl;
   wait_order = λ mutex i j low below both. refl;
   deadlines = λ i low. left_so tick (deadline_at table.orders i) ∙ sym (ap (option_map (λ end. end - (tick + 2 ^ 32)))
       (get_or-map (option_map (λ end. end + 2 ^ 32)) table.orders.deadlines i None));

@@ -151,6 +151,7 @@ later table =
         rows = map row_later stamps.rows;
         waiters = stamps.waiters;
         deadlines = map (option_map (λ deadline. deadline + 2 ^ 32)) stamps.deadlines;
+        values = stamps.values;
         tick = stamps.tick + 2 ^ 32;
         next = 2 * stamps.next;
       };

@@ -1,6 +1,7 @@
 -- Worked mutexes: who inherits, who is lowered again, and what a wait ends with.
-use Rattle.std.specs.Prelude.{◌≡◌, ℕ, ◌-◌, ◌^◌, List, [], ◌∷◌, ◌++◌, true, false, Some, codes, take}
+use Rattle.std.specs.Prelude.{◌≡◌, ℕ, ◌-◌, ◌^◌, List, [], ◌∷◌, ◌++◌, true, false, Option, Some, None, codes, take}
 use Rattle.bench_types.specs.declared.header.Header.{Header}
+use Rattle.bench_types.specs.declared.header.QueueArgs.{QueueArgs}
 use Rattle.bench_types.specs.declared.kernel_data.Waiter.{Waiter}
 use Rattle.bench_types.specs.declared.reply.Reply.TheVariants.{Done, Blocked, Flag, Refused}
 use Rattle.bench_types.specs.declared.reply.Refusal.TheVariants.{NotHolder}
@@ -16,6 +17,7 @@ use Rattle.worked_examples.specs.NoteExamples.{replies}
 use Rattle.bench_model.specs.Session.{state_after}
 use Rattle.worked_examples.specs.SetExamples.{flags_after}
 use Rattle.bench_model.specs.Start.{start}
+use Rattle.bench_model.specs.Table.{delay, set_list_value}
 
 abbrev pub with_two_mutexes : Header → Header
 with_two_mutexes header = record header { config = record header.config { mutexes = 2 } }
@@ -50,7 +52,23 @@ given_up =
 abbrev pub waiters_after : List Step → List Waiter
 waiters_after steps = (view_of (state_after (start low_and_high) steps)).orders.waiters
 
+-- Task 2 waits for mutex 0 with priority 1, its list value becomes 3, and then task 3 begins to
+-- wait with priority 2.
+abbrev pub waiters_raised : Option (List QueueArgs) → List Waiter
+waiters_raised queues =
+    let orders = (start (record low_and_high { queues = queues })).orders in
+    let raised =
+    set_list_value 2 3 (delay 2 None (Some (record { mutex = 0; priority = 1 })) orders) in
+    (delay 3 None (Some (record { mutex = 0; priority = 2 })) raised).waiters
+
+abbrev pub waiter : ℕ → ℕ → Waiter
+waiter task priority = record { task = task; wait = record { mutex = 0; priority = priority } }
+
 pub record WorkedMutexes : Type 0 where
+  -- with list values the raised waiter stays in front
+  pub raised_stays_in_front : waiters_raised (Some []) ≡ waiter 2 3 ∷ waiter 3 2 ∷ []
+  -- without them it has its priority as before
+  pub raised_is_passed : waiters_raised None ≡ waiter 3 2 ∷ waiter 2 1 ∷ []
   pub stolen_again :
       replies low_and_high stolen
       ≡ Flag true ∷ Blocked ∷ Done ∷ Flag true ∷ Done ∷ Flag true ∷ Done ∷ Blocked ∷ []

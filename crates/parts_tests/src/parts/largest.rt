@@ -118,7 +118,13 @@ fn take(rt: &impl Abort, mutexes: &mut Mutexes, task: u32, mutex: u32)
 
 #[test]
 fn mutexes(rt: HostRuntime) -> Result<(), Fail> {
-    let mut mutexes = Mutexes::new(rt.alloc(), TASKS, MAX_PRIORITIES, MAX_MUTEXES)?;
+    let mut mutexes = Mutexes::new(
+        rt.alloc(),
+        TASKS,
+        MAX_PRIORITIES,
+        MAX_MUTEXES,
+        Vec::new(rt.alloc()),
+    )?;
     take(&rt, &mut mutexes, LAST, MAX_MUTEXES - 1);
     let copy = mutexes.copy(rt.alloc())?;
     check_mutexes(&rt, &mutexes, &copy, LAST, MAX_MUTEXES - 1);

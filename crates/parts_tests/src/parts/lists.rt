@@ -150,6 +150,21 @@ fn lists_of_other_keys_differ(rt: HostRuntime) -> Result<(), Fail> {
 }
 
 #[test]
+fn item_with_another_key_stays_in_its_place(rt: HostRuntime) -> Result<(), Fail> {
+    let mut lists = Lists::new(rt.alloc(), 4, 2)?;
+    lists.push_keyed(0, 3, 5);
+    lists.push_keyed(0, 1, 7);
+    lists.set_key(3, 8);
+    lists.set_key(2, 9);
+    expect_same(&rt, lists.first_entry(0), Some((3, 8)));
+    expect_same(&rt, lists.last_entry(0), Some((1, 7)));
+    check_home(&rt, &lists, 2, None);
+    lists.insert_sorted(0, 2, 7);
+    check_list(&rt, &lists, 0, &[2, 3, 1]);
+    Ok(())
+}
+
+#[test]
 fn items_leave_at_the_front_and_come_at_the_end(rt: HostRuntime) -> Result<(), Fail> {
     let mut lists = Lists::new(rt.alloc(), 3, 2)?;
     lists.push_keyed(0, 2, 4_294_967_295);

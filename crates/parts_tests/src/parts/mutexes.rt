@@ -37,6 +37,7 @@ fn wait(
     ensures tasks { mutexes.new.tasks ≡ tasks }
     ensures priorities { mutexes.new.priorities ≡ 5 }
     ensures mutexes { length mutexes.new.holders ≡ 2 }
+    ensures values { length mutexes.new.values ≡ length mutexes.old.values }
 {
     assert!(rt; has_tasks(cores, tasks));
     assert!(rt; has_five_priorities(cores));
@@ -57,10 +58,12 @@ fn give(
     mutex: u32,
 ) -> Option<u32>
     requires tasks { mutexes.old.tasks ≡ 4 }
+    requires priorities { mutexes.old.priorities ≡ 5 }
     requires mutexes { length mutexes.old.holders ≡ 2 }
     ensures { mutexes.new.tasks ≡ 4 }
 {
     assert!(rt; has_tasks(cores, 4));
+    assert!(rt; has_five_priorities(cores));
     assert!(rt; task < 4 && mutex < 2);
     let is_holder = mutexes.holder(mutex) == Some(task);
     assert!(rt; is_holder);
@@ -68,10 +71,10 @@ fn give(
 }
 
 // The wait of the task for the mutex has ended in vain, and no other task waits.
-fn time_out(rt: &impl Abort, cores: &mut Cores, mutexes: &Mutexes, task: u32, mutex: u32)
-    requires tasks { mutexes.now.tasks ≡ 4 }
-    requires priorities { mutexes.now.priorities ≡ 5 }
-    requires mutexes { length mutexes.now.holders ≡ 2 }
+fn time_out(rt: &impl Abort, cores: &mut Cores, mutexes: &mut Mutexes, task: u32, mutex: u32)
+    requires tasks { mutexes.old.tasks ≡ 4 }
+    requires priorities { mutexes.old.priorities ≡ 5 }
+    requires mutexes { length mutexes.old.holders ≡ 2 }
 {
     assert!(rt; has_tasks(cores, 4));
     assert!(rt; has_five_priorities(cores));
@@ -92,7 +95,9 @@ fn check_wait(rt: &impl Abort, cores: &mut Cores, mutexes: &mut Mutexes)
     requires priorities { mutexes.old.priorities ≡ 5 }
     requires mutexes { length mutexes.old.holders ≡ 2 }
     ensures tasks { mutexes.new.tasks ≡ 4 }
+    ensures priorities { mutexes.new.priorities ≡ 5 }
     ensures mutexes { length mutexes.new.holders ≡ 2 }
+    ensures values { length mutexes.new.values ≡ length mutexes.old.values }
 {
     expect_same(rt, mutexes.holder(0), None);
     expect_is(rt, mutexes.try_take(2, 0));
@@ -104,6 +109,7 @@ fn check_wait(rt: &impl Abort, cores: &mut Cores, mutexes: &mut Mutexes)
 // Task 2 gives it, and task 3 waits no longer.
 fn check_give(rt: &impl Abort, cores: &mut Cores, mutexes: &mut Mutexes, copy: &Mutexes)
     requires tasks { mutexes.old.tasks ≡ 4 }
+    requires priorities { mutexes.old.priorities ≡ 5 }
     requires mutexes { length mutexes.old.holders ≡ 2 }
 {
     expect_is(rt, copy.same(mutexes));
@@ -125,6 +131,7 @@ fn check_holder(
     requires tasks { mutexes.old.tasks ≡ 4 }
     requires priorities { mutexes.old.priorities ≡ 5 }
     requires mutexes { length mutexes.old.holders ≡ 2 }
+    requires values { length mutexes.old.values ≡ 0 }
 {
     check_wait(rt, cores, mutexes);
     check_copied(rt, alloc, mutexes)?;
@@ -136,8 +143,9 @@ fn check_holder(
 fn check_copied(rt: &impl Abort, alloc: Global, mutexes: &Mutexes) -> Result<(), Fail>
     requires tasks { mutexes.now.tasks ≡ 4 }
     requires mutexes { length mutexes.now.holders ≡ 2 }
+    requires values { length mutexes.now.values ≡ 0 }
 {
-    let mut others = Mutexes::new(alloc, 4, 5, 2)?;
+    let mut others = Mutexes::new(alloc, 4, 5, 2, Vec::new(alloc))?;
     expect_is(rt, !others.same(mutexes));
     others.copy_from(mutexes);
     expect_is(rt, others.same(mutexes));
@@ -147,7 +155,7 @@ fn check_copied(rt: &impl Abort, alloc: Global, mutexes: &Mutexes) -> Result<(),
 #[test]
 fn holder_inherits(rt: HostRuntime) -> Result<(), Fail> {
     let mut cores = started(&rt, rt.alloc(), false, &[(1, 3), (3, 3)])?;
-    let mut mutexes = Mutexes::new(rt.alloc(), 4, 5, 2)?;
+    let mut mutexes = Mutexes::new(rt.alloc(), 4, 5, 2, Vec::new(rt.alloc()))?;
     check_holder(&rt, rt.alloc(), &mut cores, &mut mutexes)
 }
 
@@ -173,7 +181,7 @@ fn check_timeout(rt: &impl Abort, cores: &mut Cores, mutexes: &mut Mutexes)
 #[test]
 fn holder_is_lowered(rt: HostRuntime) -> Result<(), Fail> {
     let mut cores = started(&rt, rt.alloc(), false, &[(1, 3), (3, 3)])?;
-    let mut mutexes = Mutexes::new(rt.alloc(), 4, 5, 2)?;
+    let mut mutexes = Mutexes::new(rt.alloc(), 4, 5, 2, Vec::new(rt.alloc()))?;
     check_timeout(&rt, &mut cores, &mut mutexes);
     Ok(())
 }
@@ -214,9 +222,37 @@ fn check_queue(rt: &impl Abort, mutexes: &Mutexes)
 #[test]
 fn equal_waiters_stand_in_turn(rt: HostRuntime) -> Result<(), Fail> {
     let mut cores = started(&rt, rt.alloc(), false, &[(1, 3), (1, 3), (3, 3)])?;
-    let mut mutexes = Mutexes::new(rt.alloc(), 5, 5, 2)?;
+    let mut mutexes = Mutexes::new(rt.alloc(), 5, 5, 2, Vec::new(rt.alloc()))?;
     expect_is(&rt, mutexes.try_take(0, 1));
     queue(&rt, &mut cores, &mut mutexes);
+    check_queue(&rt, &mutexes);
+    Ok(())
+}
+
+// Tasks 3 and 2 wait for mutex 1 with list values 3 and 2, in this order, which stays as task 3
+// gets list value 0. Task 4 waits with list value 1, and so in front of both.
+fn queue_by_values(rt: &impl Abort, cores: &mut Cores, mutexes: &mut Mutexes)
+    requires tasks { mutexes.old.tasks ≡ 5 }
+    requires priorities { mutexes.old.priorities ≡ 5 }
+    requires mutexes { length mutexes.old.holders ≡ 2 }
+    ensures tasks { mutexes.new.tasks ≡ 5 }
+    ensures mutexes { length mutexes.new.holders ≡ 2 }
+{
+    wait(rt, cores, mutexes, 5, 3, 1);
+    wait(rt, cores, mutexes, 5, 2, 1);
+    expect_same(rt, mutexes.list_value(3), Some(3));
+    mutexes.set_list_value(3, 0);
+    expect_same(rt, mutexes.list_value(3), Some(0));
+    wait(rt, cores, mutexes, 5, 4, 1);
+}
+
+#[test]
+fn revalued_waiter_stays_in_its_place(rt: HostRuntime) -> Result<(), Fail> {
+    let mut cores = started(&rt, rt.alloc(), false, &[(1, 3), (1, 3), (3, 3)])?;
+    let values = vec![in rt.alloc(); 0, 0, 2, 3, 1]?;
+    let mut mutexes = Mutexes::new(rt.alloc(), 5, 5, 2, values)?;
+    expect_is(&rt, mutexes.try_take(0, 1));
+    queue_by_values(&rt, &mut cores, &mut mutexes);
     check_queue(&rt, &mutexes);
     Ok(())
 }

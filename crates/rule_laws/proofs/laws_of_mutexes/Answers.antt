@@ -4,7 +4,9 @@ use Rattle.bench_model.specs.Table.{first_waiter}
 use Rattle.order_laws.proofs.SeenMoves.{deadline_left_seen, forget_deadline_seen}
 use Rattle.rule_laws.proofs.Mutexes.{inherited_seen, inherited_sound, take_seen, take_sound, finished_seen, finished_sound, give_seen, give_sound}
 use Rattle.rule_laws.proofs.Mutexes.{after_disinherit_seen, after_disinherit_sound}
-use Rattle.std.proofs.Common.{arith}
+use Rattle.std.proofs.Common.{cond, ap, ◌∙◌, arith}
+use Rattle.std.specs.Prelude.{is_some}
+use Rattle.order_laws.proofs.Revalued.{none_of}
 use Rattle.rule_laws.proofs.CoresAlone.{inherited_on, after_disinherit_on}
 use Rattle.rule_laws.proofs.laws_of_mutexes.Goals as goal
 
@@ -13,7 +15,9 @@ returns-clause-first_waiter_simulates c = λ control mutex stamps. first_waiter_
 
 pub returns-clause-first_waiter_is_served_first : goal.returns-clause-first_waiter_is_served_first
 unfolding first_waiter
-returns-clause-first_waiter_is_served_first c = λ table mutex waiter sound. first_is_served table.orders mutex table.orders.waiters waiter sound.mutexes.turns
+returns-clause-first_waiter_is_served_first c = λ table mutex waiter sound plain. first_is_served table.orders mutex table.orders.waiters waiter
+    (sound.mutexes.turns (none_of table.orders.values
+    (sound.sized.values ∙ ap (λ queues. cond (is_some queues) table.settings.tasks 0) plain)))
 
 pub returns-clause-deadline_simulates : goal.returns-clause-deadline_simulates
 returns-clause-deadline_simulates c = λ control task stamps. deadline_left_seen control stamps task

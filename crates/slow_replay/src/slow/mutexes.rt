@@ -1,12 +1,12 @@
 //! Mutexes with priority inheritance, each rule as it is defined.
-ghost use Rattle.std.specs.Prelude.{◌≡◌, ◌<◌, ◌≤◌, ◌+◌, ◌^◌, length, IfOk, IfSome, OnOk, Some, filter, not, slice_set};
+ghost use Rattle.std.specs.Prelude.{◌≡◌, ◌<◌, ◌≤◌, ◌+◌, ◌^◌, length, IfOk, IfSome, OnOk, Some, slice_set};
 ghost use Rattle.bench_types.specs.declared.step.Call.TheVariants.{Finish};
-ghost use Rattle.bench_model.specs.Mutexes.{held_by, is_marked, inherited, waited_at, mutex_take, owed, after_disinherit, timed_out, take_finished, disinherited, first_woken, mutex_give};
+ghost use Rattle.bench_model.specs.Mutexes.{held_by, is_marked, waiting_priority, inherited, waited_at, mutex_take, owed, after_disinherit, timed_out, take_finished, disinherited, first_woken, mutex_give};
 ghost use Rattle.bench_model.specs.Sound.{IsConsistent};
 ghost use Rattle.bench_model.specs.State.{holder_at, after_return, blocked};
 ghost use Rattle.bench_model.specs.Steps.{called};
 ghost use Rattle.bench_model.specs.Table.{stamp_queues, first_waiter, deadline_at, deadline_left};
-ghost use Rattle.std.specs.List.{AllByRecursion};
+ghost use Rattle.std.specs.List.{AllByRecursion, prefix_len};
 ghost use Rattle.bench_model.specs.Waiters.{first_of, waits_first, with_waiter};
 
 use super::{SlowTable, notes};
@@ -65,7 +65,7 @@ impl SlowTable {
             return;
         }
         let ready = self.is_ready(holder);
-        self.set_in_use(holder, priority);
+        self.set_in_use_and_value(holder, priority);
         if ready {
             self.seek(acting, holder, None);
         }
@@ -126,6 +126,16 @@ impl SlowTable {
         Ok(())
     }
 
+    // The priority that the task begins to wait with: its list value, or its priority in use where
+    // the session has no list values.
+    fn waiting_priority(&self, task: u32) -> u32
+        requires { task < length self.now.orders.rows }
+        ensures { result ≡ waiting_priority stamp_queues task self.now }
+    {
+        let in_use = self.tasks[task as usize].in_use;
+        self.values.get(task as usize).copied().unwrap_or(in_use)
+    }
+
     #[tactic(auto, unfolding(bench_model::specs::Mutexes::waited_at))]
     fn wait_at(
         &mut self,
@@ -144,9 +154,10 @@ impl SlowTable {
         ensures { OnOk result
             (self.new ≡ waited_at stamp_queues core task mutex holder ticks self.old) }
     {
-        let priority = self.tasks[task as usize].in_use;
+        let in_use = self.tasks[task as usize].in_use;
+        let priority = self.waiting_priority(task);
         let mark = self.is_marked(task, holder);
-        self.inherit(core, holder, priority);
+        self.inherit(core, holder, in_use);
         let call = Unfinished::Take { mutex, mark };
         self.block_at(
             alloc,
@@ -217,7 +228,7 @@ impl SlowTable {
         if self.tasks[task as usize].in_use == priority {
             return;
         }
-        self.set_in_use(task, priority);
+        self.set_in_use_and_value(task, priority);
         self.ask_its_core(acting, task);
     }
 
@@ -371,40 +382,23 @@ fn first_of(mutex: u32, waiters: &[Waiter]) -> Option<Waiter>
         .find(|waiter| waiter.wait.mutex == mutex)
 }
 
-// The waiters with one more, which stands after those that stay in front of it.
-#[tactic(auto, unfolding(list_orders::specs::Search::placed))]
+// The waiters with one more, before the first that does not stay in front of it.
 fn with_waiter(alloc: Global, waiter: Waiter, waiters: &[Waiter]) -> Result<Vec<Waiter>, AllocError>
     ensures { IfOk result (λ all. all.items ≡ with_waiter waiter waiters.now) }
 {
-    let mut all = in_front(alloc, waiters, &waiter)?;
-    let mut others = behind(alloc, waiters, &waiter)?;
-    all.push(waiter)?;
-    all.append(&mut others)?;
+    let mut all = waiters.to_vec(alloc)?;
+    all.insert(place_of(&waiter, waiters), waiter)?;
     Ok(all)
 }
 
-// The waiters that stay in front of one.
-fn in_front(alloc: Global, waiters: &[Waiter], waiter: &Waiter) -> Result<Vec<Waiter>, AllocError>
-    ensures { IfOk result
-        (λ some. some.items ≡ filter (λ other. waits_first other waiter.now) waiters.now) }
+// How many of the waiters stand before the first that does not stay in front of this one.
+fn place_of(waiter: &Waiter, waiters: &[Waiter]) -> usize
+    ensures { result ≡ prefix_len (λ other. waits_first other waiter.now) waiters.now }
 {
     waiters
         .iter()
-        .copied()
-        .filter(|other| waits_first(other, waiter))
-        .collect(alloc)
-}
-
-// The others.
-fn behind(alloc: Global, waiters: &[Waiter], waiter: &Waiter) -> Result<Vec<Waiter>, AllocError>
-    ensures { IfOk result
-        (λ some. some.items ≡ filter (λ other. not (waits_first other waiter.now)) waiters.now) }
-{
-    waiters
-        .iter()
-        .copied()
-        .filter(|other| !waits_first(other, waiter))
-        .collect(alloc)
+        .take_while(|other| waits_first(other, waiter))
+        .count()
 }
 
 // Whether the one stays in front of the other.

@@ -1,12 +1,13 @@
 //! The calls that set a task's priority, core affinity mask and preemption, each as it is defined.
-ghost use Rattle.std.specs.Prelude.{◌≡◌, ◌<◌, ◌≤◌, ◌+◌, ◌^◌, length, IfSome};
-ghost use Rattle.bench_model.specs.ControlFields.{with_base, with_affinity, with_preemption, in_use_set};
+ghost use Rattle.std.specs.Prelude.{◌≡◌, ◌<◌, ◌≤◌, ◌+◌, ◌^◌, length, map, IfSome};
+ghost use Rattle.bench_model.specs.ControlFields.{with_base, with_affinity, with_preemption, in_use_set, value_set, in_use_and_value_set};
 ghost use Rattle.bench_model.specs.Control.{runs_on, ask_its_core};
 ghost use Rattle.bench_model.specs.PriorityAffinity.{capped, in_use_after, yields_after_priority_set, yields_after_affinity_set, priority_set, affinity_set, preemption_off, preemption_on};
 ghost use Rattle.bench_model.specs.Table.{stamp_queues, is_ready};
+ghost use Rattle.bench_model.specs.Waiters.{with_value};
 
 use super::SlowTable;
-use bench_types::{TaskControl, cores_of_mask};
+use bench_types::{TaskControl, Waiter, cores_of_mask};
 
 impl SlowTable {
     pub(super) fn its_core(&self, task: u32) -> Option<u32>
@@ -64,7 +65,7 @@ impl SlowTable {
     }
 
     #[tactic(auto, unfolding(bench_model::specs::ControlFields::in_use_set))]
-    pub(super) fn set_in_use(&mut self, task: u32, priority: u32)
+    fn set_in_use(&mut self, task: u32, priority: u32)
         requires task { task < length self.old.orders.rows }
         requires room { self.old.orders.next + 1 < 2 ^ 128 }
         ensures set { self.new ≡ in_use_set stamp_queues task priority self.old }
@@ -77,6 +78,34 @@ impl SlowTable {
         if self.is_ready(task) {
             self.add_to_ready_list(task);
         }
+    }
+
+    // The task's list value becomes this one, where it has one; no waiter moves.
+    #[tactic(auto, unfolding(bench_model::specs::Table::set_list_value))]
+    fn set_list_value(&mut self, task: u32, value: u32)
+        ensures set { self.new ≡ value_set stamp_queues task value self.old }
+        ensures rows { length self.new.orders.rows ≡ length self.old.orders.rows }
+        ensures stamps { self.new.orders.next ≡ self.old.orders.next }
+        ensures tick { self.new.orders.tick ≡ self.old.orders.tick }
+    {
+        if (task as usize) < self.values.len() {
+            self.values[task as usize] = value;
+            revalue(&mut self.waiters, task, value);
+        }
+    }
+
+    #[tactic(auto, unfolding(bench_model::specs::ControlFields::in_use_and_value_set))]
+    pub(super) fn set_in_use_and_value(&mut self, task: u32, priority: u32)
+        requires task { task < length self.old.orders.rows }
+        requires room { self.old.orders.next + 1 < 2 ^ 128 }
+        ensures set { self.new ≡ in_use_and_value_set stamp_queues task priority self.old }
+        ensures rows { length self.new.orders.rows ≡ length self.old.orders.rows }
+        ensures stamps { self.new.orders.next ≤ self.old.orders.next + 1 }
+        ensures tick { self.new.orders.tick ≡ self.old.orders.tick }
+        ensures cores { length self.new.control.cores ≡ length self.old.control.cores }
+    {
+        self.set_in_use(task, priority);
+        self.set_list_value(task, priority);
     }
 
     #[tactic(auto, unfolding(bench_model::specs::PriorityAffinity::yields_after_priority_set))]
@@ -107,6 +136,7 @@ impl SlowTable {
         let ready = self.is_ready(task);
         self.set_base(task, new);
         self.set_in_use(task, in_use_after(block, new));
+        self.set_list_value(task, new);
         self.yield_after_priority_set(acting, task, block.base, new, ready);
     }
 
@@ -153,6 +183,25 @@ impl SlowTable {
         self.set_preemption(task, true);
         self.ask_its_core(acting, task);
     }
+}
+
+// Where the task is among the waiters, it waits with this priority from now on.
+fn revalue(waiters: &mut [Waiter], task: u32, value: u32)
+    ensures { waiters.new ≡ map (with_value task value) waiters.old }
+{
+    for waiter in waiters.iter_mut() {
+        *waiter = with_value(task, value, *waiter);
+    }
+}
+
+fn with_value(task: u32, value: u32, waiter: Waiter) -> Waiter
+    ensures { result ≡ with_value task value waiter }
+{
+    let mut later = waiter;
+    if waiter.task == task {
+        later.wait.priority = value;
+    }
+    later
 }
 
 fn in_use_after(block: TaskControl, priority: u32) -> u32

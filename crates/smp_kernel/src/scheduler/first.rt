@@ -1,8 +1,8 @@
 //! The parts of a kernel before any core has selected.
-ghost use Rattle.std.specs.Prelude.{◌≡◌, ◌<◌, ◌+◌, ◌*◌, ◌^◌, IfOk, Ok, None, replicate};
+ghost use Rattle.std.specs.Prelude.{◌≡◌, ◌<◌, ◌+◌, ◌*◌, ◌^◌, IfOk, Ok, None, All, replicate};
 ghost use Rattle.bench_types.specs.Header.{header_check};
 ghost use Rattle.bench_model.specs.Cores.{cores_of};
-ghost use Rattle.bench_model.specs.Start.{first_lists, unstarted};
+ghost use Rattle.bench_model.specs.Start.{first_lists, first_values, unstarted};
 ghost use Rattle.mutex_inherit.specs.Parts.{free_mutexes};
 ghost use Rattle.notify_core.specs.Parts.{fresh_notes};
 ghost use Rattle.tick_delay.specs.Parts.{no_delays};
@@ -15,6 +15,7 @@ use ready_core::Cores;
 use std::alloc::{AllocError, Global};
 use tick_delay::Delays;
 
+#[tactic(auto, unfolding(bench_model::specs::Start::unstarted))]
 pub(super) fn first_orders(
     alloc: Global,
     header: &Header,
@@ -22,16 +23,34 @@ pub(super) fn first_orders(
 ) -> Result<(Cores, Mutexes), AllocError>
     requires passes { header_check header.now ≡ Ok tt }
     requires few { settings.tasks + settings.mutexes < 2 ^ 32 }
+    requires priorities { settings.priorities ≡ header.now.config.priorities }
     ensures cores { IfOk result
         (λ parts. parts.0 ≡ cores_of (unstarted (first_lists header.now) header.now)) }
     ensures mutexes { IfOk result
         (λ parts. parts.1
-        ≡ free_mutexes settings.tasks settings.priorities settings.mutexes) }
+        ≡ free_mutexes settings.tasks settings.priorities settings.mutexes
+        (first_values header.now)) }
 {
     let cores = Cores::new(alloc, header)?;
     let (tasks, priorities) = (settings.tasks, settings.priorities);
-    let mutexes = Mutexes::new(alloc, tasks, priorities, settings.mutexes)?;
+    let values = first_values(alloc, header, &cores)?;
+    let mutexes = Mutexes::new(alloc, tasks, priorities, settings.mutexes, values)?;
     Ok((cores, mutexes))
+}
+
+// Each task's list value is its base priority, where the session has list values.
+#[tactic(auto, unfolding(bench_model::specs::Start::unstarted))]
+fn first_values(alloc: Global, header: &Header, cores: &Cores) -> Result<Vec<u32>, AllocError>
+    requires { cores.now ≡ cores_of (unstarted (first_lists header.now) header.now) }
+    ensures values { IfOk result (λ values. values.items ≡ first_values header.now) }
+    ensures below { IfOk result
+        (λ values. All (λ value. value < cores.now.priorities) values.items) }
+{
+    if header.queues.is_some() {
+        cores.bases(alloc)
+    } else {
+        Ok(Vec::new(alloc))
+    }
 }
 
 pub(super) fn no_waits(

@@ -4,7 +4,7 @@ ghost use Rattle.list_orders.specs.Search.{has};
 ghost use Rattle.bench_model.specs.Control.{task_at, in_mask, ask_its_core};
 ghost use Rattle.bench_model.specs.Lists.{list_queues};
 ghost use Rattle.bench_model.specs.Seek.{seek};
-ghost use Rattle.bench_model.specs.ControlFields.{with_base, with_affinity, with_preemption, in_use_set};
+ghost use Rattle.bench_model.specs.ControlFields.{with_base, with_affinity, with_preemption, in_use_set, value_set};
 ghost use Rattle.bench_model.specs.PriorityAffinity.{capped, in_use_after, yields_after_priority_set, yields_after_affinity_set, priority_set, affinity_set, preemption_off, preemption_on};
 
 use super::Scheduler;
@@ -77,6 +77,17 @@ impl Scheduler {
         self.cores.set_in_use(task, priority);
     }
 
+    #[tactic(auto, unfolding(bench_model::specs::Lists::set_list_value))]
+    fn set_list_value(&mut self, task: u32, value: u32)
+        requires task { task < self.old.settings.tasks }
+        requires value { value < self.old.settings.priorities }
+        ensures set { self.new ≡ value_set list_queues task value self.old }
+        ensures ready { has task self.new.orders.ready ≡ has task self.old.orders.ready }
+        ensures settings { self.new.settings ≡ self.old.settings }
+    {
+        self.mutexes.set_list_value(task, value);
+    }
+
     // After a new base priority: who is asked for the task, or to give it up.
     #[tactic(auto, unfolding(bench_model::specs::PriorityAffinity::yields_after_priority_set))]
     fn yield_after_priority_set(&mut self, acting: u32, task: u32, old: u32, new: u32)
@@ -106,6 +117,7 @@ impl Scheduler {
         let in_use = self.in_use_after(task, new);
         self.set_base(task, new);
         self.set_in_use(task, in_use);
+        self.set_list_value(task, new);
         self.yield_after_priority_set(acting, task, old, new);
     }
 

@@ -1,4 +1,4 @@
-use Rattle.std.proofs.Common.{◌≡◌, ℕ, zero, suc, ◌+◌, ◌-◌, ◌*◌, ◌<◌, ◌≤◌, ◌^◌, false, List, [], ◌++◌, length, map, replicate, Option, Some, None, refl, ap, sym, subst}
+use Rattle.std.proofs.Common.{◌≡◌, ℕ, zero, suc, ◌+◌, ◌-◌, ◌*◌, ◌<◌, ◌≤◌, ◌^◌, false, List, ◌++◌, length, map, replicate, Option, Some, None, refl, ap, sym, subst}
 use Rattle.std.proofs.Common.{◌∙◌, arith}
 use Rattle.std.specs.Prelude.{slice_index_or}
 use Rattle.std.specs.List.{AllByRecursion}
@@ -68,21 +68,22 @@ invariant_of-result c =
     }
 
 abbrev table_of : Settings → List CoreLook → List TaskControl → List (Option Unfinished) → List Notification → List (Option ℕ) → List TaskRow → List Waiter → List
-    (Option ℕ) → ℕ → ℕ → Table
-table_of settings cores tasks calls notes holders rows waiters deadlines tick next = record {
+    (Option ℕ) → List ℕ → ℕ → ℕ → Table
+table_of settings cores tasks calls notes holders rows waiters deadlines values tick next = record {
   settings = settings;
   control = record { cores = cores; tasks = tasks };
   calls = calls;
   notes = notes;
   holders = holders;
   hold = None;
-  orders = record { rows = rows; waiters = waiters; deadlines = deadlines; tick = tick; next = next };
+  orders = record { rows = rows; waiters = waiters; deadlines = deadlines; values = values; tick = tick; next = next };
 }
 
 same_table : {s t : Settings} {cs ds : List CoreLook} {bs es : List TaskControl} {us vs : List (Option Unfinished)} {ns ms : List Notification}
-    {hs gs : List (Option ℕ)} {rs qs : List TaskRow} {ws vs₂ : List Waiter} {xs ys : List (Option ℕ)} {i j k l : ℕ} → s ≡ t → cs ≡ ds → bs ≡ es → us ≡ vs → ns ≡ ms → hs ≡ gs → rs ≡ qs
-    → ws ≡ vs₂ → xs ≡ ys → i ≡ j → k ≡ l → table_of s cs bs us ns hs rs ws xs i k ≡ table_of t ds es vs ms gs qs vs₂ ys j l
-same_table a b c d e f g h w i j = cc
+    {hs gs : List (Option ℕ)} {rs qs : List TaskRow} {ws vs₂ : List Waiter} {xs ys : List (Option ℕ)} {ps zs : List ℕ} {i j k l : ℕ}
+    → s ≡ t → cs ≡ ds → bs ≡ es → us ≡ vs → ns ≡ ms → hs ≡ gs → rs ≡ qs → ws ≡ vs₂ → xs ≡ ys → ps ≡ zs → i ≡ j → k ≡ l
+    → table_of s cs bs us ns hs rs ws xs ps i k ≡ table_of t ds es vs ms gs qs vs₂ ys zs j l
+same_table a b c d e f g h w v i j = cc
 
 abbrev rows_for : ℕ → ℕ → List TaskRow
 rows_for cores users = map (λ core. ready_row (users + core)) (numbers cores) ++ map ready_row (numbers users)
@@ -103,4 +104,4 @@ returns c =
     (c.in_ok-rows.ensures ∙ ap (λ n. rows_for n (settings.tasks - settings.cores)) cores ∙ ap (rows_for header.config.cores) users)
     c.no_waiters-waiters.ensures
     (c.in_ok-deadlines.ensures ∙ ap (λ n. replicate n None) tasks)
-    c.from.ensures (c.from-2.ensures ∙ tasks)
+    c.in_ok-values.ensures c.from.ensures (c.from-2.ensures ∙ tasks)

@@ -12,7 +12,8 @@ invariant_of-self c = rw c.remove.ensures (record {
   items = c.self.invariant.items;
   each = length-map c.self.inside.lists.lists (without_item c.args.task) ∙ c.self.invariant.each;
   waiting = waiters_gone _ c.args.task _ c.self.invariant.waiting;
+  list_values = c.self.invariant.list_values;
 })
 
 pub returns : goal.returns
-returns c = rw c.remove.ensures (seen_leave _ _ _ c.self.inside.lists _ c.self.view_is c.args.task)
+returns c = rw c.remove.ensures (seen_leave _ _ _ _ c.self.inside.lists _ c.self.view_is c.args.task)

@@ -1,4 +1,4 @@
-use Rattle.std.proofs.Common.{◌≡◌, ℕ, ◌<◌, eqb, List, Option, Some, None, IfSome, length, refl, sym}
+use Rattle.std.proofs.Common.{◌≡◌, ℕ, ◌<◌, eqb, List, Option, Some, None, IfSome, length, sym}
 use Rattle.std.specs.List.{AllByRecursion}
 use Rattle.bench_types.specs.declared.kernel_data.Waiter.{Waiter}
 use Rattle.bench_model.specs.Waiters.{first_of}

@@ -6,11 +6,11 @@ use Rattle.smp_kernel.proofs.Owing.{give_seen, give_shape}
 use Rattle.smp_kernel.proofs.scheduler.Scheduler.give_up.Goals as goal
 
 pub invariant_of-self : goal.invariant_of-self
-invariant_of-self c = rw (c.give.ensures.holders, c.give.ensures.cores) (give_shape _ c.self.invariant c.args.core c.args.task c.args.mutex)
+invariant_of-self c = rw (c.give.ensures.part, c.give.ensures.cores) (give_shape _ c.self.invariant c.args.core c.args.task c.args.mutex)
 
 pub returns-clause-given : goal.returns-clause-given
 returns-clause-given c =
-    rw (c.give.ensures.holders, c.give.ensures.cores)
+    rw (c.give.ensures.part, c.give.ensures.cores)
     (give_seen _ c.self.invariant c.args.core c.args.task c.args.mutex
     ∙ ap (λ (view : View). disinherited list_queues c.args.core c.args.task (record view { holders = slice_set view.holders c.args.mutex None }))
     c.self.view_is)

@@ -46,7 +46,7 @@ invariant_of-self c =
       c.unready.ensures,
       c.ask.ensures,
       c.wait_on-mark.ensures.cores,
-      c.wait_on-mark.ensures.waiters,
+      c.wait_on-mark.ensures.part,
       c.wait_on-mark.ensures.mark,
     )
     (wait_shape _ c.self.invariant c.args.core c.args.task c.args.mutex holder c.args.ticks)
@@ -60,7 +60,7 @@ returns c =
       c.unready.ensures,
       c.ask.ensures,
       c.wait_on-mark.ensures.cores,
-      c.wait_on-mark.ensures.waiters,
+      c.wait_on-mark.ensures.part,
       c.wait_on-mark.ensures.mark,
     )
     (wait_seen _ c.self.invariant c.args.core c.args.task c.args.mutex holder c.args.ticks

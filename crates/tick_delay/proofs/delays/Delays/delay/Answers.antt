@@ -14,10 +14,10 @@ invariant_of-self c =
     let free = ap (λ (view : DelayView). is_delayed c.args.task view.delayed) c.self.view_is ∙ c.requires.free in
     let few : c.args.ticks < 2 ^ 32 = omega (arith, c.ranges) in
     elim c.if-wake-self.branch [
-      | then-wake-self w ↦ rw (c.insert_sorted.ensures, w.list-is) (delayed_late _ _ _ _ c.self.invariant c.args.task c.args.ticks low free few
-          w.if-wake-self.true)
-      | else-wake-self w ↦ rw (c.insert_sorted.ensures, w.list-is) (delayed_soon _ _ _ _ c.self.invariant c.args.task c.args.ticks low free few
-          w.if-wake-self.false)
+      | then-wake-self w ↦ rw (c.insert_sorted.ensures.in_order (rw w.list-is c.self.invariant.turns.next_order), w.list-is)
+          (delayed_late _ _ _ _ c.self.invariant c.args.task c.args.ticks low free few w.if-wake-self.true)
+      | else-wake-self w ↦ rw (c.insert_sorted.ensures.in_order (rw w.list-is c.self.invariant.turns.this_order), w.list-is)
+          (delayed_soon _ _ _ _ c.self.invariant c.args.task c.args.ticks low free few w.if-wake-self.false)
     ]
 
 pub returns : goal.returns
@@ -26,8 +26,8 @@ returns c =
     let free = ap (λ (view : DelayView). is_delayed c.args.task view.delayed) c.self.view_is ∙ c.requires.free in
     let few : c.args.ticks < 2 ^ 32 = omega (arith, c.ranges) in
     elim c.if-wake-self.branch [
-      | then-wake-self w ↦ rw (c.insert_sorted.ensures, w.list-is) (seen_late _ _ _ _ c.self.invariant c.args.task c.args.ticks low free few w.if-wake-self.true
-          ∙ ap (delayed_for c.args.task c.args.ticks) c.self.view_is)
-      | else-wake-self w ↦ rw (c.insert_sorted.ensures, w.list-is) (seen_soon _ _ _ _ c.self.invariant c.args.task c.args.ticks low free few
-          w.if-wake-self.false ∙ ap (delayed_for c.args.task c.args.ticks) c.self.view_is)
+      | then-wake-self w ↦ rw (c.insert_sorted.ensures.in_order (rw w.list-is c.self.invariant.turns.next_order), w.list-is)
+          (seen_late _ _ _ _ c.self.invariant c.args.task c.args.ticks low free few w.if-wake-self.true ∙ ap (delayed_for c.args.task c.args.ticks) c.self.view_is)
+      | else-wake-self w ↦ rw (c.insert_sorted.ensures.in_order (rw w.list-is c.self.invariant.turns.this_order), w.list-is)
+          (seen_soon _ _ _ _ c.self.invariant c.args.task c.args.ticks low free few w.if-wake-self.false ∙ ap (delayed_for c.args.task c.args.ticks) c.self.view_is)
     ]

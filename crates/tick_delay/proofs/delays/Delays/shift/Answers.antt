@@ -1,7 +1,6 @@
-use Rattle.std.proofs.Common.{◌≡◌, true, sym, ap, ◌∙◌}
-use Rattle.index_lists.specs.Listed.{ListsView}
+use Rattle.std.proofs.Common.{◌≡◌, sym, ap, ◌∙◌}
 use Rattle.bench_model.specs.Shifted.{later_tick}
-use Rattle.tick_delay.specs.Later.{all_later, turns_stay}
+use Rattle.tick_delay.specs.Later.{all_later}
 use Rattle.tick_delay.specs.Parts.{shifted_delays}
 use Rattle.tick_delay.specs.Shape.{seen_delays}
 use Rattle.tick_delay.proofs.Moved.{shape_later, seen_later}

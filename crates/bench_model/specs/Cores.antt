@@ -24,7 +24,7 @@ cores_of view =
     }
 
 -- a kernel of which this is the part, where no task waits, is in a call or has a notification, and
--- no mutex is there
+-- no mutex and no queue is there
 abbrev pub bare_view : CoresView → View
 bare_view cores = record {
   settings = record {
@@ -40,6 +40,7 @@ bare_view cores = record {
   calls = [];
   notes = [];
   holders = [];
+  queues = [];
   hold = None;
   orders = record {
     ready = cores.ready;

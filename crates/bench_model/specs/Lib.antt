@@ -13,6 +13,7 @@ pub mod Mutexes
 pub mod Notes
 pub mod Notifying
 pub mod PriorityAffinity
+pub mod Queues
 pub mod Refusals
 pub mod SameTest
 pub mod Seek

@@ -5,7 +5,7 @@ use Rattle.std.specs.Prelude.{ℕ, ◌+◌, ◌-◌, ◌%◌, ◌^◌, List, map
 use Rattle.std.specs.Prelude.{if◌then◌else◌, slice_index_or, slice_set}
 use Rattle.std.specs.Option.{option_map_or}
 use Rattle.bench_types.specs.declared.kernel_data.Delayed.{Delayed}
-use Rattle.bench_types.specs.declared.kernel_data.MutexWait.{MutexWait}
+use Rattle.bench_types.specs.declared.kernel_data.EventWait.{EventWait}
 use Rattle.bench_types.specs.declared.kernel_data.Waiter.{Waiter}
 use Rattle.bench_model.specs.Control.{Control, task_at, may_select}
 use Rattle.bench_model.specs.State.{State, QueueOps}
@@ -22,11 +22,11 @@ pub record Lists : Type 0 where
   -- the blocked tasks with ticks left: the fewest first, those of one number in the order in which
   -- they began to wait
   pub delayed : List Delayed
-  -- the tasks that wait for mutexes: mutex 0 first, of one mutex the greatest waiting priority
+  -- the tasks that wait in event lists: list 0 first, of one list the greatest waiting priority
   -- first, those of one priority in the order in which they began to wait
   pub waiters : List Waiter
-  -- per task the ticks left to the end of its unfinished wait for a mutex, none where there is none
-  -- or it has no end
+  -- per task the ticks left to the end of its unfinished wait for an event, none where there is
+  -- none or it has no end
   pub deadlines : List (Option ℕ)
   -- per task its list value; empty where the session has none
   pub values : List ℕ
@@ -76,7 +76,7 @@ add_to_ready_list control task lists = record lists {
 }
 
 -- a task that waits without end stands in no list of delays
-unfoldable pub delay : ℕ → Option ℕ → Option MutexWait → Lists → Lists
+unfoldable pub delay : ℕ → Option ℕ → Option EventWait → Lists → Lists
 delay task ticks wait lists = record lists {
   ready = without task lists.ready;
   delayed = option_map_or (λ left. with_delay task left lists.delayed) ticks lists.delayed;
@@ -100,7 +100,7 @@ abbrev pub due : Lists → List ℕ
 due lists = due_tasks lists.delayed
 
 unfoldable pub first_waiter : ℕ → Lists → Option Waiter
-first_waiter mutex lists = first_of mutex lists.waiters
+first_waiter list lists = first_of list lists.waiters
 
 abbrev pub deadline_left : ℕ → Lists → Option ℕ
 deadline_left task lists = slice_index_or lists.deadlines task None
@@ -162,6 +162,7 @@ view_of table = record {
   calls = table.calls;
   notes = table.notes;
   holders = table.holders;
+  queues = table.queues;
   hold = table.hold;
   orders = lists_of table.control table.orders;
 }

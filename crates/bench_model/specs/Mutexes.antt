@@ -2,7 +2,7 @@
 -- (FreeRTOS Reference Manual, xSemaphoreTake and xSemaphoreGive).
 use Rattle.std.specs.Prelude.{ℕ, List, length, filter, Bool, true, false, not, ◌&&◌, ◌==◌, nat_lt, Option, Some, None, unwrap_or, if◌then◌else◌, slice_set}
 use Rattle.std.specs.Option.{option_map_or}
-use Rattle.bench_types.specs.declared.kernel_data.MutexWait.{MutexWait}
+use Rattle.bench_types.specs.declared.kernel_data.EventWait.{EventWait}
 use Rattle.bench_types.specs.declared.kernel_data.Waiter.{Waiter}
 use Rattle.bench_types.specs.declared.reply.Reply.{Reply}
 use Rattle.bench_types.specs.declared.reply.Reply.TheVariants.{Blocked, Flag}
@@ -58,7 +58,7 @@ module _ {Orders : Type 0} (ops : QueueOps Orders) where
   unfoldable pub waited_at : ℕ → ℕ → ℕ → ℕ → Option ℕ → State Orders → State Orders
   waited_at core task mutex holder ticks state =
       let call = Take mutex (is_marked state.control task holder) in
-      let wait : MutexWait = record { mutex = mutex; priority = waiting_priority task state } in
+      let wait : EventWait = record { list = mutex; priority = waiting_priority task state } in
       blocked ops core task call ticks (Some wait)
       (inherited core holder (task_at state.control task).in_use state)
 
@@ -118,11 +118,12 @@ module _ {Orders : Type 0} (ops : QueueOps Orders) where
       if held_by state.holders task == 0
       then after_disinherit core task (task_at state.control task).base state else state
 
-  -- the first waiter of the mutex, if there is one, is woken
+  -- the first waiter of the event list, if there is one, is woken (V11 tasks.c,
+  -- xTaskRemoveFromEventList)
   unfoldable pub first_woken : ℕ → ℕ → State Orders → State Orders
-  first_woken acting mutex state =
+  first_woken acting list state =
       option_map_or (λ waiter. wake ops acting waiter.task state)
-      (ops.first_waiter mutex state.orders) state
+      (ops.first_waiter list state.orders) state
 
   -- Giving a mutex, by who holds it: a free one is not given; of one that the task holds, the first
   -- waiter is woken, and has to take it itself.

@@ -4,15 +4,17 @@ use Rattle.std.specs.Option.{option_or, option_map_or}
 use Rattle.bench_types.specs.declared.reply.Refusal.{Refusal}
 use Rattle.bench_types.specs.declared.reply.Refusal.TheVariants.{Held, Displaced, SwitchDue, InCall, NotInCall, HoldBlock, NoHold, HoldDeep, NotHolder, NotDue}
 use Rattle.bench_types.specs.declared.step.Step.{Step}
-use Rattle.bench_types.specs.declared.step.Step.TheVariants.{Tick, Switch, Interrupt}
+use Rattle.bench_types.specs.declared.step.Step.TheVariants.{Tick, Switch, Interrupt, QueueInterrupt}
 use Rattle.bench_types.specs.declared.step.Step.TheVariants as steps
 use Rattle.bench_types.specs.declared.step.Call.{Call}
-use Rattle.bench_types.specs.declared.step.Call.TheVariants.{Delay, DelayUntil, NotifyWait, NotifyTake, MutexTake, MutexGive, Finish, HoldOpen, HoldClose}
+use Rattle.bench_types.specs.declared.step.Call.TheVariants.{Delay, DelayUntil, NotifyWait, NotifyTake, MutexTake, MutexGive, QueueSend, QueueReceive, Finish, HoldOpen, HoldClose}
+use Rattle.bench_types.specs.declared.step.Direction.TheVariants.{Send, Receive}
 use Rattle.bench_types.specs.declared.step.Unfinished.{Unfinished}
 use Rattle.bench_types.specs.Limits.{max_depth}
 use Rattle.bench_model.specs.Control.{current, is_due}
 use Rattle.bench_model.specs.Holds.{is_held_by, is_held_elsewhere, depth_of}
 use Rattle.bench_model.specs.Notes.{note_at, slot_of, wait_entered, take_entered}
+use Rattle.bench_model.specs.Queues.{can_pass, queue_at}
 use Rattle.bench_model.specs.State.{State, QueueOps, call_at, holder_at}
 use Rattle.bench_model.specs.Until.{next_wake, is_ahead}
 
@@ -53,6 +55,10 @@ module _ {Orders : Type 0} (ops : QueueOps Orders) where
       (take_entered (note_at state.notes (slot_of state.settings task index))).0 && nat_lt 0 ticks
   would_block task (MutexTake mutex ticks) state =
       is_some (holder_at state.holders mutex) && nat_lt 0 ticks
+  would_block task (QueueSend queue ticks) state =
+      not (can_pass Send (queue_at state.queues queue)) && nat_lt 0 ticks
+  would_block task (QueueReceive queue ticks) state =
+      not (can_pass Receive (queue_at state.queues queue)) && nat_lt 0 ticks
   would_block task call state = false
 
   -- a core that holds the kernel lets no task wait and holds it at most `max_depth` times over, and
@@ -79,6 +85,7 @@ module _ {Orders : Type 0} (ops : QueueOps Orders) where
   unfoldable pub refusal : Step → State Orders → Option Refusal
   refusal Tick state = None
   refusal (Interrupt core note) state = None
+  refusal (QueueInterrupt core queue direction) state = None
   refusal (Switch core) state =
       if is_some state.hold then Some Held
       else (if is_due state.control core then None else Some NotDue)

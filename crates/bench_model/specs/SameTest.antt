@@ -3,6 +3,7 @@ use Rattle.std.specs.Prelude.{List, [], ◌∷◌, Bool, true, false, not, ◌&&
 use Rattle.bench_types.specs.declared.kernel_data.CoreLook.{CoreLook}
 use Rattle.bench_types.specs.declared.kernel_data.Delayed.{Delayed}
 use Rattle.bench_types.specs.declared.kernel_data.Hold.{Hold}
+use Rattle.bench_types.specs.declared.kernel_data.QueueLook.{QueueLook}
 use Rattle.bench_types.specs.declared.kernel_data.Settings.{Settings}
 use Rattle.bench_types.specs.declared.kernel_data.TaskControl.{TaskControl}
 use Rattle.bench_types.specs.declared.kernel_data.Waiter.{Waiter}
@@ -14,9 +15,11 @@ use Rattle.bench_types.specs.declared.note.NoteState.TheVariants.{NotWaiting, Wa
 use Rattle.bench_types.specs.declared.note.Notification.{Notification}
 use Rattle.bench_types.specs.declared.step.Call.{Call}
 use Rattle.bench_types.specs.declared.step.Call.TheVariants.{Yield, Delay, DelayUntil, PrioritySet, AffinitySet, PreemptOff, PreemptOn, Notify, NotifyWait}
-use Rattle.bench_types.specs.declared.step.Call.TheVariants.{NotifyTake, StateClear, ValueClear, MutexTake, MutexGive, Finish, HoldOpen, HoldClose}
+use Rattle.bench_types.specs.declared.step.Call.TheVariants.{NotifyTake, StateClear, ValueClear, MutexTake, MutexGive, QueueSend, QueueReceive, Finish, HoldOpen, HoldClose}
+use Rattle.bench_types.specs.declared.step.Direction.{Direction}
+use Rattle.bench_types.specs.declared.step.Direction.TheVariants.{Send, Receive}
 use Rattle.bench_types.specs.declared.step.Unfinished.{Unfinished}
-use Rattle.bench_types.specs.declared.step.Unfinished.TheVariants.{Made, Take}
+use Rattle.bench_types.specs.declared.step.Unfinished.TheVariants.{Made, Take, Transfer}
 use Rattle.bench_types.specs.Step.{as_call}
 use Rattle.bench_model.specs.Control.{Control}
 use Rattle.bench_model.specs.Lists.{Lists, View, view_of}
@@ -91,16 +94,29 @@ are_same_calls (ValueClear task bits index) (ValueClear other others place) =
     task == other && bits == others && index == place
 are_same_calls (MutexTake mutex ticks) (MutexTake other others) = mutex == other && ticks == others
 are_same_calls (MutexGive mutex) (MutexGive other) = mutex == other
+are_same_calls (QueueSend queue ticks) (QueueSend other others) = queue == other && ticks == others
+are_same_calls (QueueReceive queue ticks) (QueueReceive other others) =
+    queue == other && ticks == others
 are_same_calls Finish Finish = true
 are_same_calls HoldOpen HoldOpen = true
 are_same_calls HoldClose HoldClose = true
 are_same_calls a b = false
 
+abbrev pub are_same_directions : Direction → Direction → Bool
+are_same_directions Send Send = true
+are_same_directions Receive Receive = true
+are_same_directions a b = false
+
 abbrev pub are_same_unfinished : Unfinished → Unfinished → Bool
 are_same_unfinished (Made a) (Made b) = are_same_calls (as_call a) (as_call b)
 are_same_unfinished (Take mutex mark) (Take other flag) =
     mutex == other && are_same_bools mark flag
+are_same_unfinished (Transfer queue direction) (Transfer other way) =
+    queue == other && are_same_directions direction way
 are_same_unfinished a b = false
+
+abbrev pub are_same_queues : QueueLook → QueueLook → Bool
+are_same_queues a b = a.length == b.length && a.messages == b.messages
 
 abbrev pub are_same_holds : Hold → Hold → Bool
 are_same_holds a b = a.core == b.core && a.depth == b.depth
@@ -110,7 +126,7 @@ are_same_delays a b = a.task == b.task && a.left == b.left
 
 abbrev pub are_same_waiters : Waiter → Waiter → Bool
 are_same_waiters a b =
-    a.task == b.task && a.wait.mutex == b.wait.mutex && a.wait.priority == b.wait.priority
+    a.task == b.task && a.wait.list == b.wait.list && a.wait.priority == b.wait.priority
 
 abbrev pub are_same_controls : Control → Control → Bool
 are_same_controls a b =
@@ -130,6 +146,7 @@ are_same_views a b =
     && are_same_lists (are_same_options are_same_unfinished) a.calls b.calls
     && are_same_lists are_same_notifications a.notes b.notes
     && are_same_lists (are_same_options (λ m n. m == n)) a.holders b.holders
+    && are_same_lists are_same_queues a.queues b.queues
     && are_same_options are_same_holds a.hold b.hold && are_same_orders a.orders b.orders
 
 -- what can be seen of the tables is equal, as a test that computes, which meetings use; the law

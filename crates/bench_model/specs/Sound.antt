@@ -6,20 +6,20 @@ use Rattle.bench_types.specs.declared.kernel_data.Hold.{Hold}
 use Rattle.bench_types.specs.declared.kernel_data.TaskControl.{TaskControl}
 use Rattle.bench_types.specs.declared.note.Notification.{Notification}
 use Rattle.bench_types.specs.declared.step.Step.{Step}
-use Rattle.bench_types.specs.declared.step.Step.TheVariants.{Tick, Switch, Interrupt}
+use Rattle.bench_types.specs.declared.step.Step.TheVariants.{Tick, Switch, Interrupt, QueueInterrupt}
 use Rattle.bench_types.specs.declared.step.Step.TheVariants as steps
-use Rattle.bench_types.specs.declared.kernel_data.MutexWait.{MutexWait}
+use Rattle.bench_types.specs.declared.kernel_data.EventWait.{EventWait}
 use Rattle.bench_types.specs.declared.kernel_data.Settings.{Settings}
 use Rattle.bench_types.specs.declared.kernel_data.Waiter.{Waiter}
 use Rattle.bench_types.specs.declared.step.Unfinished.{Unfinished}
-use Rattle.bench_types.specs.declared.step.Unfinished.TheVariants.{Take}
+use Rattle.bench_types.specs.declared.step.Unfinished.TheVariants.{Take, Transfer}
 use Rattle.bench_types.specs.Limits.{max_depth}
-use Rattle.bench_types.specs.Step.{IsCheckedUnfinished}
+use Rattle.bench_types.specs.Step.{queue_total, IsCheckedUnfinished}
 use Rattle.bench_model.specs.Control.{Control, current, is_due, task_at}
 use Rattle.bench_model.specs.Notes.{note_at}
 use Rattle.bench_model.specs.State.{call_at, holder_at}
-use Rattle.bench_model.specs.Turns.{AreByMutex, AreInTurn, WaitOnce}
-use Rattle.bench_model.specs.Waiters.{mutex_awaited}
+use Rattle.bench_model.specs.Turns.{AreByList, AreInTurn, WaitOnce}
+use Rattle.bench_model.specs.Waiters.{event_list, event_lists, list_awaited}
 use Rattle.bench_model.specs.Table.{Stamps, Table, row_at, stamp_of, wake_in, deadline_at, is_ready}
 
 -- each task has a list value in a session with queues, and none in another
@@ -28,13 +28,14 @@ list_values settings = if is_some settings.queues then settings.tasks else 0
 
 -- there is a row, a control block, a deadline or none and an unfinished call or none for each task,
 -- a list value for each where there are list values, some notifications for each as well, a holder
--- or none for each mutex, and an idle task for each core
+-- or none for each mutex, what each queue has, and an idle task for each core
 pub record IsSized (table : Table) : Type 0 where
   pub cores : length table.control.cores ≡ table.settings.cores
   pub controls : length table.control.tasks ≡ table.settings.tasks
   pub calls : length table.calls ≡ table.settings.tasks
   pub notes : length table.notes ≡ table.settings.tasks * table.settings.notes
   pub holders : length table.holders ≡ table.settings.mutexes
+  pub queues : length table.queues ≡ queue_total table.settings
   pub rows : length table.orders.rows ≡ table.settings.tasks
   pub deadlines : length table.orders.deadlines ≡ table.settings.tasks
   pub values : length table.orders.values ≡ list_values table.settings
@@ -65,10 +66,10 @@ pub record HasCurrentTasks (control : Control) (stamps : Stamps) : Type 0 where
 abbrev pub IsWait : Option ℕ → Type 0
 IsWait ticks = IfSome ticks (λ ticks. (0 < ticks) × (ticks < 2 ^ 32))
 
--- a wait for a mutex is for at most 4294967294 ticks, or without end (FreeRTOS Reference Manual,
--- xSemaphoreTake, portMAX_DELAY)
-abbrev pub IsMutexTime : Option ℕ → Type 0
-IsMutexTime ticks = IfSome ticks (λ ticks. suc ticks < 2 ^ 32)
+-- a wait for an event is for at most 4294967294 ticks, or without end (FreeRTOS Reference Manual,
+-- xSemaphoreTake and xQueueReceive, portMAX_DELAY)
+abbrev pub IsEventTime : Option ℕ → Type 0
+IsEventTime ticks = IfSome ticks (λ ticks. suc ticks < 2 ^ 32)
 
 -- a blocked task is woken after 1 to 4294967295 ticks, or waits without end
 abbrev pub WakesInTime : Stamps → Type 0
@@ -87,49 +88,54 @@ pub record IsControlBlock (settings : Settings) (task : TaskControl) : Type 0 wh
 abbrev pub HasWords : List Notification → Type 0
 HasWords notes = (i : ℕ) → i < length notes → (note_at notes i).value < 2 ^ 32
 
--- a wait is for a mutex that there is, with a priority that there is
-abbrev pub IsMutexWait : Settings → MutexWait → Type 0
-IsMutexWait settings wait = (wait.mutex < settings.mutexes) × (wait.priority < settings.priorities)
+-- a wait is in an event list that there is, with a priority that there is
+abbrev pub IsEventWait : Settings → EventWait → Type 0
+IsEventWait settings wait =
+    (wait.list < event_lists settings) × (wait.priority < settings.priorities)
 
 -- a waiter is a blocked task
 abbrev pub IsWaiter : Settings → Stamps → Waiter → Type 0
 IsWaiter settings stamps waiter =
     (waiter.task < length stamps.rows) × (is_ready waiter.task stamps ≡ false)
-    × IsMutexWait settings waiter.wait
+    × IsEventWait settings waiter.wait
 
--- the mutex that an unfinished call takes
-abbrev pub mutex_taken : Option Unfinished → Option ℕ
-mutex_taken (Some (Take mutex mark)) = Some mutex
-mutex_taken unfinished = None
+-- the event list in which the task of an unfinished call waits
+abbrev pub list_of_call : Settings → Option Unfinished → Option ℕ
+list_of_call settings (Some (Take mutex mark)) = Some mutex
+list_of_call settings (Some (Transfer queue direction)) =
+    Some (event_list settings direction queue)
+list_of_call settings unfinished = None
 
--- a blocked task waits for the mutex that its unfinished call takes, or for none
-abbrev pub WaitForTheirCalls : List (Option Unfinished) → Stamps → Type 0
-WaitForTheirCalls calls stamps =
+-- a blocked task waits in the event list of its unfinished call, or in none
+abbrev pub WaitForTheirCalls : Settings → List (Option Unfinished) → Stamps → Type 0
+WaitForTheirCalls settings calls stamps =
     (i : ℕ) → i < length stamps.rows → is_ready i stamps ≡ false
-    → mutex_awaited i stamps.waiters ≡ mutex_taken (call_at calls i)
+    → list_awaited i stamps.waiters ≡ list_of_call settings (call_at calls i)
 
--- what is kept of mutexes: tasks hold them, tasks wait for them, each at one place, and are served
--- in turn where there are no list values, which are priorities that there are, and a deadline is
--- that of an unfinished wait, at most 4294967294 ticks ahead, since a wait for 4294967295 has none
+-- what is kept of mutexes and event lists: tasks hold mutexes, tasks wait, each in one list, and
+-- are served in turn where there are no list values, which are priorities that there are, and a
+-- deadline is that of an unfinished wait, at most 4294967294 ticks ahead, since a wait for
+-- 4294967295 has none
 pub record HasMutexes (settings : Settings) (calls : List (Option Unfinished))
     (holders : List (Option ℕ)) (stamps : Stamps) : Type 0 where
   pub held_by_tasks : (mutex task : ℕ) → holder_at holders mutex ≡ Some task → task < settings.tasks
   pub waits : AllByRecursion (IsWaiter settings stamps) stamps.waiters
   pub once : WaitOnce stamps.waiters
-  pub by_mutex : AreByMutex stamps.waiters
-  pub awaited : WaitForTheirCalls calls stamps
+  pub by_list : AreByList stamps.waiters
+  pub awaited : WaitForTheirCalls settings calls stamps
   pub turns : stamps.values ≡ [] → AreInTurn stamps stamps.waiters
   pub values : All (λ value. value < settings.priorities) stamps.values
   pub deadlines :
       (i deadline : ℕ) → deadline_at stamps i ≡ Some deadline
-      → (suc deadline < stamps.tick + 2 ^ 32) × (is_some (mutex_taken (call_at calls i)) ≡ true)
+      → (suc deadline < stamps.tick + 2 ^ 32)
+      × (is_some (list_of_call settings (call_at calls i)) ≡ true)
 
--- a task that makes this call waits so: for the mutex that the call takes, and for no longer than a
--- wait for a mutex may be
-abbrev pub IsWaitOf : Unfinished → Option ℕ → Option MutexWait → Type 0
-IsWaitOf call ticks wait =
-    (option_map (λ (wait : MutexWait). wait.mutex) wait ≡ mutex_taken (Some call))
-    × (is_some wait ≡ true → IsMutexTime ticks)
+-- a task that makes this call waits so: in the event list of the call, and for no longer than a
+-- wait for an event may be
+abbrev pub IsWaitOf : Settings → Unfinished → Option ℕ → Option EventWait → Type 0
+IsWaitOf settings call ticks wait =
+    (option_map (λ (wait : EventWait). wait.list) wait ≡ list_of_call settings (Some call))
+    × (is_some wait ≡ true → IsEventTime ticks)
 
 -- all of it that says nothing of a hold
 pub record IsConsistent (table : Table) : Type 0 where
@@ -171,4 +177,6 @@ StepFits table (Switch core) = core < length table.control.cores
 StepFits table (Interrupt core note) =
     (core < length table.control.cores) × (note.task < table.settings.tasks)
     × (note.index < table.settings.notes)
+StepFits table (QueueInterrupt core queue direction) =
+    (core < length table.control.cores) × (queue < queue_total table.settings)
 StepFits table (steps.Call core task call) = IsCaller table core task

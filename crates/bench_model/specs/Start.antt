@@ -1,9 +1,11 @@
 -- The start of a kernel (V11 tasks.c, vTaskStartScheduler).
-use Rattle.std.specs.Prelude.{ℕ, ◌+◌, ◌-◌, ◌*◌, ◌%◌, ◌^◌, [], ◌++◌, List, length, map, fold, replicate, false, true, None, is_some, if◌then◌else◌}
+use Rattle.std.specs.Prelude.{ℕ, ◌+◌, ◌-◌, ◌*◌, ◌%◌, ◌^◌, [], ◌++◌, List, length, map, fold, replicate, false, true, None, is_some, unwrap_or, if◌then◌else◌}
 use Rattle.std.specs.List.{range_with_len}
 use Rattle.bench_types.specs.declared.header.Header.{Header}
+use Rattle.bench_types.specs.declared.header.QueueArgs.{QueueArgs}
 use Rattle.bench_types.specs.declared.header.TaskArgs.{TaskArgs}
 use Rattle.bench_types.specs.declared.kernel_data.CoreLook.{CoreLook}
+use Rattle.bench_types.specs.declared.kernel_data.QueueLook.{QueueLook}
 use Rattle.bench_types.specs.declared.kernel_data.TaskControl.{TaskControl}
 use Rattle.bench_types.specs.Header.{cores_of_mask}
 use Rattle.bench_types.specs.Step.{settings_of}
@@ -45,6 +47,14 @@ abbrev pub first_values : Header → List ℕ
 first_values header =
     if is_some header.queues then map (λ block. block.base) (first_control header).tasks else []
 
+-- a queue as it was created (FreeRTOS Reference Manual, xQueueCreate and
+-- xSemaphoreCreateCounting)
+abbrev pub first_queue : QueueArgs → QueueLook
+first_queue args = record { length = args.length; messages = args.messages }
+
+abbrev pub first_queues : Header → List QueueLook
+first_queues header = map first_queue (unwrap_or header.queues [])
+
 -- all tasks are ready: the user tasks in header order, the idle tasks after them
 abbrev pub ready_row : ℕ → TaskRow
 ready_row stamp = record { stamp = stamp; standing = Ready }
@@ -80,6 +90,7 @@ module _ {Orders : Type 0} where
     notes =
         replicate ((header.config.cores + length header.tasks) * header.config.notes) no_note;
     holders = replicate header.config.mutexes None;
+    queues = first_queues header;
     hold = None;
     orders = orders;
   }

@@ -2,7 +2,8 @@
 -- way or another: as stamps and wakes (Table), or as lists (Lists).
 use Rattle.std.specs.Prelude.{ℕ, List, Bool, Option, Some, None, unwrap_or, if◌then◌else◌, slice_index_or, slice_set}
 use Rattle.bench_types.specs.declared.kernel_data.Hold.{Hold}
-use Rattle.bench_types.specs.declared.kernel_data.MutexWait.{MutexWait}
+use Rattle.bench_types.specs.declared.kernel_data.EventWait.{EventWait}
+use Rattle.bench_types.specs.declared.kernel_data.QueueLook.{QueueLook}
 use Rattle.bench_types.specs.declared.kernel_data.Settings.{Settings}
 use Rattle.bench_types.specs.declared.kernel_data.Waiter.{Waiter}
 use Rattle.bench_types.specs.declared.note.Notification.{Notification}
@@ -18,6 +19,8 @@ pub record State (Orders : Type 0) : Type 0 where
   pub notes : List Notification
   -- per mutex the task that holds it, if there is one
   pub holders : List (Option ℕ)
+  -- per queue how many messages it has
+  pub queues : List QueueLook
   -- the open hold, if there is one
   pub hold : Option Hold
   -- which tasks are ready and which wait, how long, and in which order
@@ -30,21 +33,21 @@ pub record QueueOps (Orders : Type 0) : Type 0 where
   pub pick : Control → ℕ → Orders → Option ℕ
   -- the task waits no more and goes to the end of the ready list of its priority
   pub add_to_ready_list : Control → ℕ → Orders → Orders
-  -- the task leaves the ready lists and waits, for so many ticks or without end, at a mutex or at
-  -- none
-  pub delay : ℕ → Option ℕ → Option MutexWait → Orders → Orders
+  -- the task leaves the ready lists and waits, for so many ticks or without end, in an event list
+  -- or in none
+  pub delay : ℕ → Option ℕ → Option EventWait → Orders → Orders
   -- the tick count, as a number of 32 bits
   pub tick_count : Orders → ℕ
   -- one tick more, and the tasks that have waited long enough then, in the order in which they
   -- began to wait
   pub advance : Orders → Orders
   pub due : Orders → List ℕ
-  -- of the tasks that wait for the mutex the first
+  -- of the tasks that wait in the event list the first
   pub first_waiter : ℕ → Orders → Option Waiter
-  -- the ticks that are left to the end of the task's unfinished wait for a mutex, none where it has
-  -- no end
+  -- the ticks that are left to the end of the task's unfinished wait for an event, none where it
+  -- has no end
   pub deadline_left : ℕ → Orders → Option ℕ
-  -- the task's wait for a mutex is over
+  -- the task's wait for an event is over
   pub forget_deadline : ℕ → Orders → Orders
   -- the list value of the task, none where the session has no list values
   pub list_value : ℕ → Orders → Option ℕ
@@ -82,10 +85,10 @@ module _ {Orders : Type 0} (ops : QueueOps Orders) where
   unfoldable pub yielded : ℕ → State Orders → State Orders
   yielded core state = record state { control = ask core core state.control }
 
-  -- The task waits in its call, for so many ticks or without end, at a mutex or at none, and its
-  -- core asks itself to switch (V11 tasks.c, prvAddCurrentTaskToDelayedList).
+  -- The task waits in its call, for so many ticks or without end, in an event list or in none, and
+  -- its core asks itself to switch (V11 tasks.c, prvAddCurrentTaskToDelayedList).
   unfoldable pub blocked :
-      ℕ → ℕ → Unfinished → Option ℕ → Option MutexWait → State Orders → State Orders
+      ℕ → ℕ → Unfinished → Option ℕ → Option EventWait → State Orders → State Orders
   blocked core task call ticks wait state = record state {
     control = ask core core state.control;
     calls = slice_set state.calls task (Some call);

@@ -4,15 +4,17 @@ use Rattle.std.specs.Option.{option_map_or}
 use Rattle.bench_types.specs.declared.reply.Reply.{Reply}
 use Rattle.bench_types.specs.declared.reply.Reply.TheVariants.{Done, Blocked, Flag, Until, Refused}
 use Rattle.bench_types.specs.declared.step.Step.{Step}
-use Rattle.bench_types.specs.declared.step.Step.TheVariants.{Tick, Switch, Interrupt}
+use Rattle.bench_types.specs.declared.step.Step.TheVariants.{Tick, Switch, Interrupt, QueueInterrupt}
 use Rattle.bench_types.specs.declared.step.Step.TheVariants as steps
 use Rattle.bench_types.specs.declared.step.BlockingCall.TheVariants as blocking
 use Rattle.bench_types.specs.declared.step.Unfinished.{Unfinished}
-use Rattle.bench_types.specs.declared.step.Unfinished.TheVariants.{Made, Take}
+use Rattle.bench_types.specs.declared.step.Unfinished.TheVariants.{Made, Take, Transfer}
 use Rattle.bench_types.specs.declared.step.Call.{Call}
 use Rattle.bench_types.specs.declared.step.Call.TheVariants.{Yield, Delay, DelayUntil, Finish, PrioritySet, AffinitySet, PreemptOff, PreemptOn, Notify}
-use Rattle.bench_types.specs.declared.step.Call.TheVariants.{NotifyWait, NotifyTake, StateClear, ValueClear, MutexTake, MutexGive, HoldOpen, HoldClose}
+use Rattle.bench_types.specs.declared.step.Call.TheVariants.{NotifyWait, NotifyTake, StateClear, ValueClear, MutexTake, MutexGive, QueueSend, QueueReceive, HoldOpen, HoldClose}
+use Rattle.bench_types.specs.declared.step.Direction.TheVariants.{Send, Receive}
 use Rattle.bench_model.specs.Holds.{hold_opened, hold_closed}
+use Rattle.bench_model.specs.Queues.{queue_called, queue_finished, queue_interrupted}
 use Rattle.bench_model.specs.Refusals.{refusal}
 use Rattle.bench_model.specs.State.{State, QueueOps, after_return, call_at, yielded, blocked}
 use Rattle.bench_model.specs.Until.{next_wake, is_ahead, ticks_to}
@@ -38,6 +40,8 @@ module _ {Orders : Type 0} (ops : QueueOps Orders) where
   unfoldable pub after_finish : ℕ → ℕ → Unfinished → State Orders → Reply × State Orders
   after_finish core task (Made call) state = completed task call (after_return ops task state)
   after_finish core task (Take mutex mark) state = take_finished ops core task mutex mark state
+  after_finish core task (Transfer queue direction) state =
+      queue_finished ops core task direction queue state
 
   -- The task waits until its next wake, or where that has passed only asks its core to switch (V11
   -- tasks.c, xTaskDelayUntil).
@@ -81,6 +85,10 @@ module _ {Orders : Type 0} (ops : QueueOps Orders) where
   called core task (ValueClear other bits index) state = bits_cleared other bits index state
   called core task (MutexTake mutex ticks) state = mutex_take ops core task mutex ticks state
   called core task (MutexGive mutex) state = mutex_give ops core task mutex state
+  called core task (QueueSend queue ticks) state =
+      queue_called ops core task Send queue ticks state
+  called core task (QueueReceive queue ticks) state =
+      queue_called ops core task Receive queue ticks state
   called core task HoldOpen state = (Done, hold_opened core state)
   called core task HoldClose state = (Done, hold_closed core state)
 
@@ -90,6 +98,8 @@ module _ {Orders : Type 0} (ops : QueueOps Orders) where
   performed (Switch core) state = (Done, after_switch ops core state)
   performed (steps.Call core task call) state = called core task call state
   performed (Interrupt core note) state = interrupted ops core note state
+  performed (QueueInterrupt core queue direction) state =
+      queue_interrupted ops core direction queue state
 
   -- The step: its reply and the state afterwards. A refused step changes nothing.
   unfoldable pub after : Step → State Orders → Reply × State Orders

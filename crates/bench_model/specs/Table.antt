@@ -3,7 +3,7 @@
 use Rattle.std.specs.Prelude.{ℕ, suc, ◌+◌, ◌-◌, ◌%◌, ◌^◌, List, length, Bool, true, false, ◌&&◌, ◌||◌, ◌==◌, nat_lt, nat_le, Option, None, option_map, is_some}
 use Rattle.std.specs.Prelude.{if◌then◌else◌, slice_index_or, slice_set}
 use Rattle.std.specs.Option.{option_map_or}
-use Rattle.bench_types.specs.declared.kernel_data.MutexWait.{MutexWait}
+use Rattle.bench_types.specs.declared.kernel_data.EventWait.{EventWait}
 use Rattle.bench_types.specs.declared.kernel_data.Waiter.{Waiter}
 use Rattle.bench_model.specs.declared.row.TaskRow.{TaskRow}
 use Rattle.bench_model.specs.declared.row.TaskState.{TaskState}
@@ -16,10 +16,10 @@ use Rattle.list_orders.specs.Search.{numbers, best, by_stamp}
 pub record Stamps : Type 0 where
   -- per task its stamp and, where it waits for some ticks, its wake
   pub rows : List TaskRow
-  -- the tasks that wait for mutexes, in the order in which they are served
+  -- the tasks that wait in event lists, in the order in which they are served
   pub waiters : List Waiter
-  -- per task the tick count at which its unfinished wait for a mutex is to end, none where there is
-  -- none or it has no end
+  -- per task the tick count at which its unfinished wait for an event is to end, none where there
+  -- is none or it has no end
   pub deadlines : List (Option ℕ)
   -- per task its list value; empty where the session has none
   pub values : List ℕ
@@ -89,15 +89,15 @@ ahead stamps ticks = option_map (λ ticks. stamps.tick + ticks) ticks
 abbrev pub deadline_at : Stamps → ℕ → Option ℕ
 deadline_at stamps task = slice_index_or stamps.deadlines task None
 
--- the deadline of the task's wait for a mutex
+-- the deadline of the task's wait for an event
 abbrev pub with_deadline : ℕ → Option ℕ → Stamps → Stamps
 with_deadline task deadline stamps =
     record stamps { deadlines = slice_set stamps.deadlines task deadline }
 
--- Waiting for so many ticks from now, or without end; at a mutex, or at none (V11 tasks.c,
--- prvAddCurrentTaskToDelayedList). A wait for a mutex is to end when its ticks have run out, also
+-- Waiting for so many ticks from now, or without end; in an event list, or in none (V11 tasks.c,
+-- prvAddCurrentTaskToDelayedList). A wait for an event is to end when its ticks have run out, also
 -- where the task waits in several turns.
-unfoldable pub delay : ℕ → Option ℕ → Option MutexWait → Stamps → Stamps
+unfoldable pub delay : ℕ → Option ℕ → Option EventWait → Stamps → Stamps
 delay task ticks wait stamps =
     with_deadline task (if is_some wait then ahead stamps ticks else None)
     (restamped task (Blocked (ahead stamps ticks))
@@ -108,13 +108,13 @@ unfoldable pub deadline_left : ℕ → Stamps → Option ℕ
 deadline_left task stamps =
     option_map (λ deadline. deadline - stamps.tick) (deadline_at stamps task)
 
--- the task waits for no mutex any more
+-- the task waits for no event any more
 unfoldable pub forget_deadline : ℕ → Stamps → Stamps
 forget_deadline task stamps = with_deadline task None stamps
 
--- the first waiter of a mutex
+-- the first waiter of an event list
 unfoldable pub first_waiter : ℕ → Stamps → Option Waiter
-first_waiter mutex stamps = first_of mutex stamps.waiters
+first_waiter list stamps = first_of list stamps.waiters
 
 abbrev pub tick_count : Stamps → ℕ
 tick_count stamps = stamps.tick % 2 ^ 32

@@ -1,4 +1,4 @@
--- The turn in which the waiters of a mutex are served.
+-- The turn in which the waiters of an event list are served.
 use Rattle.std.specs.Prelude.{◌≡◌, ◌≢◌, ◌≤◌, ℕ, List, [], ◌∷◌, Bool, true, ◌&&◌, ◌||◌, ◌==◌, nat_lt}
 use Rattle.std.specs.List.{AllByRecursion}
 use Rattle.bench_types.specs.declared.kernel_data.Waiter.{Waiter}
@@ -12,9 +12,9 @@ is_served_before stamps a b =
     || (a.wait.priority == b.wait.priority
     && nat_lt (stamp_of stamps a.task) (stamp_of stamps b.task))
 
--- the same, where both wait for one mutex
+-- the same, where both wait in one list
 abbrev pub IsServedBefore : Stamps → Waiter → Waiter → Type 0
-IsServedBefore stamps a b = a.wait.mutex ≡ b.wait.mutex → is_served_before stamps a b ≡ true
+IsServedBefore stamps a b = a.wait.list ≡ b.wait.list → is_served_before stamps a b ≡ true
 
 -- no task stands twice among the waiters
 abbrev pub WaitOnce : List Waiter → Type 0
@@ -22,22 +22,22 @@ WaitOnce [] = Unit {0}
 WaitOnce (waiter ∷ waiters) =
     AllByRecursion (λ (other : Waiter). other.task ≢ waiter.task) waiters × WaitOnce waiters
 
--- the waiters of a mutex stand in front of those of greater ones
-abbrev pub AreByMutex : List Waiter → Type 0
-AreByMutex [] = Unit {0}
-AreByMutex (waiter ∷ waiters) =
-    AllByRecursion (λ (other : Waiter). waiter.wait.mutex ≤ other.wait.mutex) waiters
-    × AreByMutex waiters
+-- the waiters of an event list stand in front of those of greater ones
+abbrev pub AreByList : List Waiter → Type 0
+AreByList [] = Unit {0}
+AreByList (waiter ∷ waiters) =
+    AllByRecursion (λ (other : Waiter). waiter.wait.list ≤ other.wait.list) waiters
+    × AreByList waiters
 
--- each waiter stands in front of those of its mutex that are served after it
+-- each waiter stands in front of those of its list that are served after it
 abbrev pub AreInTurn : Stamps → List Waiter → Type 0
 AreInTurn stamps [] = Unit {0}
 AreInTurn stamps (waiter ∷ waiters) =
     AllByRecursion (IsServedBefore stamps waiter) waiters × AreInTurn stamps waiters
 
--- it waits for the mutex, and is served before all others that do
+-- it waits in the list, and is served before all others that do
 abbrev pub IsServedFirst : Stamps → ℕ → List Waiter → Waiter → Type 0
-IsServedFirst stamps mutex waiters waiter =
-    (waiter.wait.mutex ≡ mutex)
-    × AllByRecursion (λ other. other ≢ waiter → other.wait.mutex ≡ mutex
+IsServedFirst stamps list waiters waiter =
+    (waiter.wait.list ≡ list)
+    × AllByRecursion (λ other. other ≢ waiter → other.wait.list ≡ list
     → is_served_before stamps waiter other ≡ true) waiters

@@ -3,6 +3,7 @@
 #![tactic(auto)]
 
 pub mod notes;
+pub mod queues;
 mod row;
 pub mod until;
 

@@ -23,7 +23,7 @@ use Rattle.bench_types.specs.Header.{header_check, is_header, has_valid_numbers,
 use Rattle.bench_types.specs.Limits.{min_cores, max_cores, max_priorities, max_tasks, max_messages, max_mutexes, max_notes, max_queues}
 use Rattle.bench_types.specs.Mask.{cores_of_mask}
 use Rattle.bench_types.specs.Name.{is_name, is_within}
-use Rattle.bench_types.specs.Step.{core_check, index_check, note_check, task_check, mutex_check, ◌>>◌}
+use Rattle.bench_types.specs.Step.{core_check, index_check, note_check, task_check, mutex_check, queue_check, queue_total, ◌>>◌}
 use Rattle.bench_types.proofs.Positions.{passes_none, none_found, none_there}
 use Rattle.bench_types.proofs.Repeats.{repeats_name, once_single, single_once}
 
@@ -53,6 +53,13 @@ pub checked_mutex : (settings : Settings) (mutex : ℕ) → mutex_check settings
 checked_mutex settings mutex passes = at (ltb mutex settings.mutexes) refl
   where
     at : (b : Bool) → ltb mutex settings.mutexes ≡ b → mutex < settings.mutexes
+    at true below = grind (arith, nat_tests, below)
+    at false above = absurd (cc (passes, above))
+
+pub checked_queue : (settings : Settings) (queue : ℕ) → queue_check settings queue ≡ Ok tt → queue < queue_total settings
+checked_queue settings queue passes = at (ltb queue (queue_total settings)) refl
+  where
+    at : (b : Bool) → ltb queue (queue_total settings) ≡ b → queue < queue_total settings
     at true below = grind (arith, nat_tests, below)
     at false above = absurd (cc (passes, above))
 

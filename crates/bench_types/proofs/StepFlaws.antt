@@ -16,13 +16,13 @@ use Rattle.bench_types.specs.declared.step.Call.TheVariants as call
 use Rattle.bench_types.specs.declared.step.Step.{Step}
 use Rattle.bench_types.specs.declared.step.Step.TheVariants as step
 use Rattle.bench_types.specs.declared.step_flaw.StepFlaw.{StepFlaw}
-use Rattle.bench_types.specs.declared.step_flaw.StepFlaw.TheVariants.{Core, TickCore, Task, Mutex, Mask, Increment, Index, NewPriority, NewMask}
+use Rattle.bench_types.specs.declared.step_flaw.StepFlaw.TheVariants.{Core, TickCore, Task, Mutex, Queue, Mask, Increment, Index, NewPriority, NewMask}
 use Rattle.bench_types.specs.CoreAction.{core_action_check}
 use Rattle.bench_types.specs.Edit.{edit_check, numbers_check}
 use Rattle.bench_types.specs.Mask.{cores_of_mask}
-use Rattle.bench_types.specs.Step.{settings_of, core_check, task_check, mutex_check, mask_check, index_check, increment_check, note_check, call_check}
+use Rattle.bench_types.specs.Step.{settings_of, queue_total, core_check, task_check, mutex_check, queue_check, mask_check, index_check, increment_check, note_check, call_check}
 use Rattle.bench_types.specs.Step.{step_check, ◌>>◌}
-use Rattle.bench_types.specs.StepFlaw.{flaw_fault, check_of, core_flaw, task_flaw, mutex_flaw, mask_flaw, index_flaw, increment_flaw, note_flaw, call_flaw}
+use Rattle.bench_types.specs.StepFlaw.{flaw_fault, check_of, core_flaw, task_flaw, mutex_flaw, queue_flaw, mask_flaw, index_flaw, increment_flaw, note_flaw, call_flaw}
 use Rattle.bench_types.specs.StepFlaw.{step_flaw, core_action_flaw, numbers_flaw, edit_flaw}
 
 -- a flaw where the test fails
@@ -52,6 +52,9 @@ module _ (s : Settings) where
 
   mutex_check_of : (mutex : ℕ) → mutex_check s mutex ≡ check_of (mutex_flaw s mutex)
   mutex_check_of mutex = one (ltb mutex s.mutexes) (Mutex mutex s.mutexes)
+
+  queue_check_of : (queue : ℕ) → queue_check s queue ≡ check_of (queue_flaw s queue)
+  queue_check_of queue = one (ltb queue (queue_total s)) (Queue queue (queue_total s))
 
   mask_check_of : (mask : ℕ) → mask_check s mask ≡ check_of (mask_flaw s mask)
   mask_check_of mask = one (ltb 0 (cores_of_mask s.cores mask)) (Mask mask s.cores)
@@ -87,6 +90,8 @@ module _ (s : Settings) where
       (index_check_of index)
   call_check_of (call.MutexTake mutex ticks) = mutex_check_of mutex
   call_check_of (call.MutexGive mutex) = mutex_check_of mutex
+  call_check_of (call.QueueSend queue ticks) = queue_check_of queue
+  call_check_of (call.QueueReceive queue ticks) = queue_check_of queue
 
   pub step_check_of : (made : Step) → step_check s made ≡ check_of (step_flaw s made)
   step_check_of step.Tick = refl
@@ -96,10 +101,13 @@ module _ (s : Settings) where
       (then (core_check s core) (task_check s task) (core_flaw s core) (task_flaw s task) (core_check_of core) (task_check_of task)) (call_check_of made)
   step_check_of (step.Interrupt core note) = then (core_check s core) (note_check s note) (core_flaw s core) (note_flaw s note) (core_check_of core)
       (note_check_of note)
+  step_check_of (step.QueueInterrupt core queue direction) = then (core_check s core) (queue_check s queue) (core_flaw s core) (queue_flaw s queue)
+      (core_check_of core) (queue_check_of queue)
 
   pub core_action_check_of : (core : ℕ) (made : CoreAction) → core_action_check s core made ≡ check_of (core_action_flaw s core made)
   core_action_check_of core (core_action.Call made) = call_check_of made
   core_action_check_of core (core_action.Interrupt note) = note_check_of note
+  core_action_check_of core (core_action.QueueInterrupt queue direction) = queue_check_of queue
   core_action_check_of core core_action.Tick = one (core == 0) (TickCore core)
   core_action_check_of core core_action.Switch = refl
 

@@ -5,12 +5,14 @@ use Rattle.bench_types.specs.declared.core_action.CoreAction.TheVariants as core
 use Rattle.bench_types.specs.declared.fault.Fault.{Fault}
 use Rattle.bench_types.specs.declared.fault.Fault.TheVariants.{BadCore}
 use Rattle.bench_types.specs.declared.kernel_data.Settings.{Settings}
-use Rattle.bench_types.specs.Step.{call_check, note_check, IsNotifyActionOfWord, IsOfWords}
+use Rattle.bench_types.specs.Step.{call_check, note_check, queue_check, IsNotifyActionOfWord, IsOfWords}
 
 -- the fault of what the core would do: F2 for a tick of another core than 0
 abbrev pub core_action_check : Settings → ℕ → CoreAction → Result ⊤ Fault
 core_action_check settings core (core_actions.Call call) = call_check settings call
 core_action_check settings core (core_actions.Interrupt note) = note_check settings note
+core_action_check settings core (core_actions.QueueInterrupt queue direction) =
+    queue_check settings queue
 core_action_check settings core core_actions.Tick = if core == 0 then Ok tt else Err BadCore
 core_action_check settings core core_actions.Switch = Ok tt
 
@@ -18,6 +20,7 @@ core_action_check settings core core_actions.Switch = Ok tt
 abbrev pub IsCoreActionOfWords : CoreAction → Type 0
 IsCoreActionOfWords (core_actions.Call call) = IsOfWords call
 IsCoreActionOfWords (core_actions.Interrupt note) = IsNotifyActionOfWord note.action
+IsCoreActionOfWords (core_actions.QueueInterrupt queue direction) = ⊤
 IsCoreActionOfWords core_actions.Tick = ⊤
 IsCoreActionOfWords core_actions.Switch = ⊤
 

@@ -1,5 +1,5 @@
 -- Which steps a session of a header may have.
-use Rattle.std.specs.Prelude.{◌≡◌, ℕ, ◌+◌, ◌^◌, ◌<◌, ◌==◌, length, nat_lt, nat_le, ◌&&◌, Result, Ok, Err, if◌then◌else◌, ⊤}
+use Rattle.std.specs.Prelude.{◌≡◌, ℕ, ◌+◌, ◌^◌, ◌<◌, ◌==◌, length, nat_lt, nat_le, ◌&&◌, Result, Ok, Err, unwrap_or, if◌then◌else◌, ⊤}
 use Rattle.bench_types.specs.declared.fault.Fault.{Fault}
 use Rattle.bench_types.specs.declared.fault.Fault.TheVariants.{BadCore, BadTask, BadMutex, BadArgument}
 use Rattle.bench_types.specs.Header.{cores_of_mask, queue_count}
@@ -23,6 +23,7 @@ core_of step.Tick = 0
 core_of (step.Switch core) = core
 core_of (step.Call core task call) = core
 core_of (step.Interrupt core note) = core
+core_of (step.QueueInterrupt core queue direction) = core
 
 -- what a kernel keeps of its header's settings; the number of tasks counts the idle tasks too
 abbrev pub settings_of : Header → Settings
@@ -48,6 +49,14 @@ task_check settings task =
 -- F4: there is no such mutex
 abbrev pub mutex_check : Settings → ℕ → Result ⊤ Fault
 mutex_check settings mutex = if nat_lt mutex settings.mutexes then Ok tt else Err BadMutex
+
+-- how many queues there are; a session that says nothing of queues has none
+abbrev pub queue_total : Settings → ℕ
+queue_total settings = unwrap_or settings.queues 0
+
+-- F4: there is no such queue
+abbrev pub queue_check : Settings → ℕ → Result ⊤ Fault
+queue_check settings queue = if nat_lt queue (queue_total settings) then Ok tt else Err BadMutex
 
 -- F5: the mask allows no core
 abbrev pub mask_check : Settings → ℕ → Result ⊤ Fault
@@ -95,6 +104,8 @@ call_check settings (call.ValueClear task bits index) =
     task_check settings task >> index_check settings index
 call_check settings (call.MutexTake mutex ticks) = mutex_check settings mutex
 call_check settings (call.MutexGive mutex) = mutex_check settings mutex
+call_check settings (call.QueueSend queue ticks) = queue_check settings queue
+call_check settings (call.QueueReceive queue ticks) = queue_check settings queue
 
 -- the faults of a step, in the order in which they are tried
 abbrev pub step_check : Settings → Step → Result ⊤ Fault
@@ -104,6 +115,8 @@ step_check settings (step.Call core task call) =
     core_check settings core >> task_check settings task >> call_check settings call
 step_check settings (step.Interrupt core note) =
     core_check settings core >> note_check settings note
+step_check settings (step.QueueInterrupt core queue direction) =
+    core_check settings core >> queue_check settings queue
 
 -- the number of an action is one of 32 bits
 abbrev pub IsNotifyActionOfWord : NotifyAction → Type 0
@@ -133,12 +146,15 @@ IsOfWords (call.StateClear task index) = ⊤
 IsOfWords (call.ValueClear task bits index) = bits < 2 ^ 32
 IsOfWords (call.MutexTake mutex ticks) = ticks < 2 ^ 32
 IsOfWords (call.MutexGive mutex) = ⊤
+IsOfWords (call.QueueSend queue ticks) = ticks < 2 ^ 32
+IsOfWords (call.QueueReceive queue ticks) = ticks < 2 ^ 32
 
 abbrev pub IsStepOfWords : Step → Type 0
 IsStepOfWords step.Tick = ⊤
 IsStepOfWords (step.Switch core) = core < 2 ^ 32
 IsStepOfWords (step.Call core task call) = IsOfWords call
 IsStepOfWords (step.Interrupt core note) = IsNotifyActionOfWord note.action
+IsStepOfWords (step.QueueInterrupt core queue direction) = ⊤
 
 -- a call and a step that were checked against the settings
 pub record IsCheckedCall (settings : Settings) (call : Call) : Type 0 where
@@ -155,6 +171,7 @@ as_call (blocking.NotifyTake clear ticks index) = call.NotifyTake clear ticks in
 abbrev pub IsCheckedUnfinished : Settings → Unfinished → Type 0
 IsCheckedUnfinished settings (unfinished.Made call) = IsCheckedCall settings (as_call call)
 IsCheckedUnfinished settings (unfinished.Take mutex mark) = mutex < settings.mutexes
+IsCheckedUnfinished settings (unfinished.Transfer queue direction) = queue < queue_total settings
 
 pub record IsCheckedStep (settings : Settings) (step : Step) : Type 0 where
   pub passes : step_check settings step ≡ Ok tt

@@ -17,9 +17,9 @@ use Rattle.bench_types.specs.declared.step.Call.TheVariants as call
 use Rattle.bench_types.specs.declared.step.Step.{Step}
 use Rattle.bench_types.specs.declared.step.Step.TheVariants as step
 use Rattle.bench_types.specs.declared.step_flaw.StepFlaw.{StepFlaw}
-use Rattle.bench_types.specs.declared.step_flaw.StepFlaw.TheVariants.{Core, TickCore, Task, Mutex, Mask, Increment, Index, NewPriority, NewMask}
+use Rattle.bench_types.specs.declared.step_flaw.StepFlaw.TheVariants.{Core, TickCore, Task, Mutex, Queue, Mask, Increment, Index, NewPriority, NewMask}
 use Rattle.bench_types.specs.Mask.{cores_of_mask}
-use Rattle.bench_types.specs.Step.{settings_of}
+use Rattle.bench_types.specs.Step.{queue_total, settings_of}
 
 -- the fault that it is
 abbrev pub flaw_fault : StepFlaw → Fault
@@ -27,6 +27,7 @@ flaw_fault (Core core cores) = BadCore
 flaw_fault (TickCore core) = BadCore
 flaw_fault (Task task) = BadTask
 flaw_fault (Mutex mutex mutexes) = BadMutex
+flaw_fault (Queue queue queues) = BadMutex
 flaw_fault (Mask mask cores) = BadArgument
 flaw_fault Increment = BadArgument
 flaw_fault (Index index notes) = BadArgument
@@ -49,6 +50,10 @@ task_flaw settings task =
 abbrev pub mutex_flaw : Settings → ℕ → Option StepFlaw
 mutex_flaw settings mutex =
     if nat_lt mutex settings.mutexes then None else Some (Mutex mutex settings.mutexes)
+
+abbrev pub queue_flaw : Settings → ℕ → Option StepFlaw
+queue_flaw settings queue =
+    if nat_lt queue (queue_total settings) then None else Some (Queue queue (queue_total settings))
 
 abbrev pub mask_flaw : Settings → ℕ → Option StepFlaw
 mask_flaw settings mask =
@@ -86,6 +91,8 @@ call_flaw settings (call.ValueClear task bits index) =
     option_or (task_flaw settings task) (index_flaw settings index)
 call_flaw settings (call.MutexTake mutex ticks) = mutex_flaw settings mutex
 call_flaw settings (call.MutexGive mutex) = mutex_flaw settings mutex
+call_flaw settings (call.QueueSend queue ticks) = queue_flaw settings queue
+call_flaw settings (call.QueueReceive queue ticks) = queue_flaw settings queue
 
 -- the first flaw of a step
 abbrev pub step_flaw : Settings → Step → Option StepFlaw
@@ -96,11 +103,15 @@ step_flaw settings (step.Call core task call) =
     (call_flaw settings call)
 step_flaw settings (step.Interrupt core note) =
     option_or (core_flaw settings core) (note_flaw settings note)
+step_flaw settings (step.QueueInterrupt core queue direction) =
+    option_or (core_flaw settings core) (queue_flaw settings queue)
 
 -- of what the core would do
 abbrev pub core_action_flaw : Settings → ℕ → CoreAction → Option StepFlaw
 core_action_flaw settings core (core_action.Call call) = call_flaw settings call
 core_action_flaw settings core (core_action.Interrupt note) = note_flaw settings note
+core_action_flaw settings core (core_action.QueueInterrupt queue direction) =
+    queue_flaw settings queue
 core_action_flaw settings core core_action.Tick = if core == 0 then None else Some (TickCore core)
 core_action_flaw settings core core_action.Switch = None
 

@@ -2,7 +2,7 @@
 ghost use Rattle.std.specs.Prelude.{◌≡◌};
 ghost use Rattle.bench_types.specs.Cause.{cause_of};
 
-use crate::{BlockingCall, Unfinished};
+use crate::{BlockingCall, Direction, Unfinished};
 
 /// What a call has its task wait for.
 #[derive(Clone, Copy, Debug, PartialEq, Eq, Hash)]
@@ -13,6 +13,8 @@ pub enum Cause {
     Notification,
     /// The mutex.
     Mutex(u32),
+    /// A message that goes into the queue or out of it.
+    Queue { queue: u32, direction: Direction },
 }
 
 impl Unfinished {
@@ -27,6 +29,7 @@ impl Unfinished {
             Unfinished::Made(BlockingCall::NotifyWait { .. } | BlockingCall::NotifyTake { .. }) =>
                 Cause::Notification,
             Unfinished::Take { mutex, .. } => Cause::Mutex(mutex),
+            Unfinished::Transfer { queue, direction } => Cause::Queue { queue, direction },
         }
     }
 }

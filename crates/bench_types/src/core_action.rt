@@ -4,9 +4,9 @@ ghost use Rattle.bench_types.specs.CoreAction.{core_action_check, IsCoreActionOf
 ghost use Rattle.bench_types.specs.Step.{settings_of};
 ghost use Rattle.bench_types.specs.StepFlaw.{core_action_flaw, check_of};
 
-use crate::step::note_flaw;
+use crate::step::{note_flaw, queue_flaw};
 use crate::step_flaw::check_of;
-use crate::{Call, Fault, Header, Note, StepFlaw};
+use crate::{Call, Direction, Fault, Header, Note, StepFlaw};
 
 /// What a core does next, whichever task is its current one.
 #[derive(Clone, Copy, Debug, PartialEq, Eq, Hash)]
@@ -15,6 +15,9 @@ pub enum CoreAction {
     Call(Call),
     /// An interrupt of the core, whose handler notifies a task (`xTaskNotifyFromISR`).
     Interrupt(Note),
+    /// An interrupt of the core, whose handler sends a message to the queue or receives one from it
+    /// (`xQueueSendFromISR`, `xQueueReceiveFromISR`).
+    QueueInterrupt { queue: u32, direction: Direction },
     /// The tick interrupt (`xTaskIncrementTick`), which core 0 serves.
     Tick,
     /// The core switches to the task that it selects (`vTaskSwitchContext`).
@@ -33,6 +36,7 @@ impl CoreAction {
         match *self {
             CoreAction::Call(call) => call.flaw(header),
             CoreAction::Interrupt(note) => note_flaw(note, header),
+            CoreAction::QueueInterrupt { queue, .. } => queue_flaw(queue, header),
             CoreAction::Tick if core != 0 => Some(StepFlaw::TickCore(core)),
             CoreAction::Tick | CoreAction::Switch => None,
         }
@@ -40,7 +44,7 @@ impl CoreAction {
 
     /// F2 where a core other than 0 makes a tick, else the fault of the call, or for an interrupt
     /// F3 where the task that it notifies is no user task, and then F5 where it has no such
-    /// notification.
+    /// notification, or F4 where its queue is none.
     pub fn check(&self, core: u32, header: &Header) -> Result<(), Fault>
         ensures value { result ≡ core_action_check (settings_of header.now) core self.now }
         ensures checked { OnOk result (IsCheckedCoreAction (settings_of header.now) core self.now) }

@@ -48,20 +48,32 @@ pub struct Delayed {
     pub left: u32,
 }
 
-/// What a task waits for at a mutex.
+/// Where a task waits for an event.
 #[derive(Clone, Copy, Debug, PartialEq, Eq, Hash)]
-pub struct MutexWait {
-    pub mutex: u32,
-    /// By which the task was put among the waiters of the mutex: its list value, as it is now, or
+pub struct EventWait {
+    /// The event list that it waits in (`xTasksWaitingToSend`, `xTasksWaitingToReceive`). List m is
+    /// that of mutex m; behind those of all mutexes each queue has two: of the tasks that wait to
+    /// send, then of those that wait to receive.
+    pub list: u32,
+    /// By which the task was put among the waiters of the list: its list value, as it is now, or
     /// in formats 1 and 2 the priority in use that it had when it began to wait.
     pub priority: u32,
 }
 
-/// A task that waits for a mutex.
+/// A task that waits in an event list.
 #[derive(Clone, Copy, Debug, PartialEq, Eq, Hash)]
 pub struct Waiter {
     pub task: u32,
-    pub wait: MutexWait,
+    pub wait: EventWait,
+}
+
+/// What can be seen of a queue or a semaphore.
+#[derive(Clone, Copy, Debug, PartialEq, Eq, Hash)]
+pub struct QueueLook {
+    /// How many messages it holds at most (`uxLength`).
+    pub length: u32,
+    /// How many it holds (`uxMessagesWaiting`).
+    pub messages: u32,
 }
 
 /// An open hold of the kernel, by which a core keeps out calls of other cores and every switch

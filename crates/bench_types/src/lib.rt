@@ -31,7 +31,7 @@ pub use flaw::HeaderFlaw;
 pub use header::{Config, Header, QueueArgs, TaskArgs, copy_queues};
 pub use items::Items;
 pub use kernel_data::{
-    CoreLook, Delayed, Hold, MutexWait, Settings, TaskControl, TaskLook, Waiter,
+    CoreLook, Delayed, EventWait, Hold, QueueLook, Settings, TaskControl, TaskLook, Waiter,
 };
 pub use limits::{
     MAX_CORES, MAX_DEPTH, MAX_INPUT, MAX_MESSAGES, MAX_MUTEXES, MAX_NAME, MAX_NOTES,
@@ -43,6 +43,6 @@ pub use name::Name;
 pub use note::{Note, NoteState, Notification, NotifyAction};
 pub use reply::{Refusal, Reply, Row};
 pub use session::CheckedSession;
-pub use step::{BlockingCall, Call, Step, Unfinished};
+pub use step::{BlockingCall, Call, Direction, Step, Unfinished};
 pub use step_flaw::StepFlaw;
 pub use tally::Tally;

@@ -1,7 +1,7 @@
 //! The steps of a session, and for what they are not accepted.
 ghost use Rattle.std.specs.Prelude.{◌≡◌, OnOk};
 ghost use Rattle.bench_types.specs.Step.{core_of, settings_of, call_check, step_check, IsNotifyActionOfWord, IsCheckedCall, IsCheckedStep, IsOfWords, IsStepOfWords};
-ghost use Rattle.bench_types.specs.StepFlaw.{call_flaw, core_flaw, increment_flaw, index_flaw, check_of, mask_flaw, mutex_flaw, note_flaw, step_flaw, task_flaw};
+ghost use Rattle.bench_types.specs.StepFlaw.{call_flaw, core_flaw, increment_flaw, index_flaw, check_of, mask_flaw, mutex_flaw, note_flaw, queue_flaw, step_flaw, task_flaw};
 
 use crate::header::allows_core;
 use crate::step_flaw::check_of;
@@ -13,11 +13,36 @@ pub enum Step {
     /// The tick interrupt, which core 0 serves.
     Tick,
     /// The switch of a core to the task that it selects.
-    Switch { core: u32 },
+    Switch {
+        core: u32,
+    },
     /// A call of the kernel that the task makes on the core.
-    Call { core: u32, task: u32, call: Call },
+    Call {
+        core: u32,
+        task: u32,
+        call: Call,
+    },
     /// An interrupt of the core, whose handler notifies a task (`xTaskNotifyFromISR`).
-    Interrupt { core: u32, note: Note },
+    Interrupt {
+        core: u32,
+        note: Note,
+    },
+    /// An interrupt of the core, whose handler sends a message to the queue or receives one from it
+    /// (`xQueueSendFromISR`, `xQueueReceiveFromISR`), where that can be done at once.
+    QueueInterrupt {
+        core: u32,
+        queue: u32,
+        direction: Direction,
+    },
+}
+
+/// Which way a message goes: into a queue or out of it.
+#[derive(Clone, Copy, Debug, PartialEq, Eq, Hash)]
+pub enum Direction {
+    /// Into the queue.
+    Send,
+    /// Out of the queue.
+    Receive,
 }
 
 /// A call of the kernel.
@@ -83,6 +108,18 @@ pub enum Call {
     },
     /// `xSemaphoreGive` of the mutex.
     MutexGive(u32),
+    /// `xQueueSend` to the queue, or `xSemaphoreGive` of a semaphore, for so many ticks; 4294967295
+    /// is without end.
+    QueueSend {
+        queue: u32,
+        ticks: u32,
+    },
+    /// `xQueueReceive` from the queue, or `xSemaphoreTake` of a semaphore, for so many ticks;
+    /// 4294967295 is without end.
+    QueueReceive {
+        queue: u32,
+        ticks: u32,
+    },
     /// The return of the task's unfinished call, once the task runs again.
     Finish,
     /// `taskENTER_CRITICAL`: no other core makes a call and no core switches until as many calls of
@@ -93,7 +130,8 @@ pub enum Call {
 }
 
 /// A call that blocks its task for some ticks or until a notification comes. What is kept of one
-/// that takes a mutex is [`Unfinished::Take`].
+/// that takes a mutex is [`Unfinished::Take`], and of one that waits at a queue
+/// [`Unfinished::Transfer`].
 #[derive(Clone, Copy, Debug, PartialEq, Eq, Hash)]
 pub enum BlockingCall {
     /// `vTaskDelay`, as [`Call::Delay`].
@@ -126,6 +164,8 @@ pub enum Unfinished {
     /// The call takes the mutex. `mark` says that the base priority of its holder was below the
     /// priority in use of the task when the task began to wait, so the holder may have inherited.
     Take { mutex: u32, mark: bool },
+    /// The call sends to the queue or receives from it.
+    Transfer { queue: u32, direction: Direction },
 }
 
 impl Step {
@@ -136,7 +176,10 @@ impl Step {
     {
         match *self {
             Step::Tick => 0,
-            Step::Switch { core } | Step::Call { core, .. } | Step::Interrupt { core, .. } => core,
+            Step::Switch { core }
+            | Step::Call { core, .. }
+            | Step::Interrupt { core, .. }
+            | Step::QueueInterrupt { core, .. } => core,
         }
     }
 
@@ -156,11 +199,15 @@ impl Step {
                 .or(task_flaw(task, header))
                 .or(call.flaw(header)),
             Step::Interrupt { core, note } => core_flaw(core, header).or(note_flaw(note, header)),
+            Step::QueueInterrupt { core, queue, .. } => {
+                core_flaw(core, header).or(queue_flaw(queue, header))
+            }
         }
     }
 
     /// F2 where the core is none, else F3 where the caller is no user task, else the fault of the
-    /// call. For an interrupt F3 where the notified task is no user task.
+    /// call. For an interrupt F3 where the notified task is no user task, or F4 where its queue is
+    /// none.
     pub fn check(&self, header: &Header) -> Result<(), Fault>
         ensures value { result ≡ step_check (settings_of header.now) self.now }
         ensures checked { OnOk result (IsCheckedStep (settings_of header.now) self.now) }
@@ -171,7 +218,7 @@ impl Step {
 
 impl Call {
     /// The first thing for which the call's arguments are not accepted: the task that it is for,
-    /// then the mask, the ticks between wakes, the index or the mutex.
+    /// then the mask, the ticks between wakes, the index, the mutex or the queue.
     #[tactic(auto, using(crate::proofs::StepFlaws::call_check_of))]
     pub fn flaw(&self, header: &Header) -> Option<StepFlaw>
         ensures value { result ≡ call_flaw (settings_of header.now) self.now }
@@ -216,12 +263,20 @@ impl Call {
                 ticks: _ticks,
             } => mutex_flaw(mutex, header),
             Call::MutexGive(mutex) => mutex_flaw(mutex, header),
+            Call::QueueSend {
+                queue,
+                ticks: _ticks,
+            } => queue_flaw(queue, header),
+            Call::QueueReceive {
+                queue,
+                ticks: _ticks,
+            } => queue_flaw(queue, header),
         }
     }
 
     /// The fault of the call's arguments: F3 where the task that it is for is no user task, F4
-    /// where the mutex that it is for is none, F5 where a mask allows no core or a wake is 0 ticks
-    /// after the last one.
+    /// where the mutex or the queue that it is for is none, F5 where a mask allows no core or a
+    /// wake is 0 ticks after the last one.
     pub fn check(&self, header: &Header) -> Result<(), Fault>
         ensures value { result ≡ call_check (settings_of header.now) self.now }
         ensures checked { OnOk result (IsCheckedCall (settings_of header.now) self.now) }
@@ -293,6 +348,20 @@ fn mutex_flaw(mutex: u32, header: &Header) -> Option<StepFlaw>
         None
     } else {
         Some(StepFlaw::Mutex { mutex, mutexes })
+    }
+}
+
+pub(crate) fn queue_flaw(queue: u32, header: &Header) -> Option<StepFlaw>
+    ensures { result ≡ queue_flaw (settings_of header.now) queue }
+{
+    let queues = match &header.queues {
+        None => 0,
+        Some(queues) => queues.as_slice().len(),
+    };
+    if (queue as usize) < queues {
+        None
+    } else {
+        Some(StepFlaw::Queue { queue, queues })
     }
 }
 

@@ -15,6 +15,8 @@ pub enum StepFlaw {
     Task(u32),
     /// The mutex is none of so many.
     Mutex { mutex: u32, mutexes: u32 },
+    /// The queue is none of so many; there is none in a session that says nothing of queues.
+    Queue { queue: u32, queues: usize },
     /// The core affinity mask has a bit for none of so many cores.
     Mask { mask: u32, cores: u32 },
     /// The next wake is 0 ticks after the last one.
@@ -35,7 +37,7 @@ impl StepFlaw {
         match self {
             StepFlaw::Core { .. } | StepFlaw::TickCore(_) => Fault::BadCore,
             StepFlaw::Task(_) => Fault::BadTask,
-            StepFlaw::Mutex { .. } => Fault::BadMutex,
+            StepFlaw::Mutex { .. } | StepFlaw::Queue { .. } => Fault::BadMutex,
             StepFlaw::Mask { .. } | StepFlaw::Increment | StepFlaw::Index { .. } => {
                 Fault::BadArgument
             }

@@ -9,15 +9,17 @@ use Rattle.bench_types.specs.declared.reply.Refusal.TheVariants.{Held, NotHolder
 use Rattle.bench_types.specs.declared.reply.Reply.{Reply}
 use Rattle.bench_types.specs.declared.reply.Reply.TheVariants.{Refused}
 use Rattle.bench_types.specs.declared.step.Step.{Step}
-use Rattle.bench_types.specs.declared.step.Step.TheVariants.{Tick, Switch, Interrupt}
+use Rattle.bench_types.specs.declared.step.Step.TheVariants.{Tick, Switch, Interrupt, QueueInterrupt}
 use Rattle.bench_types.specs.declared.step.Step.TheVariants as steps
 use Rattle.bench_types.specs.declared.step.Call.{Call}
 use Rattle.bench_types.specs.declared.step.Call.TheVariants.{Yield, Delay, DelayUntil, Finish, PrioritySet, AffinitySet, PreemptOff, PreemptOn, Notify}
-use Rattle.bench_types.specs.declared.step.Call.TheVariants.{NotifyWait, NotifyTake, StateClear, ValueClear, MutexTake, MutexGive, HoldOpen, HoldClose}
+use Rattle.bench_types.specs.declared.step.Call.TheVariants.{NotifyWait, NotifyTake, StateClear, ValueClear, MutexTake, MutexGive, QueueSend, QueueReceive, HoldOpen, HoldClose}
+use Rattle.bench_types.specs.declared.step.Direction.{Direction}
+use Rattle.bench_types.specs.declared.step.Direction.TheVariants.{Send, Receive}
 use Rattle.bench_types.specs.declared.step.BlockingCall.{BlockingCall}
 use Rattle.bench_types.specs.declared.step.BlockingCall.TheVariants as blocking
 use Rattle.bench_types.specs.declared.step.Unfinished.{Unfinished}
-use Rattle.bench_types.specs.declared.step.Unfinished.TheVariants.{Made, Take}
+use Rattle.bench_types.specs.declared.step.Unfinished.TheVariants.{Made, Take, Transfer}
 use Rattle.bench_types.specs.Limits.{max_depth}
 use Rattle.list_orders.specs.Search.{numbers}
 use Rattle.bench_model.specs.Control.{current, is_due}
@@ -25,6 +27,7 @@ use Rattle.bench_model.specs.History.{is_kept_out}
 use Rattle.bench_model.specs.Holds.{is_held_by, is_held_elsewhere, depth_of}
 use Rattle.bench_model.specs.Mutexes.{take_from, mutex_take, finish_from, take_finished, give_from, mutex_give}
 use Rattle.bench_model.specs.Notifying.{interrupted, state_forgotten, bits_cleared, completed, awaited}
+use Rattle.bench_model.specs.Queues.{can_pass, queue_at, queue_called, queue_finished, queue_interrupted}
 use Rattle.bench_model.specs.Refusals.{call_refusal, opens_hold, closes_hold, give_refusal, would_block, hold_refusal, own_refusal, refusal}
 use Rattle.bench_model.specs.Seek.{after_switch}
 use Rattle.bench_model.specs.Session.{step_of}
@@ -82,10 +85,24 @@ module _ {Orders : Type 0} (ops : QueueOps Orders) where
       at None = refl
       at (Some holder) = refl
 
+  queue_called_made : (core task : ℕ) (direction : Direction) (queue ticks : ℕ) (state : State Orders) → IsMade
+      (queue_called ops core task direction queue ticks state)
+  unfolding queue_called
+  queue_called_made core task direction queue ticks state =
+      either_made (can_pass direction (queue_at state.queues queue)) _ _ refl (either_made (eqb ticks 0) _ _ refl refl)
+
+  queue_finished_made : (core task : ℕ) (direction : Direction) (queue : ℕ) (state : State Orders) → IsMade
+      (queue_finished ops core task direction queue state)
+  unfolding queue_finished
+  queue_finished_made core task direction queue state =
+      either_made (can_pass direction (queue_at state.queues queue)) _ _ refl
+      (either_made (option_map_or (λ ticks. eqb ticks 0) (ops.deadline_left task state.orders) false) _ _ refl refl)
+
   finish_made : (core task : ℕ) (call : Unfinished) (state : State Orders) → IsMade (after_finish ops core task call state)
   unfolding after_finish
   finish_made core task (Made call) state = completed_made task call _
   finish_made core task (Take mutex mark) state = take_finished_made core task mutex mark state
+  finish_made core task (Transfer queue direction) state = queue_finished_made core task direction queue state
 
   awaited_made : (core task : ℕ) (call : BlockingCall) (ticks : ℕ) (entered : Bool × List _) (state : State Orders) → IsMade
       (awaited ops core task call ticks entered state)
@@ -109,15 +126,18 @@ module _ {Orders : Type 0} (ops : QueueOps Orders) where
   called_made core task (ValueClear other bits index) state = refl
   called_made core task (MutexTake mutex ticks) state = take_made core task mutex ticks state
   called_made core task (MutexGive mutex) state = give_made core task mutex state
+  called_made core task (QueueSend queue ticks) state = queue_called_made core task Send queue ticks state
+  called_made core task (QueueReceive queue ticks) state = queue_called_made core task Receive queue ticks state
   called_made core task HoldOpen state = refl
   called_made core task HoldClose state = refl
 
   pub performed_made : (step : Step) (state : State Orders) → IsMade (performed ops step state)
-  unfolding performed interrupted
+  unfolding performed interrupted queue_interrupted
   performed_made Tick state = refl
   performed_made (Switch core) state = refl
   performed_made (steps.Call core task call) state = called_made core task call state
   performed_made (Interrupt core note) state = refl
+  performed_made (QueueInterrupt core queue direction) state = refl
 
 -- whether a step is refused since the kernel is held
 abbrev says_held : Option Refusal → Bool
@@ -167,6 +187,7 @@ module _ {Orders : Type 0} (ops : QueueOps Orders) where
   unfolding refusal
   refusal_held Tick state = refl
   refusal_held (Interrupt core note) state = refl
+  refusal_held (QueueInterrupt core queue direction) state = refl
   refusal_held (Switch core) state = either_held (is_some state.hold) _ (either_free (is_due state.control core) None (Some NotDue) refl refl)
   refusal_held (steps.Call core task call) state = either_held (is_held_elsewhere core state.hold) _ (own_free core task call state)
 

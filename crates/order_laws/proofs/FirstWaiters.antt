@@ -20,7 +20,7 @@ found_all P test (y ∷ ys) x all found = at (test y) found (found_all P test ys
 pub first_waiter_all : (P : Waiter → Type 0) (mutex : ℕ) (stamps : Stamps) (waiter : Waiter) → AllByRecursion P stamps.waiters → first_waiter mutex stamps ≡
     Some waiter → P waiter
 unfolding first_waiter
-first_waiter_all P mutex stamps waiter all first = found_all P (λ (waiter : Waiter). eqb waiter.wait.mutex mutex) stamps.waiters waiter all first
+first_waiter_all P mutex stamps waiter all first = found_all P (λ (waiter : Waiter). eqb waiter.wait.list mutex) stamps.waiters waiter all first
 
 -- over lists it is that of the table
 pub first_waiter_seen : (mutex : ℕ) (stamps : Stamps) (control : Control) → seen.first_waiter mutex (lists_of control stamps) ≡ first_waiter mutex stamps

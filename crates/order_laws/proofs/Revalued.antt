@@ -4,8 +4,8 @@ use Rattle.std.specs.List.{AllByRecursion}
 use Rattle.std.proofs.lemmas.Bool.Decides.{nat_tests}
 use Rattle.std.proofs.lemmas.List.{length-set}
 use Rattle.bench_types.specs.declared.kernel_data.Waiter.{Waiter}
-use Rattle.bench_model.specs.Turns.{AreByMutex, WaitOnce}
-use Rattle.bench_model.specs.Waiters.{mutex_awaited, revalued, with_value}
+use Rattle.bench_model.specs.Turns.{AreByList, WaitOnce}
+use Rattle.bench_model.specs.Waiters.{list_awaited, revalued, with_value}
 use Rattle.list_orders.proofs.Filters.{All-map, All-weaker}
 
 -- a list that is empty after one of its items was set is empty before
@@ -32,10 +32,10 @@ module _ (task value : ℕ) where
       at true = refl
       at false = refl
 
-  mutex_stays : (w : Waiter) → (changed w).wait.mutex ≡ w.wait.mutex
+  mutex_stays : (w : Waiter) → (changed w).wait.list ≡ w.wait.list
   mutex_stays w = at (eqb w.task task)
     where
-      at : (b : Bool) → (so b w).wait.mutex ≡ w.wait.mutex
+      at : (b : Bool) → (so b w).wait.list ≡ w.wait.list
       at true = refl
       at false = refl
 
@@ -56,20 +56,20 @@ module _ (task value : ℕ) where
     once_changed ws once.1,
   )
 
-  by_mutex_changed : (waiters : List Waiter) → AreByMutex waiters → AreByMutex (map changed waiters)
+  by_mutex_changed : (waiters : List Waiter) → AreByList waiters → AreByList (map changed waiters)
   by_mutex_changed [] ordered = tt
   by_mutex_changed (w ∷ ws) ordered = (
-    all_changed (λ (other : Waiter). (changed w).wait.mutex ≤ other.wait.mutex) (λ other low. low) ws
-        (All-weaker (λ (other : Waiter). w.wait.mutex ≤ other.wait.mutex) (λ (other : Waiter). (changed w).wait.mutex ≤ other.wait.mutex)
+    all_changed (λ (other : Waiter). (changed w).wait.list ≤ other.wait.list) (λ other low. low) ws
+        (All-weaker (λ (other : Waiter). w.wait.list ≤ other.wait.list) (λ (other : Waiter). (changed w).wait.list ≤ other.wait.list)
         (λ other low. omega (arith, low, mutex_stays w)) ws ordered.0),
     by_mutex_changed ws ordered.1,
   )
 
-  awaited_changed : (i : ℕ) (waiters : List Waiter) → mutex_awaited i (map changed waiters) ≡ mutex_awaited i waiters
+  awaited_changed : (i : ℕ) (waiters : List Waiter) → list_awaited i (map changed waiters) ≡ list_awaited i waiters
   awaited_changed i [] = refl
   awaited_changed i (w ∷ ws) = at (eqb w.task i) refl (awaited_changed i ws)
     where
-      at : (b : Bool) → eqb w.task i ≡ b → mutex_awaited i (map changed ws) ≡ mutex_awaited i ws → mutex_awaited i (map changed (w ∷ ws)) ≡ mutex_awaited i
+      at : (b : Bool) → eqb w.task i ≡ b → list_awaited i (map changed ws) ≡ list_awaited i ws → list_awaited i (map changed (w ∷ ws)) ≡ list_awaited i
           (w ∷ ws)
       at b is rest = grind (arith, is, rest, task_stays w, mutex_stays w)
 
@@ -92,17 +92,17 @@ module _ (task value : ℕ) where
         at true = once_changed waiters once
         at false = once
 
-    pub by_mutex_revalued : AreByMutex waiters → AreByMutex (revalued values task value waiters)
+    pub by_mutex_revalued : AreByList waiters → AreByList (revalued values task value waiters)
     by_mutex_revalued ordered = at (ltb task (length values))
       where
-        at : (b : Bool) → AreByMutex (either b)
+        at : (b : Bool) → AreByList (either b)
         at true = by_mutex_changed waiters ordered
         at false = ordered
 
-    pub awaited_revalued : (i : ℕ) → mutex_awaited i (revalued values task value waiters) ≡ mutex_awaited i waiters
+    pub awaited_revalued : (i : ℕ) → list_awaited i (revalued values task value waiters) ≡ list_awaited i waiters
     awaited_revalued i = at (ltb task (length values))
       where
-        at : (b : Bool) → mutex_awaited i (either b) ≡ mutex_awaited i waiters
+        at : (b : Bool) → list_awaited i (either b) ≡ list_awaited i waiters
         at true = awaited_changed i waiters
         at false = refl
 

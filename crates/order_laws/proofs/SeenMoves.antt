@@ -11,7 +11,7 @@ use Rattle.std.specs.List.{filter, find, AllByRecursion}
 use Rattle.std.proofs.lemmas.List.{append-nil, map-set}
 use Rattle.std.proofs.lemmas.Bool.Decides.{nat_tests}
 use Rattle.bench_types.specs.declared.kernel_data.Delayed.{Delayed}
-use Rattle.bench_types.specs.declared.kernel_data.MutexWait.{MutexWait}
+use Rattle.bench_types.specs.declared.kernel_data.EventWait.{EventWait}
 use Rattle.bench_types.specs.declared.kernel_data.Waiter.{Waiter}
 use Rattle.bench_model.specs.declared.row.TaskState.{TaskState}
 use Rattle.bench_model.specs.declared.row.TaskState.TheVariants.{Ready, Blocked}
@@ -114,7 +114,7 @@ delayed_initial stamps task (Some ticks) delayed =
     let now : (stamps.tick + ticks) - stamps.tick ≡ ticks = omega arith in
     ap (λ left. placed wakes_first (record { task = task; left = left }) delayed) now
 
-deadline_initial : (stamps : Stamps) (ticks : Option ℕ) (wait : Option MutexWait) → deadline_from stamps.tick (cond (is_some wait) (ahead stamps ticks) None) ≡
+deadline_initial : (stamps : Stamps) (ticks : Option ℕ) (wait : Option EventWait) → deadline_from stamps.tick (cond (is_some wait) (ahead stamps ticks) None) ≡
     cond (is_some wait) ticks None
 deadline_initial stamps ticks None = refl
 deadline_initial stamps None (Some wait) = refl
@@ -123,7 +123,7 @@ deadline_initial stamps (Some ticks) (Some wait) =
     ap Some now
 
 -- a ready task that waits from now on
-pub delay_seen : (control : Control) (stamps : Stamps) (task : ℕ) (ticks : Option ℕ) (wait : Option MutexWait) → IsGiven stamps → task < length stamps.rows →
+pub delay_seen : (control : Control) (stamps : Stamps) (task : ℕ) (ticks : Option ℕ) (wait : Option EventWait) → IsGiven stamps → task < length stamps.rows →
     is_ready task stamps ≡ true → lists_of control (delay task ticks wait stamps) ≡ seen.delay task ticks wait (lists_of control stamps)
 unfolding lists_of delay seen.delay
 delay_seen control stamps task ticks wait given below ready_now =

@@ -4,7 +4,8 @@ use Rattle.std.specs.Prelude.{unwrap_or, slice_set}
 use Rattle.std.specs.List.{AllByRecursion}
 use Rattle.bench_types.specs.declared.step.Unfinished.{Unfinished}
 use Rattle.bench_types.specs.declared.kernel_data.Hold.{Hold}
-use Rattle.bench_types.specs.declared.kernel_data.MutexWait.{MutexWait}
+use Rattle.bench_types.specs.declared.kernel_data.EventWait.{EventWait}
+use Rattle.bench_types.specs.declared.kernel_data.QueueLook.{QueueLook}
 use Rattle.bench_types.specs.declared.kernel_data.Settings.{Settings}
 use Rattle.bench_types.specs.declared.kernel_data.CoreLook.{CoreLook}
 use Rattle.bench_types.specs.declared.note.Notification.{Notification}
@@ -20,22 +21,23 @@ use Rattle.list_orders.proofs.Stamped.{numbers_below, All-by_stamp}
 use Rattle.order_laws.proofs.Restamps.{IsGiven, moved_length, moved_given, moved_once}
 use Rattle.order_laws.proofs.SeenMoves.{is_ready_seen, pick_seen, add_to_ready_seen, delay_seen, advance_seen, due_seen, IsAhead, IsNotPast}
 
-abbrev pub state_from : {Orders : Type 0} → Settings → Control → List (Option Unfinished) → List Notification → List (Option ℕ) → Option Hold → Orders → State
-    Orders
-state_from settings control calls notes holders hold orders = record {
+abbrev pub state_from : {Orders : Type 0} → Settings → Control → List (Option Unfinished) → List Notification → List (Option ℕ) → List QueueLook → Option Hold → Orders →
+    State Orders
+state_from settings control calls notes holders queues hold orders = record {
   settings = settings;
   control = control;
   calls = calls;
   notes = notes;
   holders = holders;
+  queues = queues;
   hold = hold;
   orders = orders;
 }
 
 pub same_state : (settings : Settings) (control other : Control) (calls : List (Option Unfinished)) (notes : List Notification) (holders : List (Option ℕ))
-    (hold : Option Hold) (orders others : Lists) → control ≡ other → orders ≡ others → state_from settings control calls notes holders hold orders ≡ state_from
-    settings other calls notes holders hold others
-same_state settings control other calls notes holders hold orders others a b = cc
+    (queues : List QueueLook) (hold : Option Hold) (orders others : Lists) → control ≡ other → orders ≡ others →
+    state_from settings control calls notes holders queues hold orders ≡ state_from settings other calls notes holders queues hold others
+same_state settings control other calls notes holders queues hold orders others a b = cc
 
 -- the orders do not read the cores
 pub lists_of_cores : (control : Control) (cores : List CoreLook) (stamps : Stamps) → lists_of (record control { cores = cores }) stamps ≡ lists_of control
@@ -87,7 +89,7 @@ after_select_seen core table stamped below =
     let chosen = ap (λ l. seen.pick table.control core l) lists in
     same_state table.settings (run_on core (unwrap_or (pick table.control core orders) left) table.control)
     (run_on core (unwrap_or (seen.pick table.control core (seen_queue table.control table.orders left)) left) table.control) table.calls table.notes
-    table.holders table.hold _ _
+    table.holders table.queues table.hold _ _
     (ap (λ o. run_on core (unwrap_or o left) table.control) (sym picked ∙ chosen))
     (lists_of_cores table.control _ orders ∙ lists)
 
@@ -117,14 +119,14 @@ due_below stamps = All-by_stamp (stamp_of stamps) (λ task. wakes_at stamps.tick
 
 pub yielded_seen : (core : ℕ) (table : Table) → view_of (yielded stamp_queues core table) ≡ yielded list_queues core (view_of table)
 unfolding yielded
-yielded_seen core table = same_state table.settings _ _ table.calls table.notes table.holders table.hold _ _ refl (lists_of_cores table.control _ table.orders)
+yielded_seen core table = same_state table.settings _ _ table.calls table.notes table.holders table.queues table.hold _ _ refl (lists_of_cores table.control _ table.orders)
 
-pub blocked_seen : (core task : ℕ) (call : Unfinished) (ticks : Option ℕ) (wait : Option MutexWait) (table : Table) → IsGiven table.orders → task < length
+pub blocked_seen : (core task : ℕ) (call : Unfinished) (ticks : Option ℕ) (wait : Option EventWait) (table : Table) → IsGiven table.orders → task < length
     table.orders.rows → is_ready task table.orders ≡ true → view_of (blocked stamp_queues core task call ticks wait table) ≡ blocked list_queues core task call
     ticks wait (view_of table)
 unfolding blocked
 blocked_seen core task call ticks wait table given below ready =
-    same_state table.settings _ _ (slice_set table.calls task (Some call)) table.notes table.holders table.hold _ _ refl
+    same_state table.settings _ _ (slice_set table.calls task (Some call)) table.notes table.holders table.queues table.hold _ _ refl
     (lists_of_cores table.control _ (delay task ticks wait table.orders) ∙ delay_seen table.control table.orders task ticks wait given below ready)
 
 -- one tick more, and the tasks whose wake it is

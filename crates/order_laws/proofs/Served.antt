@@ -5,7 +5,7 @@ use Rattle.std.proofs.lemmas.Bool.Decides.{nat_tests}
 use Rattle.bench_types.specs.declared.kernel_data.Waiter.{Waiter}
 use Rattle.bench_model.specs.Table.{Stamps, stamp_of}
 use Rattle.bench_model.specs.Waiters.{waits_first, first_of}
-use Rattle.bench_model.specs.Turns.{is_served_before, IsServedBefore, AreByMutex, AreInTurn, IsServedFirst}
+use Rattle.bench_model.specs.Turns.{is_served_before, IsServedBefore, AreByList, AreInTurn, IsServedFirst}
 use Rattle.list_orders.specs.Search.{inserted}
 use Rattle.list_orders.proofs.Filters.{All-both, All-filter, All-weaker}
 use Rattle.list_orders.proofs.Insertions.{All-inserted, inserted_behind, inserted_here}
@@ -35,7 +35,7 @@ module _ (stamps : Stamps) (waiter : Waiter) where
   abbrev CameEarlier : Waiter → Type 0
   CameEarlier w = stamp_of stamps w.task < stamp_of stamps waiter.task
 
-  pub turn_inserted : (waiters : List Waiter) → AreInTurn stamps waiters → AreByMutex waiters → AllByRecursion CameEarlier waiters → AreInTurn stamps
+  pub turn_inserted : (waiters : List Waiter) → AreInTurn stamps waiters → AreByList waiters → AllByRecursion CameEarlier waiters → AreInTurn stamps
       (inserted waits_first waiter waiters)
   turn_inserted [] turn ordered last = (tt, tt)
   turn_inserted (w ∷ ws) turn ordered last = at (waits_first w waiter) refl (turn_inserted ws turn.1 ordered.1 last.1)
@@ -50,11 +50,11 @@ module _ (stamps : Stamps) (waiter : Waiter) where
           subst (AreInTurn stamps) (sym (inserted_here waits_first waiter w ws off)) (
             (
               λ mutex. grind (arith, nat_tests, off, mutex),
-              All-weaker (λ z. IsServedBefore stamps w z × (w.wait.mutex ≤ z.wait.mutex)) (IsServedBefore stamps waiter)
+              All-weaker (λ z. IsServedBefore stamps w z × (w.wait.list ≤ z.wait.list)) (IsServedBefore stamps waiter)
                   (λ z both mutex.
-                  let one : w.wait.mutex ≡ z.wait.mutex = grind (arith, nat_tests, off, both.1, mutex) in
+                  let one : w.wait.list ≡ z.wait.list = grind (arith, nat_tests, off, both.1, mutex) in
                   grind (arith, nat_tests, off, both.0 one, mutex, one)) ws
-                  (All-both (IsServedBefore stamps w) (λ (z : Waiter). w.wait.mutex ≤ z.wait.mutex) ws turn.0 ordered.0),
+                  (All-both (IsServedBefore stamps w) (λ (z : Waiter). w.wait.list ≤ z.wait.list) ws turn.0 ordered.0),
             ),
             turn,
           )
@@ -63,17 +63,17 @@ module _ (stamps : Stamps) (waiter : Waiter) where
 pub first_is_served : (stamps : Stamps) (mutex : ℕ) (waiters : List Waiter) (waiter : Waiter) → AreInTurn stamps waiters → first_of mutex waiters ≡ Some waiter →
     IsServedFirst stamps mutex waiters waiter
 first_is_served stamps mutex [] waiter turn first = absurd (cc (first))
-first_is_served stamps mutex (x ∷ xs) waiter turn first = at (eqb x.wait.mutex mutex) refl first (first_is_served stamps mutex xs waiter turn.1)
+first_is_served stamps mutex (x ∷ xs) waiter turn first = at (eqb x.wait.list mutex) refl first (first_is_served stamps mutex xs waiter turn.1)
   where
-    here : x.wait.mutex ≡ mutex → AllByRecursion (λ other. other ≢ x → other.wait.mutex ≡ mutex → is_served_before stamps x other ≡ true) xs
-    here its = All-weaker (IsServedBefore stamps x) (λ other. other ≢ x → other.wait.mutex ≡ mutex → is_served_before stamps x other ≡ true)
+    here : x.wait.list ≡ mutex → AllByRecursion (λ other. other ≢ x → other.wait.list ≡ mutex → is_served_before stamps x other ≡ true) xs
+    here its = All-weaker (IsServedBefore stamps x) (λ other. other ≢ x → other.wait.list ≡ mutex → is_served_before stamps x other ≡ true)
         (λ other before away same. before (cc (its, same))) xs turn.0
 
-    at : (b : Bool) → eqb x.wait.mutex mutex ≡ b → cond b (Some x) (first_of mutex xs) ≡ Some waiter →
+    at : (b : Bool) → eqb x.wait.list mutex ≡ b → cond b (Some x) (first_of mutex xs) ≡ Some waiter →
         (first_of mutex xs ≡ Some waiter → IsServedFirst stamps mutex xs waiter) → IsServedFirst stamps mutex (x ∷ xs) waiter
     at true its found rest =
         let same : x ≡ waiter = cc (found) in
-        let mutex_is : x.wait.mutex ≡ mutex = grind (arith, nat_tests, its) in
+        let mutex_is : x.wait.list ≡ mutex = grind (arith, nat_tests, its) in
         subst (IsServedFirst stamps mutex (x ∷ xs)) same (mutex_is, (λ away. absurd (away refl), here mutex_is))
     at false other found rest =
         let later = rest found in

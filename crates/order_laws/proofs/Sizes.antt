@@ -1,6 +1,7 @@
 -- How long the lists of a table are: what a rule does to them says whether the table stays sized.
 use Rattle.std.proofs.Common.{◌≡◌, ℕ, ◌*◌, ◌<◌, ◌≤◌, length, sym, ap, subst, ◌∙◌}
 use Rattle.bench_types.specs.declared.kernel_data.Settings.{Settings}
+use Rattle.bench_types.specs.Step.{queue_total}
 use Rattle.bench_model.specs.Table.{Table}
 use Rattle.bench_model.specs.Sound.{list_values, IsSized}
 
@@ -10,6 +11,7 @@ pub record Lengths : Type 0 where
   pub calls : ℕ
   pub notes : ℕ
   pub holders : ℕ
+  pub queues : ℕ
   pub rows : ℕ
   pub deadlines : ℕ
   pub values : ℕ
@@ -21,6 +23,7 @@ lengths_of table = record {
   calls = length table.calls;
   notes = length table.notes;
   holders = length table.holders;
+  queues = length table.queues;
   rows = length table.orders.rows;
   deadlines = length table.orders.deadlines;
   values = length table.orders.values;
@@ -35,6 +38,7 @@ resized table later same lengths sized =
       calls = ap (λ (l : Lengths). l.calls) lengths ∙ sized.calls ∙ ap (λ (s : Settings). s.tasks) (sym same);
       notes = ap (λ (l : Lengths). l.notes) lengths ∙ sized.notes ∙ ap (λ (s : Settings). s.tasks * s.notes) (sym same);
       holders = ap (λ (l : Lengths). l.holders) lengths ∙ sized.holders ∙ ap (λ (s : Settings). s.mutexes) (sym same);
+      queues = ap (λ (l : Lengths). l.queues) lengths ∙ sized.queues ∙ ap queue_total (sym same);
       rows = ap (λ (l : Lengths). l.rows) lengths ∙ sized.rows ∙ ap (λ (s : Settings). s.tasks) (sym same);
       deadlines = ap (λ (l : Lengths). l.deadlines) lengths ∙ sized.deadlines ∙ ap (λ (s : Settings). s.tasks) (sym same);
       values = ap (λ (l : Lengths). l.values) lengths ∙ sized.values ∙ ap list_values (sym same);

@@ -6,7 +6,7 @@ use Rattle.std.proofs.lemmas.List.Elements.{All-set}
 use Rattle.std.proofs.lemmas.Bool.{cases_eq}
 use Rattle.std.proofs.lemmas.Bool.Decides.{nat_tests}
 use Rattle.std.proofs.lemmas.List.{get_or-set_same, get_or-set_other}
-use Rattle.bench_types.specs.declared.kernel_data.MutexWait.{MutexWait}
+use Rattle.bench_types.specs.declared.kernel_data.EventWait.{EventWait}
 use Rattle.bench_types.specs.declared.kernel_data.Settings.{Settings}
 use Rattle.bench_types.specs.declared.kernel_data.Waiter.{Waiter}
 use Rattle.bench_types.specs.declared.step.Unfinished.{Unfinished}
@@ -15,15 +15,15 @@ use Rattle.bench_model.specs.declared.row.TaskState.TheVariants.{Ready, Blocked}
 use Rattle.bench_model.specs.declared.row.TaskRow.{TaskRow}
 use Rattle.bench_model.specs.State.{call_at, holder_at}
 use Rattle.bench_model.specs.Table.{Stamps, row_at, ahead, deadline_at, is_ready, stands_ready, stamp_of, restamped, add_to_ready_list, delay, forget_deadline, set_list_value, advance}
-use Rattle.bench_model.specs.Waiters.{mutex_awaited, waiter_of, waits_first, with_wait, without_waiter}
-use Rattle.bench_model.specs.Sound.{IsMutexWait, IsMutexTime, IsWaiter, IsWaitOf, HasMutexes, mutex_taken}
+use Rattle.bench_model.specs.Waiters.{list_awaited, waiter_of, waits_first, with_wait, without_waiter}
+use Rattle.bench_model.specs.Sound.{IsEventWait, IsEventTime, IsWaiter, IsWaitOf, HasMutexes, list_of_call}
 use Rattle.list_orders.proofs.Filters.{All-both, All-filter, All-filter_passes, All-weaker}
 use Rattle.list_orders.proofs.Insertions.{All-inserted}
 use Rattle.order_laws.proofs.Restamps.{IsGiven, moved_length, row_same, row_other, stamp_same, stamp_other}
 use Rattle.order_laws.proofs.Served.{turn_filter, turn_inserted, turn_moved}
 use Rattle.order_laws.proofs.WaitingOnce.{by_mutex_filter, by_mutex_inserted, none_found, once_filter, once_waiting, other_found, others_found, waiter_found, IsNoneOf}
 use Rattle.order_laws.proofs.Revalued.{all_revalued, once_revalued, by_mutex_revalued, awaited_revalued, none_revalued, set_none}
-use Rattle.bench_model.specs.Turns.{AreByMutex, AreInTurn, WaitOnce}
+use Rattle.bench_model.specs.Turns.{AreByList, AreInTurn, WaitOnce}
 
 -- a task that was set to stand so, and the others
 pub standing_same : (stamps : Stamps) (task : ℕ) (standing : TaskState) → task < length stamps.rows → (row_at (restamped task standing stamps) task).standing ≡
@@ -82,10 +82,10 @@ module _ (settings : Settings) (calls : List (Option Unfinished)) (holders : Lis
     held_by_tasks = kept.held_by_tasks;
     waits = readied_waiters settings stamps task below kept.waits;
     once = once_filter (λ (waiter : Waiter). not (eqb waiter.task task)) stamps.waiters kept.once;
-    by_mutex = by_mutex_filter (λ (waiter : Waiter). not (eqb waiter.task task)) stamps.waiters kept.by_mutex;
+    by_list = by_mutex_filter (λ (waiter : Waiter). not (eqb waiter.task task)) stamps.waiters kept.by_list;
     awaited = λ i low blocked. elim (cases_eq i task) [
       | inl here ↦ absurd (cc (sym (ap (λ j. is_ready j (restamped task Ready stamps)) here ∙ ap stands_ready (standing_same stamps task Ready below)) ∙ blocked))
-      | inr away ↦ ap (option_map (λ (waiter : Waiter). waiter.wait.mutex)) (other_found i task away stamps.waiters) ∙ kept.awaited i
+      | inr away ↦ ap (option_map (λ (waiter : Waiter). waiter.wait.list)) (other_found i task away stamps.waiters) ∙ kept.awaited i
           (omega (arith, moved_length stamps task Ready below, low)) (sym (ap stands_ready (standing_other stamps task Ready below i away)) ∙ blocked)
     ];
     turns = λ none. turn_moved stamps (restamped task Ready stamps) (without_waiter task stamps.waiters) (others_stamped stamps task below stamps.waiters)
@@ -100,7 +100,7 @@ module _ (settings : Settings) (calls : List (Option Unfinished)) (holders : Lis
     held_by_tasks = kept.held_by_tasks;
     waits = kept.waits;
     once = kept.once;
-    by_mutex = kept.by_mutex;
+    by_list = kept.by_list;
     awaited = kept.awaited;
     turns = kept.turns;
     values = kept.values;
@@ -115,10 +115,10 @@ module _ (settings : Settings) (calls : List (Option Unfinished)) (holders : Lis
     held_by_tasks = kept.held_by_tasks;
     waits = kept.waits;
     once = kept.once;
-    by_mutex = kept.by_mutex;
+    by_list = kept.by_list;
     awaited = λ i low blocked. elim (cases_eq i task) [
       | inl here ↦ absurd (cc (sym (ap (λ j. is_ready j stamps) here ∙ ready) ∙ blocked))
-      | inr away ↦ kept.awaited i low blocked ∙ sym (ap mutex_taken (get_or-set_other calls task i None None away))
+      | inr away ↦ kept.awaited i low blocked ∙ sym (ap (list_of_call settings) (get_or-set_other calls task i None None away))
     ];
     turns = kept.turns;
     values = kept.values;
@@ -127,7 +127,7 @@ module _ (settings : Settings) (calls : List (Option Unfinished)) (holders : Lis
           (sym here) ∙ has))
       | inr away ↦
           let near = kept.deadlines i deadline (sym (get_or-set_other stamps.deadlines task i None None away) ∙ has) in
-          (near.0, ap (λ call. is_some (mutex_taken call)) (get_or-set_other calls task i None None away) ∙ near.1)
+          (near.0, ap (λ call. is_some (list_of_call settings call)) (get_or-set_other calls task i None None away) ∙ near.1)
     ];
   }
 
@@ -141,7 +141,7 @@ module _ (settings : Settings) (calls : List (Option Unfinished)) (holders : Lis
     ];
     waits = kept.waits;
     once = kept.once;
-    by_mutex = kept.by_mutex;
+    by_list = kept.by_list;
     awaited = kept.awaited;
     turns = kept.turns;
     values = kept.values;
@@ -155,7 +155,7 @@ module _ (settings : Settings) (calls : List (Option Unfinished)) (holders : Lis
     held_by_tasks = kept.held_by_tasks;
     waits = all_revalued task value stamps.values stamps.waiters (IsWaiter settings stamps) (λ w is. (is.0, is.1, (is.2.0, below))) kept.waits;
     once = once_revalued task value stamps.values stamps.waiters kept.once;
-    by_mutex = by_mutex_revalued task value stamps.values stamps.waiters kept.by_mutex;
+    by_list = by_mutex_revalued task value stamps.values stamps.waiters kept.by_list;
     awaited = λ i low blocked. awaited_revalued task value stamps.values stamps.waiters i ∙ kept.awaited i low blocked;
     turns = λ none. let empty = set_none stamps.values task value none in
         subst (AreInTurn stamps) (sym (none_revalued task value stamps.values stamps.waiters empty)) (kept.turns empty);
@@ -164,7 +164,7 @@ module _ (settings : Settings) (calls : List (Option Unfinished)) (holders : Lis
   }
 
 -- the deadline of a wait that begins now
-initial_near : (tick deadline : ℕ) (ticks : Option ℕ) (wait : Option MutexWait) → (is_some wait ≡ true → IsMutexTime ticks) → cond (is_some wait)
+initial_near : (tick deadline : ℕ) (ticks : Option ℕ) (wait : Option EventWait) → (is_some wait ≡ true → IsEventTime ticks) → cond (is_some wait)
     (option_map (λ ticks. tick + ticks) ticks) None ≡ Some deadline → (suc deadline < tick + 2 ^ 32) × (is_some wait ≡ true)
 initial_near tick deadline ticks None fits same = absurd (cc (same))
 initial_near tick deadline None (Some wait) fits same = absurd (cc (same))
@@ -172,13 +172,13 @@ initial_near tick deadline (Some ticks) (Some wait) fits same =
     let at : tick + ticks ≡ deadline = cc (same) in
     (omega (arith, at, fits refl), refl)
 
-some_mapped : (wait : Option MutexWait) → is_some wait ≡ true → is_some (option_map (λ (wait : MutexWait). wait.mutex) wait) ≡ true
+some_mapped : (wait : Option EventWait) → is_some wait ≡ true → is_some (option_map (λ (wait : EventWait). wait.list) wait) ≡ true
 some_mapped None is = is
 some_mapped (Some wait) is = refl
 
 -- a task that waits from now on
 module _ (settings : Settings) (calls : List (Option Unfinished)) (holders : List (Option ℕ)) (stamps : Stamps)
-    (kept : HasMutexes settings calls holders stamps) (task : ℕ) (call : Unfinished) (ticks : Option ℕ) (wait : Option MutexWait) where
+    (kept : HasMutexes settings calls holders stamps) (task : ℕ) (call : Unfinished) (ticks : Option ℕ) (wait : Option EventWait) where
   abbrev later_calls : List (Option Unfinished)
   later_calls = slice_set calls task (Some call)
 
@@ -194,7 +194,7 @@ module _ (settings : Settings) (calls : List (Option Unfinished)) (holders : Lis
       (λ waiter is. waiter_moved settings stamps task standing below waiter (λ same. cc (ap (λ i. is_ready i stamps) same, ready, is.1)) is) stamps.waiters
       kept.waits
 
-  all_wait : (wait : Option MutexWait) → task < length stamps.rows → is_ready task stamps ≡ true → IfSome wait (IsMutexWait settings) → AllByRecursion
+  all_wait : (wait : Option EventWait) → task < length stamps.rows → is_ready task stamps ≡ true → IfSome wait (IsEventWait settings) → AllByRecursion
       (IsWaiter settings moved) (with_wait task wait stamps.waiters)
   all_wait None below ready there = others_wait below ready
   all_wait (Some wait) below ready there = All-inserted waits_first (record { task = task; wait = wait }) (IsWaiter settings moved) stamps.waiters
@@ -206,12 +206,12 @@ module _ (settings : Settings) (calls : List (Option Unfinished)) (holders : Lis
   others_stay below ready = All-weaker (IsWaiter settings stamps) (λ (w : Waiter). stamp_of moved w.task ≡ stamp_of stamps w.task)
       (λ waiter is. stamp_other stamps task standing below waiter.task (λ same. cc (ap (λ i. is_ready i stamps) same, ready, is.1))) stamps.waiters kept.waits
 
-  in_turn : (wait : Option MutexWait) → task < length stamps.rows → IsGiven stamps → is_ready task stamps ≡ true → stamps.values ≡ [] → AreInTurn moved
+  in_turn : (wait : Option EventWait) → task < length stamps.rows → IsGiven stamps → is_ready task stamps ≡ true → stamps.values ≡ [] → AreInTurn moved
       (with_wait task wait stamps.waiters)
   in_turn None below given ready none = turn_moved stamps moved stamps.waiters (others_stay below ready) (kept.turns none)
   in_turn (Some wait) below given ready none =
       let waiter : Waiter = record { task = task; wait = wait } in
-      turn_inserted moved waiter stamps.waiters (turn_moved stamps moved stamps.waiters (others_stay below ready) (kept.turns none)) kept.by_mutex
+      turn_inserted moved waiter stamps.waiters (turn_moved stamps moved stamps.waiters (others_stay below ready) (kept.turns none)) kept.by_list
       (All-weaker (λ (w : Waiter). IsWaiter settings stamps w × (stamp_of moved w.task ≡ stamp_of stamps w.task))
       (λ (w : Waiter). stamp_of moved w.task < stamp_of moved task)
       (λ w both. omega (arith, both.1, stamp_same stamps task standing below, given w.task both.0.0)) stamps.waiters
@@ -222,39 +222,39 @@ module _ (settings : Settings) (calls : List (Option Unfinished)) (holders : Lis
   is_new ready = All-weaker (IsWaiter settings stamps) (λ (w : Waiter). w.task ≢ task) (λ w is same. cc (ap (λ i. is_ready i stamps) same, ready, is.1)) stamps.waiters
       kept.waits
 
-  waits_once : (wait : Option MutexWait) → is_ready task stamps ≡ true → WaitOnce (with_wait task wait stamps.waiters)
+  waits_once : (wait : Option EventWait) → is_ready task stamps ≡ true → WaitOnce (with_wait task wait stamps.waiters)
   waits_once None ready = kept.once
   waits_once (Some wait) ready = once_waiting waits_first (record { task = task; wait = wait }) stamps.waiters kept.once (is_new ready)
 
-  in_mutex_order : (wait : Option MutexWait) → AreByMutex (with_wait task wait stamps.waiters)
-  in_mutex_order None = kept.by_mutex
-  in_mutex_order (Some wait) = by_mutex_inserted (record { task = task; wait = wait }) stamps.waiters kept.by_mutex
+  in_mutex_order : (wait : Option EventWait) → AreByList (with_wait task wait stamps.waiters)
+  in_mutex_order None = kept.by_list
+  in_mutex_order (Some wait) = by_mutex_inserted (record { task = task; wait = wait }) stamps.waiters kept.by_list
 
-  task_awaits : (wait : Option MutexWait) → is_ready task stamps ≡ true → mutex_awaited task (with_wait task wait stamps.waiters) ≡ option_map
-      (λ (wait : MutexWait). wait.mutex) wait
-  task_awaits None ready = ap (option_map (λ (w : Waiter). w.wait.mutex)) (none_found task stamps.waiters (is_new ready))
-  task_awaits (Some wait) ready = ap (option_map (λ (w : Waiter). w.wait.mutex))
+  task_awaits : (wait : Option EventWait) → is_ready task stamps ≡ true → list_awaited task (with_wait task wait stamps.waiters) ≡ option_map
+      (λ (wait : EventWait). wait.list) wait
+  task_awaits None ready = ap (option_map (λ (w : Waiter). w.wait.list)) (none_found task stamps.waiters (is_new ready))
+  task_awaits (Some wait) ready = ap (option_map (λ (w : Waiter). w.wait.list))
       (waiter_found waits_first (record { task = task; wait = wait }) stamps.waiters (is_new ready))
 
-  others_await : (i : ℕ) (wait : Option MutexWait) → i ≢ task → waiter_of i (with_wait task wait stamps.waiters) ≡ waiter_of i stamps.waiters
+  others_await : (i : ℕ) (wait : Option EventWait) → i ≢ task → waiter_of i (with_wait task wait stamps.waiters) ≡ waiter_of i stamps.waiters
   others_await i None away = refl
   others_await i (Some wait) away = others_found waits_first (record { task = task; wait = wait }) stamps.waiters i away
 
   pub waiting_mutexes : task < length stamps.rows → IsGiven stamps → is_ready task stamps ≡ true → task < length calls → task < length stamps.deadlines → IfSome wait
-      (IsMutexWait settings) →
-      IsWaitOf call ticks wait → HasMutexes settings later_calls holders (delay task ticks wait stamps)
+      (IsEventWait settings) →
+      IsWaitOf settings call ticks wait → HasMutexes settings later_calls holders (delay task ticks wait stamps)
   unfolding delay
   waiting_mutexes below given ready in_calls in_deadlines there takes = record {
     held_by_tasks = kept.held_by_tasks;
     waits = all_wait wait below ready there;
     once = waits_once wait ready;
-    by_mutex = in_mutex_order wait;
+    by_list = in_mutex_order wait;
     awaited = λ i low blocked. elim (cases_eq i task) [
-      | inl here ↦ ap (λ j. mutex_awaited j (with_wait task wait stamps.waiters)) here ∙ task_awaits wait ready ∙ takes.0 ∙ sym
-          (ap mutex_taken (ap (call_at later_calls) here ∙ get_or-set_same calls task (Some call) None in_calls))
-      | inr away ↦ ap (option_map (λ (w : Waiter). w.wait.mutex)) (others_await i wait away) ∙ kept.awaited i (omega (arith, moved_length stamps task standing below, low))
+      | inl here ↦ ap (λ j. list_awaited j (with_wait task wait stamps.waiters)) here ∙ task_awaits wait ready ∙ takes.0 ∙ sym
+          (ap (list_of_call settings) (ap (call_at later_calls) here ∙ get_or-set_same calls task (Some call) None in_calls))
+      | inr away ↦ ap (option_map (λ (w : Waiter). w.wait.list)) (others_await i wait away) ∙ kept.awaited i (omega (arith, moved_length stamps task standing below, low))
           (sym (ap stands_ready (standing_other stamps task standing below i away)) ∙ blocked) ∙ sym
-          (ap mutex_taken (get_or-set_other calls task i (Some call) None away))
+          (ap (list_of_call settings) (get_or-set_other calls task i (Some call) None away))
     ];
     turns = in_turn wait below given ready;
     values = kept.values;
@@ -263,12 +263,12 @@ module _ (settings : Settings) (calls : List (Option Unfinished)) (holders : Lis
           let near = initial_near stamps.tick deadline ticks wait takes.1
           (sym (get_or-set_same stamps.deadlines task ends None in_deadlines) ∙ ap (deadline_at (delay task ticks wait stamps)) (sym here) ∙ has) in (
             near.0,
-            ap (λ call. is_some (mutex_taken call)) (ap (call_at later_calls) here ∙ get_or-set_same calls task (Some call) None in_calls) ∙
+            ap (λ call. is_some (list_of_call settings call)) (ap (call_at later_calls) here ∙ get_or-set_same calls task (Some call) None in_calls) ∙
                 ap is_some (sym takes.0) ∙ some_mapped wait near.1,
           )
       | inr away ↦
           let near = kept.deadlines i deadline (sym (get_or-set_other stamps.deadlines task i ends None away) ∙ has) in
-          (near.0, ap (λ call. is_some (mutex_taken call)) (get_or-set_other calls task i (Some call) None away) ∙ near.1)
+          (near.0, ap (λ call. is_some (list_of_call settings call)) (get_or-set_other calls task i (Some call) None away) ∙ near.1)
     ];
   }
     where

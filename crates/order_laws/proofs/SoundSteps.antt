@@ -8,7 +8,7 @@ use Rattle.std.proofs.lemmas.Bool.Decides.{nat_tests}
 use Rattle.std.proofs.lemmas.Bool.{cases_eq}
 use Rattle.std.proofs.lemmas.List.{length-set, get_or-set_same, get_or-set_other}
 use Rattle.bench_types.specs.declared.step.Unfinished.{Unfinished}
-use Rattle.bench_types.specs.declared.kernel_data.MutexWait.{MutexWait}
+use Rattle.bench_types.specs.declared.kernel_data.EventWait.{EventWait}
 use Rattle.bench_types.specs.declared.kernel_data.CoreLook.{CoreLook}
 use Rattle.bench_types.specs.declared.kernel_data.Settings.{Settings}
 use Rattle.bench_types.specs.declared.kernel_data.TaskControl.{TaskControl}
@@ -20,7 +20,7 @@ use Rattle.bench_model.specs.Control.{Control, core_at, task_at, with_core, curr
 use Rattle.bench_model.specs.State.{selected, call_at, after_select, yielded, blocked}
 use Rattle.bench_model.specs.Table.{Stamps, Table, stamp_queues, row_at, stamp_of, is_ready, stands_ready, wake_in, ahead, wakes_at, tasks_of, restamped, pick}
 use Rattle.bench_model.specs.Table.{add_to_ready_list, delay, advance, due}
-use Rattle.bench_model.specs.Sound.{IsCaller, IsStamped, HasCurrentTasks, IsWait, IsMutexWait, WakesInTime, IsControlBlock, HasMutexes}
+use Rattle.bench_model.specs.Sound.{IsCaller, IsStamped, HasCurrentTasks, IsWait, IsEventWait, WakesInTime, IsControlBlock, HasMutexes}
 use Rattle.bench_model.specs.Sound.{IsConsistent, IsWaitOf}
 use Rattle.list_orders.proofs.Filters.{All-weaker}
 use Rattle.list_orders.proofs.Stamped.{numbers_have, has-by_stamp}
@@ -482,7 +482,7 @@ wake_in_time tick wake (Some ticks) fits same =
     let at : tick + ticks ≡ wake = cc (same) in
     (omega (arith, at, fits.0), omega (arith, at, fits.1))
 
-module _ (stamps : Stamps) (task : ℕ) (ticks : Option ℕ) (wait : Option MutexWait) (below : task < length stamps.rows) where
+module _ (stamps : Stamps) (task : ℕ) (ticks : Option ℕ) (wait : Option EventWait) (below : task < length stamps.rows) where
   delayed_in_time : IsWait ticks → WakesInTime stamps → WakesInTime (delay task ticks wait stamps)
   unfolding delay
   delayed_in_time fits in_time i wake low waits =
@@ -519,9 +519,9 @@ module _ (stamps : Stamps) (task : ℕ) (ticks : Option ℕ) (wait : Option Mute
       let moved = waiting_placed control core core low stamps task (waiting_for stamps ticks) below here user place in
       record { is_task = moved.is_task; on_one_core = moved.on_one_core; blocked_is_due = moved.blocked_is_due; idle_is_ready = moved.idle_is_ready }
 
-pub blocked_sound : (core task : ℕ) (call : Unfinished) (ticks : Option ℕ) (wait : Option MutexWait) (table : Table) → IsConsistent table → IsCaller table core
-    task → IsCheckedUnfinished table.settings call → length table.control.cores ≤ task → IsWait ticks → IfSome wait (IsMutexWait table.settings) →
-    IsWaitOf call ticks wait → IsConsistent (blocked stamp_queues core task call ticks wait table)
+pub blocked_sound : (core task : ℕ) (call : Unfinished) (ticks : Option ℕ) (wait : Option EventWait) (table : Table) → IsConsistent table → IsCaller table core
+    task → IsCheckedUnfinished table.settings call → length table.control.cores ≤ task → IsWait ticks → IfSome wait (IsEventWait table.settings) →
+    IsWaitOf table.settings call ticks wait → IsConsistent (blocked stamp_queues core task call ticks wait table)
 unfolding blocked
 blocked_sound core task call ticks wait table sound place checked user fits there takes =
     let low : task < table.settings.tasks = omega (arith, sound.sized.rows, place.2) in

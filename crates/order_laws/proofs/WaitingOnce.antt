@@ -3,7 +3,7 @@ use Rattle.std.proofs.Common.{◌≡◌, ◌≢◌, ◌≤◌, ℕ, zero, suc, B
 use Rattle.std.specs.List.{filter, find, insert, prefix_len, AllByRecursion}
 use Rattle.std.proofs.lemmas.Bool.Decides.{nat_tests}
 use Rattle.bench_types.specs.declared.kernel_data.Waiter.{Waiter}
-use Rattle.bench_model.specs.Turns.{AreByMutex, WaitOnce}
+use Rattle.bench_model.specs.Turns.{AreByList, WaitOnce}
 use Rattle.bench_model.specs.Waiters.{waiter_of, waits_first, without_waiter}
 use Rattle.list_orders.specs.Search.{inserted}
 use Rattle.list_orders.proofs.Filters.{All-filter, All-weaker, find_none}
@@ -88,30 +88,30 @@ module _ (front : Waiter → Waiter → Bool) (waiter : Waiter) (waiters : List 
 
 -- ---- the order of mutexes
 
-pub by_mutex_filter : (q : Waiter → Bool) (waiters : List Waiter) → AreByMutex waiters → AreByMutex (filter q waiters)
+pub by_mutex_filter : (q : Waiter → Bool) (waiters : List Waiter) → AreByList waiters → AreByList (filter q waiters)
 by_mutex_filter q [] ordered = tt
 by_mutex_filter q (waiter ∷ waiters) ordered = at (q waiter) (by_mutex_filter q waiters ordered.1)
   where
-    at : (b : Bool) → AreByMutex (filter q waiters) → AreByMutex (cond b (waiter ∷ filter q waiters) (filter q waiters))
-    at true rest = (All-filter (λ (other : Waiter). waiter.wait.mutex ≤ other.wait.mutex) q waiters ordered.0, rest)
+    at : (b : Bool) → AreByList (filter q waiters) → AreByList (cond b (waiter ∷ filter q waiters) (filter q waiters))
+    at true rest = (All-filter (λ (other : Waiter). waiter.wait.list ≤ other.wait.list) q waiters ordered.0, rest)
     at false rest = rest
 
 -- one that begins to wait stands behind those of lesser mutexes, and in front of those of greater ones
-pub by_mutex_inserted : (waiter : Waiter) (waiters : List Waiter) → AreByMutex waiters → AreByMutex (inserted waits_first waiter waiters)
+pub by_mutex_inserted : (waiter : Waiter) (waiters : List Waiter) → AreByList waiters → AreByList (inserted waits_first waiter waiters)
 by_mutex_inserted waiter [] ordered = (tt, tt)
 by_mutex_inserted waiter (w ∷ ws) ordered = at (waits_first w waiter) refl (by_mutex_inserted waiter ws ordered.1)
   where
-    at : (b : Bool) → waits_first w waiter ≡ b → AreByMutex (inserted waits_first waiter ws) → AreByMutex (inserted waits_first waiter (w ∷ ws))
+    at : (b : Bool) → waits_first w waiter ≡ b → AreByList (inserted waits_first waiter ws) → AreByList (inserted waits_first waiter (w ∷ ws))
     at true on rest =
-        let before : w.wait.mutex ≤ waiter.wait.mutex = grind (arith, nat_tests, on) in
-        subst AreByMutex (sym (inserted_behind waits_first waiter w ws on))
-        (All-inserted waits_first waiter (λ (other : Waiter). w.wait.mutex ≤ other.wait.mutex) ws before ordered.0, rest)
+        let before : w.wait.list ≤ waiter.wait.list = grind (arith, nat_tests, on) in
+        subst AreByList (sym (inserted_behind waits_first waiter w ws on))
+        (All-inserted waits_first waiter (λ (other : Waiter). w.wait.list ≤ other.wait.list) ws before ordered.0, rest)
     at false off rest =
-        let after : waiter.wait.mutex ≤ w.wait.mutex = grind (arith, nat_tests, off) in
-        subst AreByMutex (sym (inserted_here waits_first waiter w ws off)) (
+        let after : waiter.wait.list ≤ w.wait.list = grind (arith, nat_tests, off) in
+        subst AreByList (sym (inserted_here waits_first waiter w ws off)) (
           (
             after,
-            All-weaker (λ (y : Waiter). w.wait.mutex ≤ y.wait.mutex) (λ (y : Waiter). waiter.wait.mutex ≤ y.wait.mutex)
+            All-weaker (λ (y : Waiter). w.wait.list ≤ y.wait.list) (λ (y : Waiter). waiter.wait.list ≤ y.wait.list)
                 (λ y later. omega (arith, after, later)) ws ordered.0,
           ),
           ordered,

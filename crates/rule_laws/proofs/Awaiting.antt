@@ -21,7 +21,7 @@ use Rattle.bench_model.specs.State.{State, blocked}
 use Rattle.bench_model.specs.Table.{Table, stamp_queues, is_ready}
 use Rattle.bench_model.specs.Lists.{View, list_queues, view_of}
 use Rattle.bench_model.specs.Lists.{seen_of}
-use Rattle.bench_model.specs.Sound.{IsCaller, IsConsistent, IsWait, IsMutexTime}
+use Rattle.bench_model.specs.Sound.{IsCaller, IsConsistent, IsWait, IsEventTime}
 use Rattle.rule_laws.proofs.Notifying.{notify_seen, notify_sound, ruled_sound}
 use Rattle.order_laws.proofs.SeenSteps.{blocked_seen}
 use Rattle.order_laws.proofs.SoundSteps.{blocked_sound}
@@ -166,10 +166,10 @@ waits_on ticks some low = either (eqb ticks (2 ^ 32 - 1))
     either false = (some, low)
 
 -- and of a wait for a mutex
-pub waits_short : (ticks : ℕ) → ticks < 2 ^ 32 → IsMutexTime (timeout_of ticks)
+pub waits_short : (ticks : ℕ) → ticks < 2 ^ 32 → IsEventTime (timeout_of ticks)
 waits_short ticks low = either (eqb ticks (2 ^ 32 - 1)) refl
   where
-    either : (b : Bool) → eqb ticks (2 ^ 32 - 1) ≡ b → IsMutexTime (cond b None (Some ticks))
+    either : (b : Bool) → eqb ticks (2 ^ 32 - 1) ≡ b → IsEventTime (cond b None (Some ticks))
     either true endless = tt
     either false short = grind (arith, nat_tests, short, low)
 

@@ -105,10 +105,10 @@ in_use_seen table task priority sound low = at (is_ready task table.orders) refl
     at : (b : Bool) → is_ready task table.orders ≡ b → (d : Bool) → d ≡ is_ready task table.orders → view_of
         (record table { control = changed; orders = cond b (add_to_ready_list task table.orders) table.orders }) ≡ record (view_of table)
         { control = changed; orders = cond d (seen.add_to_ready_list changed task (lists_of table.control table.orders)) (lists_of table.control table.orders) }
-    at true is true same = same_state table.settings changed changed table.calls table.notes table.holders table.hold _ _ refl
+    at true is true same = same_state table.settings changed changed table.calls table.notes table.holders table.queues table.hold _ _ refl
         (add_to_ready_seen changed table.orders task sound.stamped.given below ∙ moved_last table.control changed task table.orders
         (others_stay table.control task _ (standing_so stands_ready table.orders)))
-    at false is false same = same_state table.settings changed changed table.calls table.notes table.holders table.hold _ _ refl
+    at false is false same = same_state table.settings changed changed table.calls table.notes table.holders table.queues table.hold _ _ refl
         (blocked_apart table task priority sound low is)
     at true is false same = absurd (cc (is, same))
     at false is true same = absurd (cc (is, same))

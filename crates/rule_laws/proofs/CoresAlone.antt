@@ -1,7 +1,7 @@
 -- What each rule does to cores and ready lists depends on them alone.
 use Rattle.std.proofs.Common.{◌≡◌, ℕ, ◌<◌, Bool, true, false, cond, not, eqb, ltb, ◌&&◌, length, Option, refl, sym, ap, ◌∙◌, arith}
 use Rattle.std.specs.Prelude.{unwrap_or}
-use Rattle.bench_types.specs.declared.kernel_data.MutexWait.{MutexWait}
+use Rattle.bench_types.specs.declared.kernel_data.EventWait.{EventWait}
 use Rattle.list_orders.specs.Search.{without, has}
 use Rattle.bench_model.specs.Control.{Control, task_at, current, in_mask, ask, ask_each, run_on, ask_its_core}
 use Rattle.bench_model.specs.State.{after_select}
@@ -113,11 +113,11 @@ pub ask_on : (table : Table) (acting core : ℕ) → cores_seen (record table { 
 unfolding lists_of
 ask_on table acting core = refl
 
-delay_ready : (task : ℕ) (ticks : Option ℕ) (wait : Option MutexWait) (lists : Lists) → (seen.delay task ticks wait lists).ready ≡ without task lists.ready
+delay_ready : (task : ℕ) (ticks : Option ℕ) (wait : Option EventWait) (lists : Lists) → (seen.delay task ticks wait lists).ready ≡ without task lists.ready
 unfolding seen.delay
 delay_ready task ticks wait lists = refl
 
-pub wait_on : (table : Table) (task : ℕ) (ticks : Option ℕ) (wait : Option MutexWait) → IsConsistent table → task < table.settings.tasks → is_ready task
+pub wait_on : (table : Table) (task : ℕ) (ticks : Option ℕ) (wait : Option EventWait) → IsConsistent table → task < table.settings.tasks → is_ready task
     table.orders ≡ true → cores_seen (record table { orders = delay task ticks wait table.orders }) ≡ record (cores_seen table)
     { ready = without task (cores_seen table).ready }
 wait_on table task ticks wait sound low ready =

@@ -1,8 +1,10 @@
 pub mod Awaiting
 pub mod ControlFields
 pub mod CoresAlone
+pub mod Finishes
 pub mod Mutexes
 pub mod Notifying
 pub mod PriorityAffinity
+pub mod Queues
 pub mod Seeks
 pub mod Ticks

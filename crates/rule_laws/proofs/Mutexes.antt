@@ -1,33 +1,32 @@
 -- Mutexes with priority inheritance: each rule as lists, and that it keeps a table sound.
-use Rattle.std.proofs.Common.{◌≡◌, zero, suc, ℕ, ◌+◌, ◌-◌, ◌<◌, ◌≤◌, ◌^◌, Bool, true, false, cond, not, eqb, ltb, ◌&&◌, List, [], ◌∷◌, length, Option, Some, None, refl, sym, ap}
+use Rattle.std.proofs.Common.{◌≡◌, zero, suc, ℕ, ◌+◌, ◌-◌, ◌*◌, ◌<◌, ◌≤◌, ◌^◌, Bool, true, false, cond, not, eqb, ltb, ◌&&◌, List, [], ◌∷◌, length, Option, Some, None, refl, sym, ap}
 use Rattle.std.proofs.Common.{ap₂, subst, ◌∙◌, arith}
 use Rattle.std.specs.Prelude.{slice_set, option_map, unwrap_or, All}
 use Rattle.std.specs.Option.{option_map_or}
 use Rattle.std.proofs.lemmas.Bool.Decides.{nat_tests}
 use Rattle.std.proofs.lemmas.List.{length-set}
-use Rattle.bench_types.specs.declared.kernel_data.MutexWait.{MutexWait}
+use Rattle.bench_types.specs.declared.kernel_data.EventWait.{EventWait}
 use Rattle.bench_types.specs.declared.kernel_data.Waiter.{Waiter}
 use Rattle.bench_types.specs.declared.reply.Reply.{Reply}
 use Rattle.bench_types.specs.declared.reply.Reply.TheVariants.{Blocked, Flag}
 use Rattle.bench_types.specs.declared.step.Unfinished.{Unfinished}
-use Rattle.bench_types.specs.declared.step.Unfinished.TheVariants.{Made, Take}
-use Rattle.bench_types.specs.Step.{IsCheckedUnfinished}
+use Rattle.bench_types.specs.declared.step.Unfinished.TheVariants.{Take}
+use Rattle.bench_types.specs.Step.{queue_total}
 use Rattle.bench_model.specs.ControlFields.{in_use_set, in_use_and_value_set}
 use Rattle.bench_model.specs.Control.{task_at, current, in_mask, ask_its_core}
 use Rattle.bench_model.specs.Lists.{seen_of}
 use Rattle.bench_model.specs.Lists.{View, list_queues, view_of}
-use Rattle.bench_model.specs.Steps.{after_finish}
 use Rattle.bench_model.specs.Mutexes.{held_by, is_marked, taken, inherited, waited_at, take_from, mutex_take, owed, after_disinherit, timed_out}
 use Rattle.bench_model.specs.Mutexes.{disinherit_priority, finish_from, take_finished, disinherited, first_woken, give_from, mutex_give}
-use Rattle.bench_model.specs.Notifying.{timeout_of, completed}
+use Rattle.bench_model.specs.Notifying.{timeout_of}
 use Rattle.bench_model.specs.Seek.{seek, wake}
 use Rattle.rule_laws.specs.SeekLaws.{sought}
 use Rattle.rule_laws.specs.SetLaws.{on_control}
-use Rattle.bench_model.specs.Sound.{IsCaller, IsConsistent, IsWait, IsMutexTime, IsWaiter}
+use Rattle.bench_model.specs.Sound.{IsCaller, IsConsistent, IsWait, IsEventTime, IsWaiter}
 use Rattle.bench_model.specs.Waiters.{list_value_of}
 use Rattle.bench_model.specs.State.{State, holder_at, blocked, after_return}
 use Rattle.bench_model.specs.Table.{Stamps, Table, stamp_queues, is_ready, add_to_ready_list, deadline_at, deadline_left, forget_deadline, first_waiter, set_list_value}
-use Rattle.rule_laws.proofs.Awaiting.{waits_on, waits_short, completed_seen, completed_sound}
+use Rattle.rule_laws.proofs.Awaiting.{waits_on, waits_short}
 use Rattle.rule_laws.proofs.ControlFields.{both_seen, both_sound}
 use Rattle.order_laws.proofs.FirstWaiters.{first_waiter_seen, first_waiter_all}
 use Rattle.order_laws.proofs.SeenMoves.{deadline_left_seen, forget_deadline_seen, list_value_seen}
@@ -161,7 +160,7 @@ inherited_settings table acting holder priority = at (ltb (task_at table.control
 -- ---- waiting
 
 -- a list value is a priority that there is, and so is the priority in use
-waiting_below : (values : List ℕ) (task mine bound : ℕ) → All (λ value. value < bound) values → mine < bound → unwrap_or (list_value_of task values) mine <
+pub waiting_below : (values : List ℕ) (task mine bound : ℕ) → All (λ value. value < bound) values → mine < bound → unwrap_or (list_value_of task values) mine <
     bound
 waiting_below [] task mine bound all low = low
 waiting_below (value ∷ values) zero mine bound all low = all 0 0 (omega arith)
@@ -182,10 +181,10 @@ module _ (table : Table) (core task mutex holder : ℕ) (ticks : Option ℕ) (so
   marked = Take mutex (is_marked table.control task holder)
 
   -- the wait with this list value, where there is one
-  abbrev wait_with : Option ℕ → Option MutexWait
-  wait_with value = Some (record { mutex = mutex; priority = unwrap_or value mine })
+  abbrev wait_with : Option ℕ → Option EventWait
+  wait_with value = Some (record { list = mutex; priority = unwrap_or value mine })
 
-  abbrev wait : Option MutexWait
+  abbrev wait : Option EventWait
   wait = wait_with (list_value_of task table.orders.values)
 
   caller_low : task < table.settings.tasks
@@ -208,17 +207,18 @@ module _ (table : Table) (core task mutex holder : ℕ) (ticks : Option ℕ) (so
       (λ value. blocked list_queues core task marked ticks (wait_with value) (inherited list_queues core holder mine (view_of table)))
       (sym (list_value_seen table.control table.orders task))
 
-  pub waited_sound : length table.control.cores ≤ task → IsWait ticks → IsMutexTime ticks → mutex < table.settings.mutexes → IsConsistent
+  pub waited_sound : length table.control.cores ≤ task → IsWait ticks → IsEventTime ticks → mutex < table.settings.mutexes → IsConsistent
       (waited_at stamp_queues core task mutex holder ticks table)
   unfolding waited_at
   waited_sound user fits short below =
       let same = sym (inherited_settings table core holder mine) in
       let there : mutex < raised.settings.mutexes = subst (λ s. mutex < s.mutexes) same below in
+      let listed : mutex < raised.settings.mutexes + 2 * queue_total raised.settings = omega (arith, there) in
       let waiting = unwrap_or (list_value_of task table.orders.values) mine in
       let rank : waiting < raised.settings.priorities = subst (λ s. waiting < s.priorities) same
       (waiting_below table.orders.values task mine table.settings.priorities sound.mutexes.values (sound.blocks task caller_low).in_use) in
       blocked_sound core task marked ticks wait raised raised_sound raised_place there
-      (omega (arith, (inherited_kept table core holder mine sound low).cores, user)) fits (there, rank) (refl, λ is. short)
+      (omega (arith, (inherited_kept table core holder mine sound low).cores, user)) fits (listed, rank) (refl, λ is. short)
 
 -- ---- taking
 
@@ -264,7 +264,7 @@ unfolding forget_deadline
 forgotten_length stamps task = length-set stamps.deadlines task None
 
 -- a table with a forgotten deadline is otherwise as it was
-forgotten_sound : (table : Table) (task : ℕ) → IsConsistent table → task < table.settings.tasks → is_ready task table.orders ≡ true → IsConsistent
+pub forgotten_sound : (table : Table) (task : ℕ) → IsConsistent table → task < table.settings.tasks → is_ready task table.orders ≡ true → IsConsistent
     (after_return stamp_queues task table)
 unfolding forget_deadline
 forgotten_sound table task sound low ready = record {
@@ -356,14 +356,14 @@ is_over left = option_map_or (λ ticks. eqb ticks 0) left false
 
 -- the ticks of a wait that goes on
 goes_on : (tick : ℕ) (deadline : Option ℕ) → ((at : ℕ) → deadline ≡ Some at → suc at < tick + 2 ^ 32) → is_over (option_map (λ at. at - tick) deadline) ≡ false
-    → IsWait (option_map (λ at. at - tick) deadline) × IsMutexTime (option_map (λ at. at - tick) deadline)
+    → IsWait (option_map (λ at. at - tick) deadline) × IsEventTime (option_map (λ at. at - tick) deadline)
 goes_on tick None near on = (tt, tt)
 goes_on tick (Some at) near on =
     let some : 0 < at - tick = grind (arith, nat_tests, on) in
     ((some, omega (arith, near at refl)), omega (arith, near at refl, some))
 
-still_waits : (table : Table) (task : ℕ) → IsConsistent table → is_over (deadline_left task table.orders) ≡ false → IsWait (deadline_left task table.orders) ×
-    IsMutexTime (deadline_left task table.orders)
+pub still_waits : (table : Table) (task : ℕ) → IsConsistent table → is_over (deadline_left task table.orders) ≡ false → IsWait (deadline_left task table.orders) ×
+    IsEventTime (deadline_left task table.orders)
 unfolding deadline_left
 still_waits table task sound on = goes_on table.orders.tick (deadline_at table.orders task) (λ at is. (sound.mutexes.deadlines task at is).0) on
 
@@ -383,7 +383,7 @@ module _ (table : Table) (core task mutex : ℕ) (mark : Bool) (sound : IsConsis
       (Flag false, timed_out list_queues core task mutex mark holder (after_return list_queues task (view_of table)))
       (Blocked, waited_at list_queues core task mutex holder left (view_of table))
 
-  finish_seen : seen_of (take_finished stamp_queues core task mutex mark table) ≡ take_finished list_queues core task mutex mark (view_of table)
+  pub finish_seen : seen_of (take_finished stamp_queues core task mutex mark table) ≡ take_finished list_queues core task mutex mark (view_of table)
   unfolding take_finished
   finish_seen = from (holder_at table.holders mutex) refl
     where
@@ -404,7 +404,7 @@ module _ (table : Table) (core task mutex : ℕ) (mark : Bool) (sound : IsConsis
       from (Some holder) held = either (is_over left) holder (sound.mutexes.held_by_tasks mutex holder held) ∙ ap (λ left. finished_view left holder)
           (sym (deadline_left_seen table.control table.orders task))
 
-  finish_sound : length table.control.cores ≤ task → mutex < table.settings.mutexes → IsConsistent (take_finished stamp_queues core task mutex mark table).1
+  pub finish_sound : length table.control.cores ≤ task → mutex < table.settings.mutexes → IsConsistent (take_finished stamp_queues core task mutex mark table).1
   unfolding take_finished
   finish_sound user below = from (holder_at table.holders mutex) refl
     where
@@ -422,21 +422,6 @@ module _ (table : Table) (core task mutex : ℕ) (mark : Bool) (sound : IsConsis
       from : (held : Option ℕ) → holder_at table.holders mutex ≡ held → IsConsistent (finish_from stamp_queues held core task mutex mark table).1
       from None free = taken_sound over task mutex over_sound over_low below
       from (Some holder) held = either (is_over left) refl holder (sound.mutexes.held_by_tasks mutex holder held)
-
-pub finished_seen : (table : Table) (core task : ℕ) (call : Unfinished) → IsConsistent table → IsCaller table core task → seen_of
-    (after_finish stamp_queues core task call table) ≡ after_finish list_queues core task call (view_of table)
-unfolding after_finish
-finished_seen table core task (Made call) sound place = completed_seen (after_return stamp_queues task table) task call ∙ ap (completed task call)
-    (ended_seen table task)
-finished_seen table core task (Take mutex mark) sound place = finish_seen table core task mutex mark sound place
-
-pub finished_sound : (table : Table) (core task : ℕ) (call : Unfinished) → IsConsistent table → IsCaller table core task → IsCheckedUnfinished table.settings
-    call → length table.control.cores ≤ task → IsConsistent (after_finish stamp_queues core task call table).1
-unfolding after_finish
-finished_sound table core task (Made call) sound place checked user =
-    let low : task < table.settings.tasks = omega (arith, sound.sized.rows, place.2) in
-    completed_sound (after_return stamp_queues task table) task call (forgotten_sound table task sound low place.3)
-finished_sound table core task (Take mutex mark) sound place checked user = finish_sound table core task mutex mark sound place user checked
 
 -- ---- giving
 

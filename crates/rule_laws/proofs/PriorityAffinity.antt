@@ -83,7 +83,7 @@ more_apart control other stamps more =
 
 more_seen : (table : Table) (other : Control) → IsAskedMore table.control other → view_of (with_control table other) ≡ record (view_of table)
     { control = other }
-more_seen table other more = same_state table.settings other other table.calls table.notes table.holders table.hold _ _ refl
+more_seen table other more = same_state table.settings other other table.calls table.notes table.holders table.queues table.hold _ _ refl
     (more_apart table.control other table.orders more)
 
 pub its_core_seen : (table : Table) (acting task : ℕ) → view_of (on_control (ask_its_core acting task) table) ≡ on_control (ask_its_core acting task)
@@ -116,7 +116,7 @@ after_affinity_set_sound table acting task ready sound = more_sound table (yield
 -- a control block that keeps its priority in use
 change_seen : (table : Table) (task : ℕ) (block : TaskControl) → block.in_use ≡ (task_at table.control task).in_use → view_of
     (with_control table (with_task task block table.control)) ≡ record (view_of table) { control = with_task task block table.control }
-change_seen table task block kept = same_state table.settings _ _ table.calls table.notes table.holders table.hold _ _ refl
+change_seen table task block kept = same_state table.settings _ _ table.calls table.notes table.holders table.queues table.hold _ _ refl
     (change_apart table.control table.orders task block kept)
 
 -- a control block with another preemption flag, and one with a mask that was cut

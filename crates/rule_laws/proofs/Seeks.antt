@@ -36,14 +36,14 @@ seek_apart acting task among control stamps = at (is_running control task) (core
     at false (Some core) = lists_of_cores control _ stamps
 
 pub seek_seen : (table : Table) (acting task : ℕ) (among : ℕ → Bool) → view_of (sought acting task among table) ≡ sought acting task among (view_of table)
-seek_seen table acting task among = same_state table.settings _ _ table.calls table.notes table.holders table.hold _ _ refl
+seek_seen table acting task among = same_state table.settings _ _ table.calls table.notes table.holders table.queues table.hold _ _ refl
     (seek_apart acting task among table.control table.orders)
 
 pub wake_seen : (table : Table) (acting task : ℕ) → IsGiven table.orders → task < length table.orders.rows → view_of (wake stamp_queues acting task table) ≡
     wake list_queues acting task (view_of table)
 unfolding wake
 wake_seen table acting task given below =
-    same_state table.settings _ _ table.calls table.notes table.holders table.hold _ _ refl
+    same_state table.settings _ _ table.calls table.notes table.holders table.queues table.hold _ _ refl
     (seek_apart acting task (in_mask table.control task) table.control (add_to_ready_list task table.orders) ∙ add_to_ready_seen table.control table.orders task
     given below)
 
@@ -114,7 +114,7 @@ sliced_seen table sound = at table.settings.slicing
   where
     at : (b : Bool) → view_of (cond b (record table { control = ask_each 0 (shares_its_time stamp_queues table) table.control }) table) ≡ cond b
         (record (view_of table) { control = ask_each 0 (shares_its_time list_queues (view_of table)) table.control }) (view_of table)
-    at true = same_state table.settings _ _ table.calls table.notes table.holders table.hold _ _ (sliced_control table sound)
+    at true = same_state table.settings _ _ table.calls table.notes table.holders table.queues table.hold _ _ (sliced_control table sound)
         (lists_of_cores table.control _ table.orders)
     at false = refl
 

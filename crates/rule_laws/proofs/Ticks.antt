@@ -79,7 +79,7 @@ ticked_sound table sound = sliced_sound (after_wakes table) (wakes_sound table s
 
 advanced_view : (table : Table) → WakesInTime table.orders → view_of (with_orders table (advance table.orders)) ≡ with_orders (view_of table)
     (seen.advance (view_of table).orders)
-advanced_view table in_time = same_state table.settings table.control table.control table.calls table.notes table.holders table.hold _ _ refl
+advanced_view table in_time = same_state table.settings table.control table.control table.calls table.notes table.holders table.queues table.hold _ _ refl
     (advance_seen table.control table.orders (in_time_ahead table.orders in_time))
 
 due_seen_later : (table : Table) → WakesInTime table.orders → due (advance table.orders) ≡ seen.due (seen.advance (view_of table).orders)

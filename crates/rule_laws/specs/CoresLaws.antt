@@ -1,7 +1,7 @@
 -- The laws of cores and ready lists, and of changes of a control block. Each is the contract of a
 -- public function.
 use Rattle.std.specs.Prelude.{◌≡◌, ℕ, ◌<◌, length, Bool, true, Option}
-use Rattle.bench_types.specs.declared.kernel_data.MutexWait.{MutexWait}
+use Rattle.bench_types.specs.declared.kernel_data.EventWait.{EventWait}
 use Rattle.bench_types.specs.declared.kernel_data.TaskControl.{TaskControl}
 use Rattle.bench_model.specs.Control.{Control, task_at, ask}
 use Rattle.list_orders.specs.Search.{without}
@@ -65,7 +65,7 @@ WakeOnCores =
 
 abbrev pub WaitOnCores : Type 0
 WaitOnCores =
-    (table : Table) (task : ℕ) (ticks : Option ℕ) (wait : Option MutexWait) → IsConsistent table
+    (table : Table) (task : ℕ) (ticks : Option ℕ) (wait : Option EventWait) → IsConsistent table
     → task < table.settings.tasks → is_ready task table.orders ≡ true →
     cores_seen (record table { orders = delay task ticks wait table.orders })
     ≡ record (cores_seen table) { ready = without task (cores_seen table).ready }

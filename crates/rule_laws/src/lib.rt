@@ -5,6 +5,7 @@
 ghost use Rattle.rule_laws.specs.CoresLaws.{ChangeIsApart, ChangeKeepsConsistent, InUseSimulates, InUseKeepsConsistent, AskOnCores, SeekOnCores, WakeOnCores, WaitOnCores, SwitchOnCores, SlicesOnCores, InUseOnCores};
 ghost use Rattle.rule_laws.specs.MutexLaws.{FirstWaiterSimulates, FirstWaiterIsServedFirst, DeadlineSimulates, ForgettingSimulates, InheritSimulates, InheritKeepsConsistent, TakeSimulates, TakeKeepsConsistent, FinishSimulates, FinishKeepsConsistent, GiveSimulates, GiveKeepsConsistent, LowerSimulates, LowerKeepsConsistent, InheritOnCores, LowerOnCores};
 ghost use Rattle.rule_laws.specs.NoteLaws.{PlacesAreApart, NotifyLeavesOthers, NotifyWakesOnlyAWaiter, NotifySimulates, NotifyKeepsConsistent, NotesKeepOrders, NotesKeepConsistent};
+ghost use Rattle.rule_laws.specs.QueueLaws.{QueueCallSimulates, QueueCallKeepsConsistent, QueueFinishSimulates, QueueFinishKeepsConsistent, QueueInterruptSimulates, QueueInterruptKeepsConsistent};
 ghost use Rattle.rule_laws.specs.SeekLaws.{BestCoreIsAsked, SeekSimulates, WakeSimulates, AfterSwitchSimulates, SlicesAreSeen, AskKeepsConsistent, SeekKeepsConsistent, WakeKeepsConsistent, AfterSwitchKeepsConsistent, SlicesKeepConsistent};
 ghost use Rattle.rule_laws.specs.SetLaws.{AskItsCoreSimulates, YieldsAfterPrioritySetSimulates, YieldsAfterAffinitySetSimulates, PrioritySetSimulates, AffinitySetSimulates, PreemptionOffSimulates, PreemptionOnSimulates, AskItsCoreKeepsConsistent, YieldsAfterPrioritySetKeepsConsistent, YieldsAfterAffinitySetKeepsConsistent, PrioritySetKeepsConsistent, AffinitySetKeepsConsistent, PreemptionOffKeepsConsistent, PreemptionOnKeepsConsistent};
 
@@ -129,6 +130,24 @@ pub fn laws_of_mutexes()
     // What giving up an inherited priority does to the cores and ready lists depends on them
     // alone.
     ensures lower_on_cores { LowerOnCores }
+{}
+
+/// Queues and semaphores. Each rule is the same over stamps and over lists, and keeps a table
+/// consistent.
+pub fn laws_of_queues()
+    // A call that sends or receives, at once or by waiting for it, is so over lists.
+    ensures call_simulates { QueueCallSimulates }
+    // A sound table is sound when a user task sent or received, or waits for it.
+    ensures call_keeps_consistent { QueueCallKeepsConsistent }
+    // Finishing such a call is so over lists: with a message that goes, without one, or by waiting
+    // again.
+    ensures finish_simulates { QueueFinishSimulates }
+    // A sound table is sound when a user task finished such a call.
+    ensures finish_keeps_consistent { QueueFinishKeepsConsistent }
+    // An interrupt that sends or receives is so over lists.
+    ensures interrupt_simulates { QueueInterruptSimulates }
+    // A sound table is sound when an interrupt sent or received.
+    ensures interrupt_keeps_consistent { QueueInterruptKeepsConsistent }
 {}
 
 /// Cores, control blocks and ready lists by themselves: what each rule does to them depends on them

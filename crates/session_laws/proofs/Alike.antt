@@ -6,6 +6,7 @@ use Rattle.std.proofs.lemmas.List.{map-id, length-map, ext_get_or}
 use Rattle.std.proofs.lemmas.Bool.Decides.{nat_tests}
 use Rattle.bench_types.specs.declared.kernel_data.Hold.{Hold}
 use Rattle.bench_types.specs.declared.kernel_data.Delayed.{Delayed}
+use Rattle.bench_types.specs.declared.kernel_data.QueueLook.{QueueLook}
 use Rattle.bench_types.specs.declared.kernel_data.Settings.{Settings}
 use Rattle.bench_types.specs.declared.kernel_data.Waiter.{Waiter}
 use Rattle.bench_types.specs.declared.note.Notification.{Notification}
@@ -50,11 +51,11 @@ one_left (Some x) None some other same = absurd (cc (other))
 one_left (Some x) (Some y) some other same = ap Some same
 
 same_view : (settings other : Settings) (control cores : Control) (calls unfinished : List (Option Unfinished)) (notes noted : List Notification)
-    (holders held : List (Option ℕ)) (hold kept : Option Hold) (orders lists : Lists) →
-    settings ≡ other → control ≡ cores → calls ≡ unfinished → notes ≡ noted → holders ≡ held → hold ≡ kept → orders ≡ lists →
-    (let view : View = record { settings = settings; control = control; calls = calls; notes = notes; holders = holders; hold = hold; orders = orders } in view)
-    ≡ record { settings = other; control = cores; calls = unfinished; notes = noted; holders = held; hold = kept; orders = lists }
-same_view settings other control cores calls unfinished notes noted holders held hold kept orders lists a b c d e f g = cc
+    (holders held : List (Option ℕ)) (queues filled : List QueueLook) (hold kept : Option Hold) (orders lists : Lists) →
+    settings ≡ other → control ≡ cores → calls ≡ unfinished → notes ≡ noted → holders ≡ held → queues ≡ filled → hold ≡ kept → orders ≡ lists →
+    (let view : View = record { settings = settings; control = control; calls = calls; notes = notes; holders = holders; queues = queues; hold = hold; orders = orders } in view)
+    ≡ record { settings = other; control = cores; calls = unfinished; notes = noted; holders = held; queues = filled; hold = kept; orders = lists }
+same_view settings other control cores calls unfinished notes noted holders held queues filled hold kept orders lists a b c d e f g h = cc
 
 module _ (a b : Table) (first : IsConsistent a) (second : IsConsistent b) (settings : a.settings ≡ b.settings) (control : a.control ≡ b.control) where
   tasks : a.settings.tasks ≡ b.settings.tasks
@@ -160,7 +161,7 @@ module _ (a b : Table) (first : IsConsistent a) (second : IsConsistent b) (setti
   waiters_same waits order =
       let one = first.mutexes in
       let other = second.mutexes in
-      same_waiters a.settings.tasks a.orders.waiters b.orders.waiters one.once other.once one.by_mutex other.by_mutex (below_in a first)
+      same_waiters a.settings.tasks a.orders.waiters b.orders.waiters one.once other.once one.by_list other.by_list (below_in a first)
       (subst (λ n. AllByRecursion (λ (w : Waiter). w.task < n) b.orders.waiters) (sym tasks) (below_in b second)) waits order
 
   lists_same : SamePairwise a b → lists_of a.control a.orders ≡ lists_of b.control b.orders
@@ -177,7 +178,7 @@ module _ (a b : Table) (first : IsConsistent a) (second : IsConsistent b) (setti
 
 pub same_from_alike : (a b : Table) → IsConsistent a → IsConsistent b → SamePairwise a b → Same a b
 same_from_alike a b first second alike =
-    same_view _ _ _ _ _ _ _ _ _ _ _ _ _ _ alike.settings alike.control alike.calls alike.notes alike.holders alike.hold
+    same_view _ _ _ _ _ _ _ _ _ _ _ _ _ _ _ _ alike.settings alike.control alike.calls alike.notes alike.holders alike.queues alike.hold
     (lists_same a b first second alike.settings alike.control alike)
 
 pub alike_from_same : (a b : Table) → IsConsistent a → IsConsistent b → Same a b → SamePairwise a b
@@ -188,6 +189,7 @@ alike_from_same a b first second same = record {
   calls = ap (λ (v : View). v.calls) same;
   notes = ap (λ (v : View). v.notes) same;
   holders = ap (λ (v : View). v.holders) same;
+  queues = ap (λ (v : View). v.queues) same;
   hold = ap (λ (v : View). v.hold) same;
   ticks = ap (λ (l : Lists). l.tick) lists;
   ready = agree.ready;

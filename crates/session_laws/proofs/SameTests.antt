@@ -5,15 +5,16 @@ use Rattle.std.proofs.lemmas.Bool.Decides.{Decides-eqb, Decides-and, Decides-lik
 use Rattle.bench_types.specs.declared.note.NotifyAction.TheVariants.{Nothing, SetBits, Increment, Set, SetNew}
 use Rattle.bench_types.specs.declared.note.NoteState.TheVariants.{NotWaiting, Waiting, Received}
 use Rattle.bench_types.specs.declared.step.Call.TheVariants.{Yield, Delay, DelayUntil, PrioritySet, AffinitySet, PreemptOff, PreemptOn, Notify, NotifyWait}
-use Rattle.bench_types.specs.declared.step.Call.TheVariants.{NotifyTake, StateClear, ValueClear, MutexTake, MutexGive, Finish, HoldOpen, HoldClose}
+use Rattle.bench_types.specs.declared.step.Call.TheVariants.{NotifyTake, StateClear, ValueClear, MutexTake, MutexGive, QueueSend, QueueReceive, Finish, HoldOpen, HoldClose}
+use Rattle.bench_types.specs.declared.step.Direction.TheVariants.{Send, Receive}
 use Rattle.bench_types.specs.declared.step.BlockingCall.{BlockingCall}
 use Rattle.bench_types.specs.declared.step.BlockingCall.TheVariants as blocking
-use Rattle.bench_types.specs.declared.step.Unfinished.TheVariants.{Made, Take}
+use Rattle.bench_types.specs.declared.step.Unfinished.TheVariants.{Made, Take, Transfer}
 use Rattle.bench_types.specs.Step.{as_call}
 use Rattle.bench_model.specs.Equal.{Same}
 use Rattle.bench_model.specs.Lists.{view_of}
 use Rattle.bench_model.specs.SameTest.{are_same_bools, are_same_options, are_same_lists, are_same_settings, are_same_looks, are_same_blocks, are_same_actions}
-use Rattle.bench_model.specs.SameTest.{are_same_notes, are_same_states, are_same_notifications, are_same_calls, are_same_unfinished, are_same_holds}
+use Rattle.bench_model.specs.SameTest.{are_same_notes, are_same_states, are_same_notifications, are_same_calls, are_same_directions, are_same_unfinished, are_same_queues, are_same_holds}
 use Rattle.bench_model.specs.SameTest.{are_same_delays, are_same_waiters, are_same_controls, are_same_orders, are_same_views, is_same}
 use Rattle.bench_model.specs.Table.{Table}
 
@@ -89,11 +90,17 @@ delays a b = Decides-like (are_same_delays a b)
     (λ e. (λ i. (e i).task, λ i. (e i).left))
     (two (Decides-eqb a.task b.task) (Decides-eqb a.left b.left))
 
+queues : Tells are_same_queues
+queues a b = Decides-like (are_same_queues a b)
+    (λ h i. record { length = h.0 i; messages = h.1 i })
+    (λ e. (λ i. (e i).length, λ i. (e i).messages))
+    (two (Decides-eqb a.length b.length) (Decides-eqb a.messages b.messages))
+
 waiters : Tells are_same_waiters
 waiters a b = Decides-like (are_same_waiters a b)
-    (λ h i. record { task = h.0.0 i; wait = record { mutex = h.0.1 i; priority = h.1 i } })
-    (λ e. ((λ i. (e i).task, λ i. (e i).wait.mutex), λ i. (e i).wait.priority))
-    (two (two (Decides-eqb a.task b.task) (Decides-eqb a.wait.mutex b.wait.mutex)) (Decides-eqb a.wait.priority b.wait.priority))
+    (λ h i. record { task = h.0.0 i; wait = record { list = h.0.1 i; priority = h.1 i } })
+    (λ e. ((λ i. (e i).task, λ i. (e i).wait.list), λ i. (e i).wait.priority))
+    (two (two (Decides-eqb a.task b.task) (Decides-eqb a.wait.list b.wait.list)) (Decides-eqb a.wait.priority b.wait.priority))
 
 -- ---- notifications
 
@@ -150,6 +157,10 @@ calls (ValueClear a b k) (ValueClear c d l) = Decides-like (are_same_calls (Valu
 calls (MutexTake a b) (MutexTake c d) = Decides-like (are_same_calls (MutexTake a b) (MutexTake c d)) (λ h i. MutexTake (h.0 i) (h.1 i)) (λ e. (cc e, cc e))
     (two (Decides-eqb a c) (Decides-eqb b d))
 calls (MutexGive a) (MutexGive b) = Decides-like (are_same_calls (MutexGive a) (MutexGive b)) (λ e. ap MutexGive e) (λ e. cc e) (Decides-eqb a b)
+calls (QueueSend a b) (QueueSend c d) = Decides-like (are_same_calls (QueueSend a b) (QueueSend c d)) (λ h i. QueueSend (h.0 i) (h.1 i)) (λ e. (cc e, cc e))
+    (two (Decides-eqb a c) (Decides-eqb b d))
+calls (QueueReceive a b) (QueueReceive c d) = Decides-like (are_same_calls (QueueReceive a b) (QueueReceive c d)) (λ h i. QueueReceive (h.0 i) (h.1 i))
+    (λ e. (cc e, cc e)) (two (Decides-eqb a c) (Decides-eqb b d))
 calls Finish Finish = (λ e. refl, λ e. refl)
 calls HoldOpen HoldOpen = (λ e. refl, λ e. refl)
 calls HoldClose HoldClose = (λ e. refl, λ e. refl)
@@ -163,13 +174,19 @@ same_as_call (blocking.NotifyWait a b c k) (blocking.NotifyWait d f g l) e = cc 
 same_as_call (blocking.NotifyTake a b k) (blocking.NotifyTake c d l) e = cc e
 same_as_call a b e = absurd (cc e)
 
+directions : Tells are_same_directions
+directions Send Send = (λ e. refl, λ e. refl)
+directions Receive Receive = (λ e. refl, λ e. refl)
+directions a b = apart (λ e. cc e)
+
 unfinished : Tells are_same_unfinished
 unfinished (Made a) (Made b) =
     Decides-like (are_same_calls (as_call a) (as_call b)) (λ e. ap Made (same_as_call a b e)) (λ e. cc e) (calls (as_call a) (as_call b))
 unfinished (Take a b) (Take c d) = Decides-like (are_same_unfinished (Take a b) (Take c d)) (λ h i. Take (h.0 i) (h.1 i)) (λ e. (cc e, cc e))
     (two (Decides-eqb a c) (bools b d))
-unfinished (Made a) (Take c d) = apart (λ e. cc e)
-unfinished (Take a b) (Made c) = apart (λ e. cc e)
+unfinished (Transfer a b) (Transfer c d) = Decides-like (are_same_unfinished (Transfer a b) (Transfer c d)) (λ h i. Transfer (h.0 i) (h.1 i)) (λ e. (cc e, cc e))
+    (two (Decides-eqb a c) (directions b d))
+unfinished a b = apart (λ e. cc e)
 
 -- ---- what can be seen of a kernel
 
@@ -201,18 +218,23 @@ views a b =
     let maybe = options (λ m n. nat_eq m n) Decides-eqb in
     Decides-like (are_same_views a b)
     (λ h i. record {
-      settings = h.0.0.0.0.0.0 i;
-      control = h.0.0.0.0.0.1 i;
-      calls = h.0.0.0.0.1 i;
-      notes = h.0.0.0.1 i;
-      holders = h.0.0.1 i;
+      settings = h.0.0.0.0.0.0.0 i;
+      control = h.0.0.0.0.0.0.1 i;
+      calls = h.0.0.0.0.0.1 i;
+      notes = h.0.0.0.0.1 i;
+      holders = h.0.0.0.1 i;
+      queues = h.0.0.1 i;
       hold = h.0.1 i;
       orders = h.1 i;
     })
-    (λ e. ((((((λ i. (e i).settings, λ i. (e i).control), λ i. (e i).calls), λ i. (e i).notes), λ i. (e i).holders), λ i. (e i).hold), λ i. (e i).orders))
-    (two (two (two (two (two (two (settings a.settings b.settings) (controls a.control b.control))
+    (λ e. (
+      ((((((λ i. (e i).settings, λ i. (e i).control), λ i. (e i).calls), λ i. (e i).notes), λ i. (e i).holders), λ i. (e i).queues), λ i. (e i).hold),
+      λ i. (e i).orders,
+    ))
+    (two (two (two (two (two (two (two (settings a.settings b.settings) (controls a.control b.control))
     (lists (are_same_options are_same_unfinished) (options are_same_unfinished unfinished) a.calls b.calls))
     (lists are_same_notifications notifications a.notes b.notes)) (lists (are_same_options (λ m n. nat_eq m n)) maybe a.holders b.holders))
+    (lists are_same_queues queues a.queues b.queues))
     (options are_same_holds holds a.hold b.hold)) (orders a.orders b.orders))
 
 pub same_decided : (a b : Table) → ((is_same a b ≡ true) ↔ Same a b)

@@ -4,16 +4,16 @@ use Rattle.std.specs.Prelude.{option_map}
 use Rattle.std.specs.List.{AllByRecursion}
 use Rattle.std.proofs.lemmas.Bool.{cases_eq}
 use Rattle.std.proofs.lemmas.Bool.Decides.{nat_tests}
-use Rattle.bench_types.specs.declared.kernel_data.MutexWait.{MutexWait}
+use Rattle.bench_types.specs.declared.kernel_data.EventWait.{EventWait}
 use Rattle.bench_types.specs.declared.kernel_data.Waiter.{Waiter}
 use Rattle.bench_model.specs.Alike.{AwaitBoth, SameWaitOrder}
-use Rattle.bench_model.specs.Turns.{AreByMutex, WaitOnce}
-use Rattle.bench_model.specs.Waiters.{mutex_awaited, stands_before, wait_of, waiter_of}
+use Rattle.bench_model.specs.Turns.{AreByList, WaitOnce}
+use Rattle.bench_model.specs.Waiters.{list_awaited, stands_before, wait_of, waiter_of}
 use Rattle.list_orders.proofs.Filters.{All-weaker}
 use Rattle.order_laws.proofs.WaitingOnce.{none_found}
 
-abbrev mutex_in : MutexWait → ℕ
-mutex_in wait = wait.mutex
+abbrev mutex_in : EventWait → ℕ
+mutex_in wait = wait.list
 
 -- what holds of all waiters holds of one that is found, which is of the task
 found_is : (P : Waiter → Type 0) (task : ℕ) (waiters : List Waiter) (waiter : Waiter) → AllByRecursion P waiters → waiter_of task waiters ≡ Some waiter →
@@ -41,7 +41,7 @@ other_waits x xs i away =
     let other : eqb x.task i ≡ false = grind (arith, nat_tests, away) in
     rw other refl
 
-other_awaits : (x : Waiter) (xs : List Waiter) (i : ℕ) → i ≢ x.task → mutex_awaited i (x ∷ xs) ≡ mutex_awaited i xs
+other_awaits : (x : Waiter) (xs : List Waiter) (i : ℕ) → i ≢ x.task → list_awaited i (x ∷ xs) ≡ list_awaited i xs
 other_awaits x xs i away =
     let other : eqb x.task i ≡ false = grind (arith, nat_tests, away) in
     rw other refl
@@ -52,10 +52,10 @@ others_before x xs i j away far =
     let other : eqb x.task j ≡ false = grind (arith, nat_tests, far) in
     rw (one, other) refl
 
-awaited_by_wait : (i : ℕ) (waiters : List Waiter) → mutex_awaited i waiters ≡ option_map mutex_in (wait_of i waiters)
+awaited_by_wait : (i : ℕ) (waiters : List Waiter) → list_awaited i waiters ≡ option_map mutex_in (wait_of i waiters)
 awaited_by_wait i waiters = at (waiter_of i waiters)
   where
-    at : (found : Option Waiter) → option_map (λ (w : Waiter). w.wait.mutex) found ≡ option_map mutex_in (option_map (λ (w : Waiter). w.wait) found)
+    at : (found : Option Waiter) → option_map (λ (w : Waiter). w.wait.list) found ≡ option_map mutex_in (option_map (λ (w : Waiter). w.wait) found)
     at None = refl
     at (Some w) = refl
 
@@ -65,21 +65,21 @@ none_waits x xs i same once = none_found i xs
     (All-weaker (λ (w : Waiter). w.task ≢ x.task) (λ (w : Waiter). w.task ≢ i) (λ w away here. away (here ∙ same)) xs once.0)
 
 -- a task that waits for a mutex behind the first is another
-is_behind : (x : Waiter) (xs : List Waiter) (i mutex : ℕ) → WaitOnce (x ∷ xs) → mutex_awaited i xs ≡ Some mutex → i ≢ x.task
+is_behind : (x : Waiter) (xs : List Waiter) (i mutex : ℕ) → WaitOnce (x ∷ xs) → list_awaited i xs ≡ Some mutex → i ≢ x.task
 is_behind x xs i mutex once awaits same =
-    absurd (cc (ap (option_map (λ (w : Waiter). w.wait.mutex)) (none_waits x xs i same once), awaits))
+    absurd (cc (ap (option_map (λ (w : Waiter). w.wait.list)) (none_waits x xs i same once), awaits))
 
 -- the wait of a task that waits behind the first is for no lesser mutex
-no_lesser : (x : Waiter) (xs : List Waiter) (i : ℕ) (wait : MutexWait) → AreByMutex (x ∷ xs) → wait_of i xs ≡ Some wait → x.wait.mutex ≤ wait.mutex
+no_lesser : (x : Waiter) (xs : List Waiter) (i : ℕ) (wait : EventWait) → AreByList (x ∷ xs) → wait_of i xs ≡ Some wait → x.wait.list ≤ wait.list
 no_lesser x xs i wait ordered waits = at (waiter_of i xs) refl waits
   where
     same : (w : Waiter) → Some w.wait ≡ Some wait → w.wait ≡ wait
     same w e = cc
 
-    at : (found : Option Waiter) → waiter_of i xs ≡ found → option_map (λ (w : Waiter). w.wait) found ≡ Some wait → x.wait.mutex ≤ wait.mutex
+    at : (found : Option Waiter) → waiter_of i xs ≡ found → option_map (λ (w : Waiter). w.wait) found ≡ Some wait → x.wait.list ≤ wait.list
     at None is none = absurd (cc none)
-    at (Some w) is some = subst (λ (one : MutexWait). x.wait.mutex ≤ one.mutex) (same w some)
-        (found_is (λ (other : Waiter). x.wait.mutex ≤ other.wait.mutex) i xs w ordered.0 is).0
+    at (Some w) is some = subst (λ (one : EventWait). x.wait.list ≤ one.list) (same w some)
+        (found_is (λ (other : Waiter). x.wait.list ≤ other.wait.list) i xs w ordered.0 is).0
 
 abbrev IsBelow : ℕ → Waiter → Type 0
 IsBelow n waiter = waiter.task < n
@@ -88,8 +88,8 @@ abbrev WaitAlike : ℕ → List Waiter → List Waiter → Type 0
 WaitAlike n xs ys = (i : ℕ) → i < n → wait_of i xs ≡ wait_of i ys
 
 -- the first waiters of two such lists are one
-module _ (n : ℕ) (x y : Waiter) (xs ys : List Waiter) (once : WaitOnce (x ∷ xs)) (other_once : WaitOnce (y ∷ ys)) (ordered : AreByMutex (x ∷ xs))
-    (other_ordered : AreByMutex (y ∷ ys)) (low : x.task < n) (other_low : y.task < n) (waits : WaitAlike n (x ∷ xs) (y ∷ ys))
+module _ (n : ℕ) (x y : Waiter) (xs ys : List Waiter) (once : WaitOnce (x ∷ xs)) (other_once : WaitOnce (y ∷ ys)) (ordered : AreByList (x ∷ xs))
+    (other_ordered : AreByList (y ∷ ys)) (low : x.task < n) (other_low : y.task < n) (waits : WaitAlike n (x ∷ xs) (y ∷ ys))
     (order : SameWaitOrder n (x ∷ xs) (y ∷ ys)) where
   x_behind : x.task ≢ y.task → wait_of x.task ys ≡ Some x.wait
   x_behind away = sym (other_waits y ys x.task away) ∙ sym (waits x.task low) ∙ head_waits x xs
@@ -97,10 +97,10 @@ module _ (n : ℕ) (x y : Waiter) (xs ys : List Waiter) (once : WaitOnce (x ∷ 
   y_behind : x.task ≢ y.task → wait_of y.task xs ≡ Some y.wait
   y_behind away = sym (other_waits x xs y.task (λ same. away (sym same))) ∙ waits y.task other_low ∙ head_waits y ys
 
-  mutexes_same : x.task ≢ y.task → x.wait.mutex ≡ y.wait.mutex
+  mutexes_same : x.task ≢ y.task → x.wait.list ≡ y.wait.list
   mutexes_same away = omega (arith, no_lesser x xs y.task y.wait ordered (y_behind away), no_lesser y ys x.task x.wait other_ordered (x_behind away))
 
-  await_both : x.task ≢ y.task → AwaitBoth x.wait.mutex x.task y.task (x ∷ xs)
+  await_both : x.task ≢ y.task → AwaitBoth x.wait.list x.task y.task (x ∷ xs)
   await_both away = (
     awaited_by_wait x.task (x ∷ xs) ∙ ap (option_map mutex_in) (head_waits x xs),
     other_awaits x xs y.task (λ same. away (sym same)) ∙ awaited_by_wait y.task xs ∙ ap (option_map mutex_in) (y_behind away) ∙ ap Some (sym (mutexes_same away)),
@@ -117,7 +117,7 @@ module _ (n : ℕ) (x y : Waiter) (xs ys : List Waiter) (once : WaitOnce (x ∷ 
   are_one_task : x.task ≡ y.task
   are_one_task = elim (cases_eq x.task y.task) [
     | inl same ↦ same
-    | inr away ↦ absurd (cc (x_first, order x.wait.mutex x.task y.task low other_low (await_both away), y_first away))
+    | inr away ↦ absurd (cc (x_first, order x.wait.list x.task y.task low other_low (await_both away), y_first away))
   ]
 
   one_wait : x.wait ≡ y.wait
@@ -143,7 +143,7 @@ module _ (n : ℕ) (x y : Waiter) (xs ys : List Waiter) (once : WaitOnce (x ∷ 
       ∙ order mutex i j below lower (other_awaits x xs i away ∙ both.0, other_awaits x xs j far ∙ both.1)
       ∙ others_before y ys i j (λ same. away (same ∙ sym are_one_task)) (λ same. far (same ∙ sym are_one_task))
 
-pub same_waiters : (n : ℕ) (xs ys : List Waiter) → WaitOnce xs → WaitOnce ys → AreByMutex xs → AreByMutex ys → AllByRecursion (IsBelow n) xs → AllByRecursion
+pub same_waiters : (n : ℕ) (xs ys : List Waiter) → WaitOnce xs → WaitOnce ys → AreByList xs → AreByList ys → AllByRecursion (IsBelow n) xs → AllByRecursion
     (IsBelow n) ys → WaitAlike n xs ys → SameWaitOrder n xs ys → xs ≡ ys
 same_waiters n [] [] once other ordered later low below waits order = refl
 same_waiters n [] (y ∷ ys) once other ordered later low below waits order = absurd (cc (waits y.task below.0, head_waits y ys))

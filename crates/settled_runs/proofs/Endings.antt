@@ -1,7 +1,7 @@
 -- Each piece of quiet work leaves less to do, so that quiet work ends and each session has a settled run.
 use Rattle.std.proofs.Common.{◌≡◌, ℕ, zero, suc, ◌^◌, ◌<◌, true, cond, ◌&&◌, List, [], ◌∷◌, ◌++◌, length, Option, Some, None, refl, sym, ap, subst, ◌∙◌, inl}
 use Rattle.std.proofs.Common.{inr, arith}
-use Rattle.std.specs.Prelude.{◌⊎◌, All, sum, map, count_by, is_some}
+use Rattle.std.specs.Prelude.{◌⊎◌, All, sum, map, is_some}
 use Rattle.std.specs.List.{AllByRecursion}
 use Rattle.std.proofs.lemmas.List.Elements.{All-head, All-tail, recursion_from_All}
 use Rattle.std.proofs.lemmas.List.Sums.{sum-map}
@@ -28,19 +28,19 @@ use Rattle.settled_runs.specs.declared.waiting_call.WaitingCall.{WaitingCall}
 use Rattle.settled_runs.specs.Settled.{is_open, on_its_core, quiet_step, without_first, waiting_after, still_waiting, waiting_with, made_at_once, events_of}
 use Rattle.settled_runs.specs.Settled.{IsQuietWork, IsSettledFrom, IsSettled}
 use Rattle.settled_runs.specs.SettleLaws.{MayWait}
-use Rattle.settled_runs.specs.Work.{could_finish, weight_at, work_of, IsLess}
-use Rattle.settled_runs.proofs.Finishes.{could_before, ended_after}
+use Rattle.settled_runs.specs.Work.{call_weight, weight_at, work_of, IsLess}
+use Rattle.settled_runs.proofs.Finishes.{lighter_after}
 use Rattle.settled_runs.proofs.Pieces.{IsPiece, piece_of}
 use Rattle.settled_runs.proofs.Rests.{IsGood, begin_waits, piece_checked, finish_checked, good_after, event_good, events_later, start_good, session_events}
 use Rattle.settled_runs.proofs.Settlings.{Events, events_are}
-use Rattle.settled_runs.proofs.Sums.{one_sum, same_sum}
+use Rattle.settled_runs.proofs.Sums.{same_sum}
 use Rattle.settled_runs.proofs.Switches.{switch_due, step_open, switched_ready, switched_calls, switched_weight}
 
 -- ---- what a piece leaves
 
--- how many tasks could finish, and what the due cores weigh, among so many
+-- what the unfinished calls weigh, and what the due cores do, among so many
 abbrev unfinished : Table → ℕ → ℕ
-unfinished table tasks = count_by (could_finish table) (numbers tasks)
+unfinished table tasks = sum (map (call_weight table) (numbers tasks))
 
 abbrev due : Table → ℕ → ℕ
 due table cores = sum (map (weight_at table.control) (numbers cores))
@@ -70,10 +70,13 @@ switch_lessens table waiting core sound below free =
     let settings = settings_after table (Switch core) sound in
     let ready = switched_ready table core sound below in
     let calls = switched_calls table core sound below in
-    let could = λ (i : ℕ). ap (λ (table : Table). could_finish table i) made ∙ (λ k. ready i k && is_some (call_at (calls k) i)) in
-    let tasks = same_sum (λ i. cond (could_finish (step_of (Switch core) table).1 i) 1 0) (λ i. cond (could_finish table i) 1 0) (numbers table.settings.tasks)
-    (All-weaker (λ i. i < table.settings.tasks) _ (λ i low. ap (λ b. cond b 1 0) (could i)) (numbers table.settings.tasks) (numbers_below table.settings.tasks))
-    in
+    let next = (step_of (Switch core) table).1 in
+    let all = numbers table.settings.tasks in
+    let could : (i : ℕ) → call_weight next i ≡ call_weight table i = λ i. ap (λ (table : Table). call_weight table i) made
+    ∙ (λ k. cond (is_some (call_at (calls k) i)) (cond (ready i k) 2 1) 0) in
+    let same = same_sum (call_weight next) (call_weight table) all (All-weaker (λ i. i < table.settings.tasks) (λ i. call_weight next i ≡ call_weight table i)
+    (λ i low. could i) all (numbers_below table.settings.tasks)) in
+    let tasks = sum-map (call_weight next) all ∙ same ∙ sym (sum-map (call_weight table) all) in
     let lighter = switched_weight table core sound below (switch_due table core free) in
     let less : due (step_of (Switch core) table).1 table.settings.cores < due table table.settings.cores
     = omega (
@@ -91,13 +94,9 @@ finish_lessens : (table : Table) (waiting : List WaitingCall) (core task : ℕ) 
 unfolding work_of
 finish_lessens table waiting core task sound checked free below =
     let later = (step_of (steps.Call core task Finish) table).1 in
-    let ended = ended_after table core task sound checked free in
-    let before = ap {B = ℕ} (λ b. cond b 1 0) (could_before table core task sound checked free) in
-    let after = ap {B = ℕ} (λ b. cond b 1 0) ended.ends in
-    let sums =
-    one_sum (λ i. cond (could_finish table i) 1 0) (λ i. cond (could_finish later i) 1 0) task table.settings.tasks below
-    (λ i away. ap {B = ℕ} (λ b. cond b 1 0) (sym (ended.others i away))) in
-    let fewer : unfinished later table.settings.tasks < unfinished table table.settings.tasks = omega (arith, before, after, sums) in
+    let all = numbers table.settings.tasks in
+    let fewer : unfinished later table.settings.tasks < unfinished table table.settings.tasks =
+    omega (arith, sum-map (call_weight later) all, sum-map (call_weight table) all, lighter_after table core task sound checked free) in
     less_as table later waiting waiting (settings_after table (steps.Call core task Finish) sound) (inr (refl, inl fewer))
 
 call_lessens : (table later : Table) (waiting rest : List WaitingCall) → suc (length rest) ≡ length waiting

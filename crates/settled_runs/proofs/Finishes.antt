@@ -1,34 +1,45 @@
--- A `finish` leaves its task with no call to finish: the call is over, or the task waits again. All others stand as they did.
-use Rattle.std.proofs.Common.{◌≡◌, ℕ, ◌<◌, ◌≢◌, Bool, true, false, cond, not, eqb, ltb, ◌&&◌, length, Option, Some, None, refl, sym, ap, subst, ◌∙◌, arith}
+-- A `finish` leaves the unfinished calls less weight: the call is over, or its task waits again. All others stand as they did, but for
+-- one that a message wakes.
+use Rattle.std.proofs.Common.{◌≡◌, ℕ, ◌+◌, ◌<◌, ◌≤◌, ◌≢◌, Bool, true, false, cond, not, eqb, ltb, ◌&&◌, length, Option, Some, None, refl, sym, ap, subst, ◌∙◌, arith}
 use Rattle.std.specs.Prelude.{is_some, slice_set}
+use Rattle.std.specs.List.{sum_by}
 use Rattle.std.specs.Option.{option_map_or}
 use Rattle.std.proofs.lemmas.List.{get_or-set_same, get_or-set_other, length-set}
-use Rattle.bench_types.specs.declared.kernel_data.MutexWait.{MutexWait}
+use Rattle.bench_types.specs.declared.kernel_data.EventWait.{EventWait}
+use Rattle.bench_types.specs.declared.kernel_data.Waiter.{Waiter}
 use Rattle.bench_types.specs.declared.reply.Reply.{Reply}
 use Rattle.bench_types.specs.declared.reply.Reply.TheVariants.{Done, Blocked, Flag}
 use Rattle.bench_types.specs.declared.step.Step.TheVariants as steps
 use Rattle.bench_types.specs.declared.step.Call.TheVariants.{Finish}
 use Rattle.bench_types.specs.declared.step.BlockingCall.{BlockingCall}
 use Rattle.bench_types.specs.declared.step.Unfinished.{Unfinished}
-use Rattle.bench_types.specs.declared.step.Unfinished.TheVariants.{Made, Take}
+use Rattle.bench_types.specs.declared.step.Direction.{Direction}
+use Rattle.bench_types.specs.declared.step.Unfinished.TheVariants.{Made, Take, Transfer}
 use Rattle.bench_types.specs.Step.{IsCheckedStep}
 use Rattle.bench_model.specs.declared.row.TaskState.TheVariants as standings
 use Rattle.bench_model.specs.Control.{Control, task_at, in_mask}
 use Rattle.bench_model.specs.ControlFields.{in_use_set, in_use_and_value_set}
-use Rattle.bench_model.specs.Mutexes.{held_by, taken, inherited, waited_at, after_disinherit, timed_out, finish_from, take_finished}
+use Rattle.bench_model.specs.Mutexes.{first_woken, held_by, taken, inherited, waited_at, after_disinherit, timed_out, finish_from, take_finished}
 use Rattle.bench_model.specs.Notifying.{completed}
+use Rattle.bench_model.specs.Queues.{can_pass, other_way, passed, queue_at, queue_finished, queue_waited, with_passed}
 use Rattle.bench_model.specs.Refusals.{call_refusal}
-use Rattle.bench_model.specs.Seek.{seek}
+use Rattle.bench_model.specs.Seek.{seek, wake}
 use Rattle.bench_model.specs.Session.{step_of}
-use Rattle.bench_model.specs.Sound.{IsConsistent, IsSound, IsCaller}
+use Rattle.bench_model.specs.Sound.{IsConsistent, IsSound, IsCaller, IsWaiter}
 use Rattle.bench_model.specs.State.{call_at, holder_at, after_return, blocked}
 use Rattle.bench_model.specs.Steps.{after_finish, called, performed}
-use Rattle.bench_model.specs.Table.{Stamps, Table, stamp_queues, is_ready, stands_ready, add_to_ready_list, ahead, delay, deadline_left, forget_deadline, set_list_value}
+use Rattle.bench_model.specs.Table.{Stamps, Table, stamp_queues, is_ready, stands_ready, add_to_ready_list, ahead, delay, deadline_left, first_waiter, forget_deadline, set_list_value}
+use Rattle.bench_model.specs.Waiters.{event_list}
+use Rattle.list_orders.specs.Search.{numbers}
+use Rattle.order_laws.proofs.FirstWaiters.{first_waiter_all}
 use Rattle.order_laws.proofs.SoundMutexes.{standing_same, standing_other}
 use Rattle.rule_laws.proofs.Awaiting.{completed_notes}
+use Rattle.rule_laws.proofs.Mutexes.{forgotten_sound}
+use Rattle.rule_laws.proofs.Queues.{with_passed_sound}
 use Rattle.step_laws.proofs.Holds.{accepted, in_place}
 use Rattle.settled_runs.specs.Settled.{is_open}
-use Rattle.settled_runs.specs.Work.{could_finish}
+use Rattle.settled_runs.specs.Work.{call_weight}
+use Rattle.settled_runs.proofs.Sums.{one_sum}
 use Rattle.settled_runs.proofs.Switches.{none_refused, ready_again, step_open}
 
 -- the same tasks are ready and have unfinished calls
@@ -36,20 +47,24 @@ record IsCalm (table later : Table) : Type 0 where
   ready : (i : ℕ) → is_ready i later.orders ≡ is_ready i table.orders
   calls : later.calls ≡ table.calls
 
--- the task has no call to finish, and all others stand as they did
-pub record HasEnded (task : ℕ) (table later : Table) : Type 0 where
-  pub ends : could_finish later task ≡ false
-  pub others : (i : ℕ) → i ≢ task → could_finish later i ≡ could_finish table i
+-- the task's call weighs less than that of a ready task, and all others weigh what they did
+record HasEnded (task : ℕ) (table later : Table) : Type 0 where
+  ends : call_weight later task < 2
+  others : (i : ℕ) → i ≢ task → call_weight later i ≡ call_weight table i
 
-calm_finish : (table later : Table) → IsCalm table later → (i : ℕ) → could_finish later i ≡ could_finish table i
-calm_finish table later calm i = λ k. calm.ready i k && is_some (call_at (calm.calls k) i)
+-- what the unfinished calls of so many tasks weigh
+abbrev pub weights : Table → ℕ → ℕ
+weights table tasks = sum_by (call_weight table) (numbers tasks)
+
+calm_weight : (table later : Table) → IsCalm table later → (i : ℕ) → call_weight later i ≡ call_weight table i
+calm_weight table later calm i = λ k. cond (is_some (call_at (calm.calls k) i)) (cond (calm.ready i k) 2 1) 0
 
 calm_then : (task : ℕ) (table next later : Table) → IsCalm table next → HasEnded task next later → HasEnded task table later
-calm_then task table next later calm ended = record { ends = ended.ends; others = λ i away. ended.others i away ∙ calm_finish table next calm i }
+calm_then task table next later calm ended = record { ends = ended.ends; others = λ i away. ended.others i away ∙ calm_weight table next calm i }
 
 then_calm : (task : ℕ) (table next later : Table) → HasEnded task table next → IsCalm next later → HasEnded task table later
 then_calm task table next later ended calm =
-    record { ends = calm_finish next later calm task ∙ ended.ends; others = λ i away. calm_finish next later calm i ∙ ended.others i away }
+    record { ends = omega (arith, calm_weight next later calm task, ended.ends); others = λ i away. calm_weight next later calm i ∙ ended.others i away }
 
 calm_same : (table : Table) → IsCalm table table
 calm_same table = record { ready = λ i. refl; calls = refl }
@@ -135,35 +150,100 @@ return_rows table task = refl
 
 -- ---- rules that end a call
 
-none_fits : (b : Bool) → (b && false) ≡ false
-none_fits true = refl
-none_fits false = refl
+-- the call of a task that waits weighs less
+waits_light : (has : Bool) → cond has (cond false 2 1) 0 < 2
+waits_light true = omega arith
+waits_light false = omega arith
+
+return_weight : (table : Table) (task : ℕ) → task < length table.calls → call_weight (after_return stamp_queues task table) task ≡ 0
+unfolding forget_deadline
+return_weight table task below =
+    ap {B = ℕ} (λ call. cond (is_some call) (cond (is_ready task table.orders) 2 1) 0) (get_or-set_same table.calls task None None below)
+
+return_others : (table : Table) (task i : ℕ) → i ≢ task → call_weight (after_return stamp_queues task table) i ≡ call_weight table i
+unfolding forget_deadline
+return_others table task i away =
+    ap {B = ℕ} (λ call. cond (is_some call) (cond (is_ready i table.orders) 2 1) 0) (get_or-set_other table.calls task i None None away)
 
 return_ends : (table : Table) (task : ℕ) → task < length table.calls → HasEnded task table (after_return stamp_queues task table)
-unfolding forget_deadline
 return_ends table task below = record {
-  ends = ap (λ call. is_ready task table.orders && is_some call) (get_or-set_same table.calls task None None below) ∙ none_fits (is_ready task table.orders);
-  others = λ i away. ap (λ call. is_ready i table.orders && is_some call) (get_or-set_other table.calls task i None None away);
+  ends = omega (arith, return_weight table task below);
+  others = λ i away. return_others table task i away;
 }
 
-delayed_waits : (stamps : Stamps) (task : ℕ) (ticks : Option ℕ) (wait : Option MutexWait) → task < length stamps.rows
+delayed_waits : (stamps : Stamps) (task : ℕ) (ticks : Option ℕ) (wait : Option EventWait) → task < length stamps.rows
     → is_ready task (delay task ticks wait stamps) ≡ false
 unfolding delay
 delayed_waits stamps task ticks wait below = ap stands_ready (standing_same stamps task (standings.Blocked (ahead stamps ticks)) below)
 
-delayed_others : (stamps : Stamps) (task : ℕ) (ticks : Option ℕ) (wait : Option MutexWait) → task < length stamps.rows → (i : ℕ) → i ≢ task
+delayed_others : (stamps : Stamps) (task : ℕ) (ticks : Option ℕ) (wait : Option EventWait) → task < length stamps.rows → (i : ℕ) → i ≢ task
     → is_ready i (delay task ticks wait stamps) ≡ is_ready i stamps
 unfolding delay
 delayed_others stamps task ticks wait below i away = ap stands_ready (standing_other stamps task (standings.Blocked (ahead stamps ticks)) below i away)
 
-block_ends : (table : Table) (core task : ℕ) (call : Unfinished) (ticks : Option ℕ) (wait : Option MutexWait) → task < length table.orders.rows
+block_ends : (table : Table) (core task : ℕ) (call : Unfinished) (ticks : Option ℕ) (wait : Option EventWait) → task < length table.orders.rows
     → HasEnded task table (blocked stamp_queues core task call ticks wait table)
 unfolding blocked
 block_ends table core task call ticks wait below = record {
-  ends = ap (λ ready. ready && is_some (call_at (slice_set table.calls task (Some call)) task)) (delayed_waits table.orders task ticks wait below);
+  ends = omega (
+    arith,
+    ap {B = ℕ} (λ ready. cond (is_some (call_at (slice_set table.calls task (Some call)) task)) (cond ready 2 1) 0) (delayed_waits table.orders task ticks wait below),
+    waits_light (is_some (call_at (slice_set table.calls task (Some call)) task)),
+  );
   others = λ i away.
-      (λ k. delayed_others table.orders task ticks wait below i away k && is_some (get_or-set_other table.calls task i (Some call) None away k));
+      (λ k. cond (is_some (get_or-set_other table.calls task i (Some call) None away k)) (cond (delayed_others table.orders task ticks wait below i away k) 2 1) 0);
 }
+
+-- ---- a task that a message wakes
+
+-- a call weighs one more at most where its task is ready
+ready_weight : (has ready : Bool) → cond has (cond true 2 1) 0 ≤ cond has (cond ready 2 1) 0 + 1
+ready_weight true true = omega arith
+ready_weight true false = omega arith
+ready_weight false ready = omega arith
+
+woken_others : (stamps : Stamps) (task : ℕ) → task < length stamps.rows → (i : ℕ) → i ≢ task → is_ready i (add_to_ready_list task stamps) ≡ is_ready i stamps
+unfolding add_to_ready_list
+woken_others stamps task below i away = ap stands_ready (standing_other stamps task standings.Ready below i away)
+
+woken_ready : (stamps : Stamps) (task : ℕ) → task < length stamps.rows → is_ready task (add_to_ready_list task stamps) ≡ true
+unfolding add_to_ready_list
+woken_ready stamps task below = ap stands_ready (standing_same stamps task standings.Ready below)
+
+wake_weights : (table : Table) (acting task tasks : ℕ) → task < length table.orders.rows → task < tasks
+    → weights (wake stamp_queues acting task table) tasks ≤ weights table tasks + 1
+unfolding wake
+wake_weights table acting task tasks below low =
+    let later = wake stamp_queues acting task table in
+    let has = is_some (call_at table.calls task) in
+    let here = ap {B = ℕ} (λ ready. cond has (cond ready 2 1) 0) (woken_ready table.orders task below) in
+    let more = ready_weight has (is_ready task table.orders) in
+    let others = λ (i : ℕ) (away : i ≢ task).
+    ap {B = ℕ} (λ ready. cond (is_some (call_at table.calls i)) (cond ready 2 1) 0) (sym (woken_others table.orders task below i away)) in
+    let sums = one_sum (call_weight table) (call_weight later) task tasks low others in
+    omega (arith, here, more, sums)
+
+first_weights : (table : Table) (acting list : ℕ) → IsConsistent table
+    → weights (first_woken stamp_queues acting list table) table.settings.tasks ≤ weights table table.settings.tasks + 1
+unfolding first_woken
+first_weights table acting list sound = at (first_waiter list table.orders) refl
+  where
+    tasks : ℕ
+    tasks = table.settings.tasks
+
+    at : (first : Option Waiter) → first_waiter list table.orders ≡ first
+        → weights (option_map_or (λ (waiter : Waiter). wake stamp_queues acting waiter.task table) first table) tasks ≤ weights table tasks + 1
+    at None none = omega arith
+    at (Some waiter) some =
+        let waits = first_waiter_all (IsWaiter table.settings table.orders) list table.orders waiter sound.mutexes.waits some in
+        wake_weights table acting waiter.task tasks waits.0 (omega (arith, sound.sized.rows, waits.0))
+
+passed_weights : (table : Table) (core : ℕ) (direction : Direction) (queue : ℕ) → IsConsistent table
+    → weights (passed stamp_queues core direction queue table) table.settings.tasks ≤ weights table table.settings.tasks + 1
+unfolding passed
+passed_weights table core direction queue sound =
+    first_weights (with_passed direction queue table) core (event_list table.settings (other_way direction) queue)
+    (with_passed_sound table direction queue sound)
 
 -- ---- a finish
 
@@ -173,6 +253,30 @@ module _ (table : Table) (core task : ℕ) (sound : IsConsistent table) (place :
 
   returned : HasEnded task table (after_return stamp_queues task table)
   returned = return_ends table task low
+
+  tasks : ℕ
+  tasks = table.settings.tasks
+
+  on : task < table.settings.tasks
+  on = omega (arith, sound.sized.rows, place.2)
+
+  -- before the finish its call weighs two
+  before : is_some (call_at table.calls task) ≡ true → call_weight table task ≡ 2
+  before has = (λ k. cond (has k) (cond (place.3 k) 2 1) 0)
+
+  -- so less is left of it
+  ended_lessens : (later : Table) → is_some (call_at table.calls task) ≡ true → HasEnded task table later
+      → weights later table.settings.tasks < weights table table.settings.tasks
+  ended_lessens later has ended =
+      let sums = one_sum (call_weight table) (call_weight later) task table.settings.tasks on (λ i away. sym (ended.others i away)) in
+      omega (arith, before has, ended.ends, sums)
+
+  returned_weights : is_some (call_at table.calls task) ≡ true
+      → weights (after_return stamp_queues task table) table.settings.tasks + 2 ≡ weights table table.settings.tasks
+  returned_weights has =
+      let over = after_return stamp_queues task table in
+      let sums = one_sum (call_weight table) (call_weight over) task table.settings.tasks on (λ i away. sym (return_others table task i away)) in
+      omega (arith, before has, return_weight table task low, sums)
 
   wait_ends : (mutex holder : ℕ) (left : Option ℕ) → holder_at table.holders mutex ≡ Some holder
       → HasEnded task table (waited_at stamp_queues core task mutex holder left table)
@@ -203,12 +307,37 @@ module _ (table : Table) (core task : ℕ) (sound : IsConsistent table) (place :
       at None free = then_calm task table _ _ returned (taken_calm (after_return stamp_queues task table) task mutex)
       at (Some holder) held = later holder held (option_map_or (λ ticks. eqb ticks 0) (deadline_left task table.orders) false)
 
-  finish_ends : (call : Unfinished) → HasEnded task table (after_finish stamp_queues core task call table).1
-  unfolding after_finish
-  finish_ends (Made call) = then_calm task table _ _ returned (completed_calm (after_return stamp_queues task table) task call)
-  finish_ends (Take mutex mark) = take_ends mutex mark
+  queue_wait_ends : (direction : Direction) (queue : ℕ) (left : Option ℕ) → HasEnded task table
+      (queue_waited stamp_queues core task direction queue left table)
+  unfolding queue_waited
+  queue_wait_ends direction queue left = block_ends table core task _ left _ place.2
 
--- a call of `finish` that is not refused: its task had a call to finish, and has none any more
+  transfer_lessens : (direction : Direction) (queue : ℕ) → is_some (call_at table.calls task) ≡ true
+      → weights (queue_finished stamp_queues core task direction queue table).1 table.settings.tasks < weights table table.settings.tasks
+  unfolding queue_finished
+  transfer_lessens direction queue has =
+      at (can_pass direction (queue_at table.queues queue)) (option_map_or (λ ticks. eqb ticks 0) (deadline_left task table.orders) false)
+    where
+      over : Table
+      over = after_return stamp_queues task table
+
+      waits : Table
+      waits = queue_waited stamp_queues core task direction queue (deadline_left task table.orders) table
+
+      at : (b d : Bool) → weights (cond {A = Reply × Table} b (Flag true, passed stamp_queues core direction queue over)
+          (cond d (Flag false, over) (Blocked, waits))).1 table.settings.tasks < weights table table.settings.tasks
+      at true d = omega (arith, returned_weights has, passed_weights over core direction queue (forgotten_sound table task sound on place.3))
+      at false true = omega (arith, returned_weights has)
+      at false false = ended_lessens waits has (queue_wait_ends direction queue (deadline_left task table.orders))
+
+  finish_lessens : (call : Unfinished) → is_some (call_at table.calls task) ≡ true
+      → weights (after_finish stamp_queues core task call table).1 table.settings.tasks < weights table table.settings.tasks
+  unfolding after_finish
+  finish_lessens (Made call) has = ended_lessens _ has (then_calm task table _ _ returned (completed_calm (after_return stamp_queues task table) task call))
+  finish_lessens (Take mutex mark) has = ended_lessens _ has (take_ends mutex mark)
+  finish_lessens (Transfer queue direction) has = transfer_lessens direction queue has
+
+-- a call of `finish` that is not refused leaves the unfinished calls less weight
 module _ (table : Table) (core task : ℕ) (sound : IsSound table) (checked : IsCheckedStep table.settings (steps.Call core task Finish))
     (free : is_open table (steps.Call core task Finish) ≡ true) where
   caller : IsCaller table core task
@@ -221,16 +350,14 @@ module _ (table : Table) (core task : ℕ) (sound : IsSound table) (checked : Is
       at None fits = absurd (cc (fits))
       at (Some call) fits = refl
 
-  pub could_before : could_finish table task ≡ true
-  could_before = (λ k. caller.3 k && has_call k)
-
-  pub ended_after : HasEnded task table (step_of (steps.Call core task Finish) table).1
+  pub lighter_after : weights (step_of (steps.Call core task Finish) table).1 table.settings.tasks < weights table table.settings.tasks
   unfolding performed called
-  ended_after =
-      subst (λ (outcome : Reply × Table). HasEnded task table outcome.1) (sym (step_open table (steps.Call core task Finish) free))
+  lighter_after =
+      subst (λ (outcome : Reply × Table). weights outcome.1 table.settings.tasks < weights table table.settings.tasks) (sym (step_open table (steps.Call core task Finish) free))
       (at (call_at table.calls task) has_call)
     where
       at : (o : Option Unfinished) → is_some o ≡ true
-          → HasEnded task table (option_map_or {U = Reply × Table} (λ call. after_finish stamp_queues core task call table) o (Done, table)).1
+          → weights (option_map_or {U = Reply × Table} (λ call. after_finish stamp_queues core task call table) o (Done, table)).1 table.settings.tasks <
+          weights table table.settings.tasks
       at None none = absurd (cc (none))
-      at (Some call) some = finish_ends table core task sound.consistent caller call
+      at (Some call) some = finish_lessens table core task sound.consistent caller call has_call

@@ -145,7 +145,7 @@ mutexes_later by table mutexes = record {
       (λ waiter is. (omega (arith, rows_later by table.orders, is.0), is_ready_later by table.orders waiter.task ∙ is.1, is.2)) table.orders.waiters
       mutexes.waits;
   once = mutexes.once;
-  by_mutex = mutexes.by_mutex;
+  by_list = mutexes.by_list;
   awaited = λ i low blocked. mutexes.awaited i (omega (arith, rows_later by table.orders, low)) (sym (is_ready_later by table.orders i) ∙ blocked);
   turns = λ none. turn_moved table.orders (later_stamps by table.orders) table.orders.waiters
       (All_each (λ (w : Waiter). stamp_of (later_stamps by table.orders) w.task ≡ stamp_of table.orders w.task) (λ w. stamp_later by table.orders w.task)

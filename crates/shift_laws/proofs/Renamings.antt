@@ -2,7 +2,7 @@
 use Rattle.std.proofs.Common.{◌≡◌, ℕ, Option, ap}
 use std.Equiv.{◌≃◌, id_equiv}
 use std.Univalence.{equiv_j}
-use Rattle.bench_types.specs.declared.kernel_data.MutexWait.{MutexWait}
+use Rattle.bench_types.specs.declared.kernel_data.EventWait.{EventWait}
 use Rattle.bench_types.specs.declared.reply.Reply.{Reply}
 use Rattle.bench_types.specs.declared.step.Step.{Step}
 use Rattle.bench_model.specs.Control.{Control}
@@ -17,6 +17,7 @@ carried f state = record {
   calls = state.calls;
   notes = state.notes;
   holders = state.holders;
+  queues = state.queues;
   hold = state.hold;
   orders = f state.orders;
 }
@@ -29,11 +30,11 @@ pub record Carries {A B : Type 0} (f : A → B) (a : QueueOps A) (b : QueueOps B
   pub is_ready : (task : ℕ) (o : A) → b.is_ready task (f o) ≡ a.is_ready task o
   pub pick : (control : Control) (core : ℕ) (o : A) → b.pick control core (f o) ≡ a.pick control core o
   pub add_to_ready_list : (control : Control) (task : ℕ) (o : A) → b.add_to_ready_list control task (f o) ≡ f (a.add_to_ready_list control task o)
-  pub delay : (task : ℕ) (ticks : Option ℕ) (wait : Option MutexWait) (o : A) → b.delay task ticks wait (f o) ≡ f (a.delay task ticks wait o)
+  pub delay : (task : ℕ) (ticks : Option ℕ) (wait : Option EventWait) (o : A) → b.delay task ticks wait (f o) ≡ f (a.delay task ticks wait o)
   pub tick_count : (o : A) → b.tick_count (f o) ≡ a.tick_count o
   pub advance : (o : A) → b.advance (f o) ≡ f (a.advance o)
   pub due : (o : A) → b.due (f o) ≡ a.due o
-  pub first_waiter : (mutex : ℕ) (o : A) → b.first_waiter mutex (f o) ≡ a.first_waiter mutex o
+  pub first_waiter : (list : ℕ) (o : A) → b.first_waiter list (f o) ≡ a.first_waiter list o
   pub deadline_left : (task : ℕ) (o : A) → b.deadline_left task (f o) ≡ a.deadline_left task o
   pub forget_deadline : (task : ℕ) (o : A) → b.forget_deadline task (f o) ≡ f (a.forget_deadline task o)
   pub list_value : (task : ℕ) (o : A) → b.list_value task (f o) ≡ a.list_value task o
@@ -49,7 +50,7 @@ same_ops a b same = λ i. record {
   tick_count = λ o. same.tick_count o i;
   advance = λ o. same.advance o i;
   due = λ o. same.due o i;
-  first_waiter = λ mutex o. same.first_waiter mutex o i;
+  first_waiter = λ list o. same.first_waiter list o i;
   deadline_left = λ task o. same.deadline_left task o i;
   forget_deadline = λ task o. same.forget_deadline task o i;
   list_value = λ task o. same.list_value task o i;

@@ -11,6 +11,7 @@ use Rattle.bench_model.specs.Mutexes.{inherited, waited_at, mutex_take, after_di
 use Rattle.bench_model.specs.ControlFields.{in_use_set, in_use_and_value_set}
 use Rattle.bench_model.specs.Notifying.{state_forgotten, bits_cleared, completed, notify, interrupted, awaited}
 use Rattle.bench_model.specs.PriorityAffinity.{priority_set, affinity_set, preemption_off, preemption_on}
+use Rattle.bench_model.specs.Queues.{passed, queue_waited, queue_called, queue_finished, queue_interrupted}
 use Rattle.bench_model.specs.Refusals.{would_block, refusal}
 use Rattle.bench_model.specs.Seek.{wake, after_eviction, after_switch, sliced}
 use Rattle.bench_model.specs.Session.{step_of}
@@ -36,6 +37,7 @@ unfolding after performed refusal would_block called ticked sliced wake after_sw
     yielded blocked priority_set affinity_set preemption_off preemption_on in_use_set in_use_and_value_set notify interrupted
     state_forgotten bits_cleared awaited completed mutex_take mutex_give take_finished
     after_finish delayed_until inherited waited_at after_disinherit timed_out disinherited first_woken
+    passed queue_waited queue_called queue_finished queue_interrupted
 after_clocked count ops (Call core task (DelayUntil prev inc)) state delays = absurd (true≢false delays)
 after_clocked count ops step state delays = refl
 
@@ -53,7 +55,7 @@ turns_carry by = record {
   tick_count = λ o. refl;
   advance = λ o. ap (λ tick. record (advance o) { tick = tick }) (turned_next by o.tick);
   due = λ o. refl;
-  first_waiter = λ mutex o. refl;
+  first_waiter = λ list o. refl;
   deadline_left = λ task o. refl;
   forget_deadline = λ task o. refl;
   list_value = λ task o. refl;

@@ -33,19 +33,21 @@ pub record SamePairwiseShifted (a b : Table) : Type 0 where
   pub calls : a.calls ≡ b.calls
   pub notes : a.notes ≡ b.notes
   pub holders : a.holders ≡ b.holders
+  -- each queue has the same length and as many messages in both
+  pub queues : a.queues ≡ b.queues
   pub hold : a.hold ≡ b.hold
   -- each task is ready in both or in none, with equal ticks left to its wake and to the deadline of
-  -- its wait for a mutex
+  -- its wait for an event
   pub ready : (i : ℕ) → i < a.settings.tasks → is_ready i a.orders ≡ is_ready i b.orders
   pub left : (i : ℕ) → i < a.settings.tasks → ticks_left i a.orders ≡ ticks_left i b.orders
   pub deadlines :
       (i : ℕ) → i < a.settings.tasks → deadline_left i a.orders ≡ deadline_left i b.orders
-  -- each task waits for the same mutex in both, with the same waiting priority, or for none
+  -- each task waits in the same event list in both, with the same waiting priority, or in none
   pub waits :
       (i : ℕ) → i < a.settings.tasks → wait_of i a.orders.waiters ≡ wait_of i b.orders.waiters
   -- each task has the same list value in both, or none
   pub values : a.orders.values ≡ b.orders.values
-  -- of two tasks that wait for one mutex the same one stands in front
+  -- of two tasks that wait in one event list the same one stands in front
   pub wait_order : SameWaitOrder a.settings.tasks a.orders.waiters b.orders.waiters
   -- the order of each ready list, and of the tasks with one number of ticks left
   pub ready_order : SameOrder InOneReadyList a b

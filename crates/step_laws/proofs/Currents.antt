@@ -5,7 +5,7 @@ use Rattle.std.specs.Option.{option_map_or}
 use Rattle.std.proofs.lemmas.List.{map-set, set-get_or, get_or-set_same, length-map, ext_get_or}
 use Rattle.std.proofs.Math.ListN.{get_or-map}
 use Rattle.bench_types.specs.declared.kernel_data.CoreLook.{CoreLook}
-use Rattle.bench_types.specs.declared.kernel_data.MutexWait.{MutexWait}
+use Rattle.bench_types.specs.declared.kernel_data.EventWait.{EventWait}
 use Rattle.bench_types.specs.declared.kernel_data.Settings.{Settings}
 use Rattle.bench_types.specs.declared.note.Notification.{Notification}
 use Rattle.bench_types.specs.declared.reply.Refusal.{Refusal}
@@ -13,14 +13,16 @@ use Rattle.bench_types.specs.declared.reply.Reply.{Reply}
 use Rattle.bench_types.specs.declared.reply.Reply.TheVariants.{Done, Blocked, Flag, Until, Refused}
 use Rattle.bench_types.specs.declared.step.Call.{Call}
 use Rattle.bench_types.specs.declared.step.Call.TheVariants.{Yield, Delay, DelayUntil, Finish, PrioritySet, AffinitySet, PreemptOff, PreemptOn, Notify}
-use Rattle.bench_types.specs.declared.step.Call.TheVariants.{NotifyWait, NotifyTake, StateClear, ValueClear, MutexTake, MutexGive, HoldOpen, HoldClose}
+use Rattle.bench_types.specs.declared.step.Call.TheVariants.{NotifyWait, NotifyTake, StateClear, ValueClear, MutexTake, MutexGive, QueueSend, QueueReceive, HoldOpen, HoldClose}
 use Rattle.bench_types.specs.declared.step.Step.{Step}
-use Rattle.bench_types.specs.declared.step.Step.TheVariants.{Tick, Switch, Interrupt}
+use Rattle.bench_types.specs.declared.step.Step.TheVariants.{Tick, Switch, Interrupt, QueueInterrupt}
 use Rattle.bench_types.specs.declared.step.Step.TheVariants as steps
 use Rattle.bench_types.specs.declared.step.BlockingCall.{BlockingCall}
 use Rattle.bench_types.specs.declared.step.BlockingCall.TheVariants as blocking
+use Rattle.bench_types.specs.declared.step.Direction.{Direction}
+use Rattle.bench_types.specs.declared.step.Direction.TheVariants.{Send, Receive}
 use Rattle.bench_types.specs.declared.step.Unfinished.{Unfinished}
-use Rattle.bench_types.specs.declared.step.Unfinished.TheVariants.{Made, Take}
+use Rattle.bench_types.specs.declared.step.Unfinished.TheVariants.{Made, Take, Transfer}
 use Rattle.bench_types.proofs.Passes.{checked_mutex, checked_task, noted_task}
 use Rattle.bench_types.specs.Step.{core_of, IsCheckedCall, IsCheckedStep}
 use Rattle.bench_model.specs.Control.{Control, current, in_mask, running, task_at}
@@ -30,6 +32,7 @@ use Rattle.bench_model.specs.Mutexes.{held_by, inherited, waited_at, take_from, 
 use Rattle.bench_model.specs.Mutexes.{taken, is_marked, waiting_priority}
 use Rattle.bench_model.specs.Notes.{wait_entered, take_entered, of_slot, slot_of}
 use Rattle.bench_model.specs.Notifying.{awaited, completed, interrupted, notify, timeout_of}
+use Rattle.bench_model.specs.Queues.{can_pass, passed, queue_at, queue_called, queue_finished, queue_interrupted, queue_waited}
 use Rattle.bench_model.specs.Refusals.{refusal}
 use Rattle.bench_model.specs.Seek.{after_eviction, after_switch, may_move, seek}
 use Rattle.bench_model.specs.Session.{step_of}
@@ -38,13 +41,15 @@ use Rattle.bench_model.specs.State.{after_return, after_select, blocked, call_at
 use Rattle.bench_model.specs.Steps.{after, after_finish, called, delayed_until, performed, ticked}
 use Rattle.bench_model.specs.Table.{Table, deadline_left, is_ready, stamp_queues, tick_count}
 use Rattle.bench_model.specs.Until.{is_ahead, next_wake, ticks_to}
+use Rattle.bench_model.specs.Waiters.{event_list}
 use Rattle.order_laws.proofs.SoundSteps.{asked_more}
+use Rattle.rule_laws.proofs.Mutexes.{forgotten_sound}
 use Rattle.rule_laws.proofs.PriorityAffinity.{its_core_more}
 use Rattle.rule_laws.proofs.Seeks.{seek_more}
 use Rattle.step_laws.proofs.Along.{settings_after}
 use Rattle.step_laws.proofs.Holds.{checked_call, in_place}
 use Rattle.step_laws.proofs.Steps.{after_sound}
-use Rattle.step_laws.proofs.Undisturbed.{affinity_undisturbed, bits_undisturbed, completed_undisturbed, forgotten_undisturbed, give_undisturbed}
+use Rattle.step_laws.proofs.Undisturbed.{affinity_undisturbed, bits_undisturbed, completed_undisturbed, forgotten_undisturbed, give_undisturbed, passed_undisturbed, queue_interrupted_undisturbed}
 use Rattle.step_laws.proofs.Undisturbed.{notify_undisturbed, off_undisturbed, on_undisturbed, priority_undisturbed, ticked_undisturbed, yielded_undisturbed}
 
 abbrev no_look : CoreLook
@@ -60,7 +65,7 @@ either_has table one other false here there = there
 
 -- ---- the rules that let a task wait, and those of inherited priorities
 
-blocked_currents : (core task : ℕ) (call : Unfinished) (ticks : Option ℕ) (wait : Option MutexWait) (table : Table) → core < length table.control.cores →
+blocked_currents : (core task : ℕ) (call : Unfinished) (ticks : Option ℕ) (wait : Option EventWait) (table : Table) → core < length table.control.cores →
     HasCurrents table (blocked stamp_queues core task call ticks wait table)
 unfolding blocked
 blocked_currents core task call ticks wait table low = (asked_more table.control core core low).currents
@@ -104,7 +109,7 @@ waited_currents : (core task mutex holder : ℕ) (ticks : Option ℕ) (table : T
 unfolding waited_at
 waited_currents core task mutex holder ticks table low =
     let priority = (task_at table.control task).in_use in
-    let wait : MutexWait = record { mutex = mutex; priority = waiting_priority stamp_queues task table } in
+    let wait : EventWait = record { list = mutex; priority = waiting_priority stamp_queues task table } in
     let inheriting = inherited stamp_queues core holder priority table in
     λ c. blocked_currents core task (Take mutex (is_marked table.control task holder)) ticks (Some wait) inheriting
     (omega (arith, low, inherited_cores core holder priority table)) c
@@ -195,11 +200,48 @@ take_finished_currents core task mutex mark table low = at (holder_at table.hold
     at None = λ c. refl
     at (Some holder) = held holder reached
 
-finish_currents : (core task : ℕ) (call : Unfinished) (table : Table) → core < length table.control.cores → HasCurrents table
+queue_waited_currents : (core task : ℕ) (direction : Direction) (queue : ℕ) (ticks : Option ℕ) (table : Table) → core < length table.control.cores →
+    HasCurrents table (queue_waited stamp_queues core task direction queue ticks table)
+unfolding queue_waited
+queue_waited_currents core task direction queue ticks table low = blocked_currents core task (Transfer queue direction) ticks
+    (Some (record { list = event_list table.settings direction queue; priority = waiting_priority stamp_queues task table })) table low
+
+queue_called_currents : (core task : ℕ) (direction : Direction) (queue ticks : ℕ) (table : Table) → IsConsistent table → core < length table.control.cores →
+    HasCurrents table (queue_called stamp_queues core task direction queue ticks table).1
+unfolding queue_called
+queue_called_currents core task direction queue ticks table sound low = at (can_pass direction (queue_at table.queues queue)) (eqb ticks 0)
+  where
+    at : (b d : Bool) → HasCurrents table (cond {A = Reply × Table} b (Flag true, passed stamp_queues core direction queue table)
+        (cond d (Flag false, table) (Blocked, queue_waited stamp_queues core task direction queue (timeout_of ticks) table))).1
+    at true d = (passed_undisturbed core direction queue table sound).currents
+    at false true = λ c. refl
+    at false false = queue_waited_currents core task direction queue (timeout_of ticks) table low
+
+queue_finished_currents : (core task : ℕ) (direction : Direction) (queue : ℕ) (table : Table) → IsConsistent table → IsCaller table core task →
+    HasCurrents table (queue_finished stamp_queues core task direction queue table).1
+unfolding queue_finished
+queue_finished_currents core task direction queue table sound place =
+    at (can_pass direction (queue_at table.queues queue)) (option_map_or (λ ticks. eqb ticks 0) left false)
+  where
+    over : Table
+    over = after_return stamp_queues task table
+
+    left : Option ℕ
+    left = deadline_left task table.orders
+
+    at : (b d : Bool) → HasCurrents table (cond {A = Reply × Table} b (Flag true, passed stamp_queues core direction queue over)
+        (cond d (Flag false, over) (Blocked, queue_waited stamp_queues core task direction queue left table))).1
+    at true d = (passed_undisturbed core direction queue over
+        (forgotten_sound table task sound (omega (arith, sound.sized.rows, place.2)) place.3)).currents
+    at false true = λ c. refl
+    at false false = queue_waited_currents core task direction queue left table place.0
+
+finish_currents : (core task : ℕ) (call : Unfinished) (table : Table) → IsConsistent table → IsCaller table core task → HasCurrents table
     (after_finish stamp_queues core task call table).1
 unfolding after_finish
-finish_currents core task (Made call) table low = (completed_undisturbed task call (after_return stamp_queues task table)).currents
-finish_currents core task (Take mutex mark) table low = take_finished_currents core task mutex mark table low
+finish_currents core task (Made call) table sound place = (completed_undisturbed task call (after_return stamp_queues task table)).currents
+finish_currents core task (Take mutex mark) table sound place = take_finished_currents core task mutex mark table place.0
+finish_currents core task (Transfer queue direction) table sound place = queue_finished_currents core task direction queue table sound place
 
 called_currents : (core task : ℕ) (call : Call) (table : Table) → IsConsistent table → IsCaller table core task → IsCheckedCall table.settings call →
     HasCurrents table (called stamp_queues core task call table).1
@@ -217,7 +259,7 @@ called_currents core task Finish table sound place checked = at (call_at table.c
     at : (unfinished : Option Unfinished) → HasCurrents table (option_map_or {U = Reply × Table} (λ call. after_finish stamp_queues core task call table)
         unfinished (Done, table)).1
     at None = λ c. refl
-    at (Some call) = finish_currents core task call table place.0
+    at (Some call) = finish_currents core task call table sound place
 called_currents core task (PrioritySet other priority) table sound place checked =
     (priority_undisturbed core other priority table (omega (arith, sound.sized.rows, (checked_task table.settings other checked.passes).1))).currents
 called_currents core task (AffinitySet other mask) table sound place checked = (affinity_undisturbed core other mask table).currents
@@ -234,6 +276,8 @@ called_currents core task (ValueClear other bits index) table sound place checke
 called_currents core task (MutexTake mutex ticks) table sound place checked = take_currents core task mutex ticks table place.0
 called_currents core task (MutexGive mutex) table sound place checked = (give_undisturbed core task mutex table sound place.2
     (checked_mutex table.settings mutex checked.passes)).currents
+called_currents core task (QueueSend queue ticks) table sound place checked = queue_called_currents core task Send queue ticks table sound place.0
+called_currents core task (QueueReceive queue ticks) table sound place checked = queue_called_currents core task Receive queue ticks table sound place.0
 called_currents core task HoldOpen table sound place checked = λ c. refl
 called_currents core task HoldClose table sound place checked = λ c. refl
 
@@ -299,6 +343,9 @@ performed_seated Tick table sound checked place sized = kept_seated table.contro
 performed_seated (Switch core) table sound checked place sized = switched_seated core table place
 performed_seated (Interrupt core note) table sound checked place sized = kept_seated table.control (notify stamp_queues core note table).control core sized
     (notify_undisturbed core note table (omega (arith, sound.sized.rows, place.1))).currents
+performed_seated (QueueInterrupt core queue direction) table sound checked place sized =
+    kept_seated table.control (queue_interrupted stamp_queues core direction queue table).1.control core sized
+    (queue_interrupted_undisturbed core direction queue table sound).currents
 performed_seated (steps.Call core task call) table sound checked place sized =
     kept_seated table.control (called stamp_queues core task call table).1.control core sized
     (called_currents core task call table sound place (checked_call table.settings core task call checked).0)

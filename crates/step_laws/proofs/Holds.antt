@@ -13,12 +13,14 @@ use Rattle.bench_types.specs.declared.step.Step.{Step}
 use Rattle.bench_types.specs.declared.step.Step.TheVariants as steps
 use Rattle.bench_types.specs.declared.step.Call.{Call}
 use Rattle.bench_types.specs.declared.step.Call.TheVariants.{Yield, Delay, DelayUntil, Finish, PrioritySet, AffinitySet, PreemptOff, PreemptOn, Notify}
-use Rattle.bench_types.specs.declared.step.Call.TheVariants.{NotifyWait, NotifyTake, StateClear, ValueClear, MutexTake, MutexGive, HoldOpen, HoldClose}
+use Rattle.bench_types.specs.declared.step.Call.TheVariants.{NotifyWait, NotifyTake, StateClear, ValueClear, MutexTake, MutexGive, QueueSend, QueueReceive, HoldOpen, HoldClose}
 use Rattle.bench_types.specs.declared.step.BlockingCall.{BlockingCall}
 use Rattle.bench_types.specs.declared.step.BlockingCall.TheVariants as blocking
+use Rattle.bench_types.specs.declared.step.Direction.{Direction}
+use Rattle.bench_types.specs.declared.step.Direction.TheVariants.{Send, Receive}
 use Rattle.bench_types.specs.declared.step.Unfinished.{Unfinished}
-use Rattle.bench_types.specs.declared.step.Unfinished.TheVariants.{Made, Take}
-use Rattle.bench_types.specs.declared.kernel_data.MutexWait.{MutexWait}
+use Rattle.bench_types.specs.declared.step.Unfinished.TheVariants.{Made, Take, Transfer}
+use Rattle.bench_types.specs.declared.kernel_data.EventWait.{EventWait}
 use Rattle.bench_types.specs.declared.note.Notification.{Notification}
 use Rattle.bench_model.specs.Mutexes.{is_marked, inherited, waited_at, waiting_priority, take_from, mutex_take}
 use Rattle.bench_model.specs.Until.{next_wake, is_ahead, ticks_to}
@@ -32,18 +34,20 @@ use Rattle.bench_model.specs.Table.{Table, stamp_queues, is_ready, stands_ready,
 use Rattle.bench_model.specs.Sound.{IsCaller, IsConsistent, IsHeldWell}
 use Rattle.std.proofs.lemmas.Bool.{true_from_ne_false}
 use Rattle.std.proofs.lemmas.Option.{same_Some}
-use Rattle.bench_types.proofs.Passes.{both_pass, checked_core, checked_mutex, checked_task, noted_index, noted_task}
-use Rattle.bench_types.specs.Step.{IsCheckedStep, IsCheckedCall, step_check, core_check, note_check, task_check, call_check, ◌>>◌}
+use Rattle.bench_types.proofs.Passes.{both_pass, checked_core, checked_mutex, checked_queue, checked_task, noted_index, noted_task}
+use Rattle.bench_types.specs.Step.{IsCheckedStep, IsCheckedCall, step_check, core_check, note_check, queue_check, task_check, call_check, ◌>>◌}
 use Rattle.bench_types.specs.Limits.{max_depth}
 use Rattle.bench_model.specs.Notes.{wait_entered, take_entered, of_slot, slot_of}
 use Rattle.bench_model.specs.Notifying.{interrupted, timeout_of, completed, awaited}
+use Rattle.bench_model.specs.Queues.{can_pass, passed, queue_at, queue_called, queue_interrupted, queue_waited}
 use Rattle.bench_model.specs.Seek.{after_switch}
 use Rattle.bench_model.specs.Steps.{ticked, called, performed, delayed_until, after}
 use Rattle.bench_model.specs.Sound.{StepFits, IsSound}
+use Rattle.bench_model.specs.Waiters.{event_list}
 use Rattle.step_laws.proofs.Nears.{keeps_hold, called_near, turned_hold}
 use Rattle.step_laws.proofs.Undisturbed.{IsUndisturbed, hold_kept, yielded_undisturbed, until_undisturbed, priority_undisturbed, affinity_undisturbed}
 use Rattle.step_laws.proofs.Undisturbed.{off_undisturbed, on_undisturbed, notify_undisturbed, timeout_undisturbed, forgotten_undisturbed, bits_undisturbed}
-use Rattle.step_laws.proofs.Undisturbed.{take_undisturbed, give_undisturbed, ticked_undisturbed, inherited_undisturbed}
+use Rattle.step_laws.proofs.Undisturbed.{take_undisturbed, give_undisturbed, queue_called_undisturbed, queue_interrupted_undisturbed, ticked_undisturbed, inherited_undisturbed}
 
 either_none : {A : Type 0} (one other : Option A) → option_or one other ≡ None → (one ≡ None) × (other ≡ None)
 either_none None other none = (refl, none)
@@ -120,6 +124,9 @@ in_place (steps.Interrupt core note) table sound checked none =
       noted_index table.settings
           note both.1,
     )
+in_place (steps.QueueInterrupt core queue direction) table sound checked none =
+    let both = both_pass (core_check table.settings core) (queue_check table.settings queue) checked in
+    (omega (arith, sound.consistent.sized.cores, checked_core table.settings core both.0), checked_queue table.settings queue both.1)
 in_place (steps.Call core task call) table sound checked none =
     let low : core < length table.control.cores = omega (
       arith,
@@ -166,6 +173,8 @@ calm core task (ValueClear other bits index) table sound place checked begins ke
 calm core task (MutexTake mutex ticks) table sound place checked begins keeps goes = take_undisturbed core task mutex ticks table goes
 calm core task (MutexGive mutex) table sound place checked begins keeps goes = give_undisturbed core task mutex table sound place.2
     (checked_mutex table.settings mutex checked.passes)
+calm core task (QueueSend queue ticks) table sound place checked begins keeps goes = queue_called_undisturbed core task Send queue ticks table sound goes
+calm core task (QueueReceive queue ticks) table sound place checked begins keeps goes = queue_called_undisturbed core task Receive queue ticks table sound goes
 calm core task HoldOpen table sound place checked begins keeps goes = absurd (cc (keeps))
 calm core task HoldClose table sound place checked begins keeps goes = absurd (cc (keeps))
 
@@ -321,6 +330,10 @@ called_held core task (ValueClear other bits index) table sound place checked us
 called_held core task (MutexTake mutex ticks) table sound place checked user taken = kept_held core task (MutexTake mutex ticks) table sound place checked user
     taken refl
 called_held core task (MutexGive mutex) table sound place checked user taken = kept_held core task (MutexGive mutex) table sound place checked user taken refl
+called_held core task (QueueSend queue ticks) table sound place checked user taken = kept_held core task (QueueSend queue ticks) table sound place checked user
+    taken refl
+called_held core task (QueueReceive queue ticks) table sound place checked user taken = kept_held core task (QueueReceive queue ticks) table sound place checked
+    user taken refl
 
 -- ---- a step
 
@@ -348,6 +361,8 @@ held_after (steps.Switch core) table sound checked none = at table.hold refl
 held_after (steps.Interrupt core note) table sound checked none =
     let low = (noted_task table.settings note (both_pass (core_check table.settings core) (note_check table.settings note) checked.passes).1).1 in
     hold_kept table _ (notify_undisturbed core note table (omega (arith, sound.consistent.sized.rows, low))) sound.held
+held_after (steps.QueueInterrupt core queue direction) table sound checked none =
+    hold_kept table _ (queue_interrupted_undisturbed core direction queue table sound.consistent) sound.held
 held_after (steps.Call core task call) table sound checked none =
     let called = checked_call table.settings core task call checked in
     called_held core task call table sound (in_place (steps.Call core task call) table sound checked.passes none) called.0 called.1
@@ -355,7 +370,7 @@ held_after (steps.Call core task call) table sound checked none =
 
 -- ---- the laws of holds
 
-blocked_waits : (core task : ℕ) (call : Unfinished) (ticks : Option ℕ) (wait : Option MutexWait) (table : Table) → task < length table.orders.rows → is_ready
+blocked_waits : (core task : ℕ) (call : Unfinished) (ticks : Option ℕ) (wait : Option EventWait) (table : Table) → task < length table.orders.rows → is_ready
     task (blocked stamp_queues core task call ticks wait table).orders ≡ false
 unfolding blocked delay
 blocked_waits core task call ticks wait table below = ap stands_ready (standing_same table.orders task (standings.Blocked (ahead table.orders ticks))
@@ -421,8 +436,8 @@ take_waits core task mutex ticks table sound below waits = at (holder_at table.h
     priority : ℕ
     priority = (task_at table.control task).in_use
 
-    wait : Option MutexWait
-    wait = Some (record { mutex = mutex; priority = waiting_priority stamp_queues task table })
+    wait : Option EventWait
+    wait = Some (record { list = mutex; priority = waiting_priority stamp_queues task table })
 
     raised : ℕ → Table
     raised holder = inherited stamp_queues core holder priority table
@@ -441,6 +456,24 @@ take_waits core task mutex ticks table sound below waits = at (holder_at table.h
     at None free waits = absurd (cc (waits))
     at (Some holder) is waits = held holder (omega (arith, sound.mutexes.held_by_tasks mutex holder is, sound.sized.rows)) (eqb ticks 0) refl waits
 
+queue_waits : (core task : ℕ) (direction : Direction) (queue ticks : ℕ) (table : Table) → task < length table.orders.rows →
+    (not (can_pass direction (queue_at table.queues queue)) && ltb 0 ticks) ≡ true → is_ready task
+    (queue_called stamp_queues core task direction queue ticks table).1.orders ≡ false
+unfolding queue_called queue_waited
+queue_waits core task direction queue ticks table below waits = at (can_pass direction (queue_at table.queues queue)) (eqb ticks 0) refl waits
+  where
+    wait : Option EventWait
+    wait = Some (record { list = event_list table.settings direction queue; priority = waiting_priority stamp_queues task table })
+
+    later : Table
+    later = blocked stamp_queues core task (Transfer queue direction) (timeout_of ticks) wait table
+
+    at : (b d : Bool) → eqb ticks 0 ≡ d → (not b && ltb 0 ticks) ≡ true → is_ready task (cond {A = Reply × Table} b
+        (Flag true, passed stamp_queues core direction queue table) (cond d (Flag false, table) (Blocked, later))).1.orders ≡ false
+    at true d is waits = absurd (cc (waits))
+    at false true none waits = absurd (grind (arith, nat_tests, none, waits))
+    at false false some waits = blocked_waits core task (Transfer queue direction) (timeout_of ticks) wait table below
+
 pub blocks_where_it_would : (table : Table) (core task : ℕ) (call : Call) → IsConsistent table → IsCaller table core task → IsCheckedCall table.settings call →
     call_refusal None call ≡ None → is_ready task (called stamp_queues core task call table).1.orders ≡ not (would_block stamp_queues task call table)
 unfolding called would_block hold_opened hold_closed
@@ -456,6 +489,10 @@ blocks_where_it_would table core task (NotifyTake clear ticks index) sound place
     (of_slot (slot_of table.settings task index) take_entered table.notes) table place.2)
 blocks_where_it_would table core task (MutexTake mutex ticks) sound place checked begins = goes_or_waits table core task sound place (MutexTake mutex ticks)
     checked begins refl (take_waits core task mutex ticks table sound place.2)
+blocks_where_it_would table core task (QueueSend queue ticks) sound place checked begins = goes_or_waits table core task sound place (QueueSend queue ticks)
+    checked begins refl (queue_waits core task Send queue ticks table place.2)
+blocks_where_it_would table core task (QueueReceive queue ticks) sound place checked begins = goes_or_waits table core task sound place
+    (QueueReceive queue ticks) checked begins refl (queue_waits core task Receive queue ticks table place.2)
 blocks_where_it_would table core task HoldOpen sound place checked begins = place.3
 blocks_where_it_would table core task HoldClose sound place checked begins = place.3
 blocks_where_it_would table core task Yield sound place checked begins = goes_or_waits table core task sound place Yield checked begins refl
@@ -515,6 +552,10 @@ kept_by_call table core task (MutexTake mutex ticks) hold sound place checked us
     (held_on core task (MutexTake mutex ticks) table sound place checked user taken hold is refl).currents hold.core
 kept_by_call table core task (MutexGive mutex) hold sound place checked user taken is =
     (held_on core task (MutexGive mutex) table sound place checked user taken hold is refl).currents hold.core
+kept_by_call table core task (QueueSend queue ticks) hold sound place checked user taken is =
+    (held_on core task (QueueSend queue ticks) table sound place checked user taken hold is refl).currents hold.core
+kept_by_call table core task (QueueReceive queue ticks) hold sound place checked user taken is =
+    (held_on core task (QueueReceive queue ticks) table sound place checked user taken hold is refl).currents hold.core
 
 kept_by_step : (table : Table) (step : Step) (hold : Hold) → IsSound table → IsCheckedStep table.settings step → table.hold ≡ Some hold → refusal stamp_queues
     step table ≡ None → current (performed stamp_queues step table).1.control hold.core ≡ current table.control hold.core
@@ -524,6 +565,8 @@ kept_by_step table (steps.Switch core) hold sound checked is none = absurd (kept
 kept_by_step table (steps.Interrupt core note) hold sound checked is none =
     let low = (noted_task table.settings note (both_pass (core_check table.settings core) (note_check table.settings note) checked.passes).1).1 in
     (notify_undisturbed core note table (omega (arith, sound.consistent.sized.rows, low))).currents hold.core
+kept_by_step table (steps.QueueInterrupt core queue direction) hold sound checked is none =
+    (queue_interrupted_undisturbed core direction queue table sound.consistent).currents hold.core
 kept_by_step table (steps.Call core task call) hold sound checked is none =
     let made = checked_call table.settings core task call checked in
     kept_by_call table core task call hold sound (in_place (steps.Call core task call) table sound checked.passes none) made.0 made.1

@@ -10,16 +10,18 @@ use Rattle.bench_types.specs.declared.reply.Reply.TheVariants.{Done, Flag, Refus
 use Rattle.bench_types.specs.declared.reply.Reply.TheVariants as reply
 use Rattle.bench_types.specs.declared.reply.Refusal.{Refusal}
 use Rattle.bench_types.specs.declared.step.Step.{Step}
-use Rattle.bench_types.specs.declared.step.Step.TheVariants.{Tick, Switch, Interrupt}
+use Rattle.bench_types.specs.declared.step.Step.TheVariants.{Tick, Switch, Interrupt, QueueInterrupt}
 use Rattle.bench_types.specs.declared.step.Step.TheVariants as steps
 use Rattle.bench_types.specs.declared.step.Call.{Call}
 use Rattle.bench_types.specs.declared.step.Call.TheVariants.{Yield, Delay, Finish, PrioritySet, AffinitySet, PreemptOff, PreemptOn, Notify, NotifyWait}
-use Rattle.bench_types.specs.declared.step.Call.TheVariants.{NotifyTake, StateClear, ValueClear, MutexTake, MutexGive, DelayUntil, HoldOpen, HoldClose}
+use Rattle.bench_types.specs.declared.step.Call.TheVariants.{NotifyTake, StateClear, ValueClear, MutexTake, MutexGive, QueueSend, QueueReceive, DelayUntil, HoldOpen, HoldClose}
+use Rattle.bench_types.specs.declared.step.Direction.{Direction}
+use Rattle.bench_types.specs.declared.step.Direction.TheVariants.{Send, Receive}
 use Rattle.bench_types.specs.declared.step.BlockingCall.{BlockingCall}
 use Rattle.bench_types.specs.declared.step.BlockingCall.TheVariants as blocking
 use Rattle.bench_types.specs.declared.step.Unfinished.{Unfinished}
-use Rattle.bench_types.specs.declared.step.Unfinished.TheVariants.{Made, Take}
-use Rattle.bench_types.specs.declared.kernel_data.MutexWait.{MutexWait}
+use Rattle.bench_types.specs.declared.step.Unfinished.TheVariants.{Made, Take, Transfer}
+use Rattle.bench_types.specs.declared.kernel_data.EventWait.{EventWait}
 use Rattle.bench_types.specs.declared.kernel_data.Waiter.{Waiter}
 use Rattle.bench_model.specs.Holds.{hold_opened, hold_closed}
 use Rattle.bench_model.specs.Until.{next_wake, is_ahead, ticks_to}
@@ -29,6 +31,7 @@ use Rattle.bench_model.specs.Notes.{note_at, is_waiting, notified, wait_entered,
 use Rattle.bench_model.specs.Notifying.{timeout_of, notify, interrupted, state_forgotten, bits_cleared, completed, awaited}
 use Rattle.bench_model.specs.Mutexes.{is_marked, held_by, taken, inherited, waited_at, take_from, mutex_take, owed, after_disinherit, timed_out, finish_from}
 use Rattle.bench_model.specs.Mutexes.{take_finished, disinherited, first_woken, give_from, mutex_give, waiting_priority}
+use Rattle.bench_model.specs.Queues.{can_pass, other_way, passed, queue_at, queue_called, queue_finished, queue_interrupted, queue_waited, with_passed}
 use Rattle.bench_model.specs.Refusals.{refusal}
 use Rattle.bench_model.specs.State.{call_at, holder_at, after_select, yielded, blocked, after_return}
 use Rattle.bench_model.specs.Steps.{woken, ticked, called, performed, after, delayed_until, after_finish}
@@ -36,6 +39,7 @@ use Rattle.bench_model.specs.Seek.{seek, may_move, wake, after_eviction, after_s
 use Rattle.bench_model.specs.PriorityAffinity.{capped, in_use_after, priority_set, affinity_set, preemption_off, preemption_on}
 use Rattle.bench_model.specs.Table.{Stamps, Table, stamp_queues, is_ready, add_to_ready_list, delay, advance, due, deadline_left, forget_deadline, first_waiter}
 use Rattle.bench_model.specs.Table.{tick_count, set_list_value}
+use Rattle.bench_model.specs.Waiters.{event_list}
 use Rattle.rule_laws.proofs.Awaiting.{completed_notes}
 use Rattle.order_laws.proofs.SoundSteps.{add_to_ready_tick, readied_tick, advanced_tick}
 use Rattle.rule_laws.proofs.Ticks.{with_orders, after_wakes, woken_parts}
@@ -217,7 +221,7 @@ inherited_gives acting holder priority table =
     either_gives 1 table _ table (ltb (task_at table.control holder).in_use priority) (either_gives 1 table _ later (is_ready holder table.orders) gives gives)
     (giving_none 1 table)
 
-blocked_gives : (core task : ℕ) (call : Unfinished) (ticks : Option ℕ) (wait : Option MutexWait) (table : Table) → IsGiving 1 table
+blocked_gives : (core task : ℕ) (call : Unfinished) (ticks : Option ℕ) (wait : Option EventWait) (table : Table) → IsGiving 1 table
     (blocked stamp_queues core task call ticks wait table)
 unfolding blocked delay
 blocked_gives core task call ticks wait table = (omega arith, refl, refl, refl)
@@ -226,7 +230,7 @@ waited_gives : (core task mutex holder : ℕ) (ticks : Option ℕ) (table : Tabl
 unfolding waited_at
 waited_gives core task mutex holder ticks table =
     let priority = (task_at table.control task).in_use in
-    let wait : MutexWait = record { mutex = mutex; priority = waiting_priority stamp_queues task table } in
+    let wait : EventWait = record { list = mutex; priority = waiting_priority stamp_queues task table } in
     let inheriting = inherited stamp_queues core holder priority table in
     giving_then 1 1 table inheriting (blocked stamp_queues core task (Take mutex (is_marked table.control task holder)) ticks (Some wait) inheriting)
     (inherited_gives core holder priority table)
@@ -295,6 +299,73 @@ take_finished_near core task mutex mark table = at (holder_at table.holders mute
         (omega (arith, gives.0), gives.1, gives.2, gives.3)
     at (Some holder) = some holder (option_map_or (λ ticks. eqb ticks 0) left false)
 
+first_woken_gives : (acting mutex : ℕ) (table : Table) → IsGiving 1 table (first_woken stamp_queues acting mutex table)
+unfolding first_woken wake add_to_ready_list
+first_woken_gives acting mutex table = at (first_waiter mutex table.orders)
+  where
+    at : (first : Option Waiter) → IsGiving 1 table (option_map_or (λ (waiter : Waiter). wake stamp_queues acting waiter.task table) first table)
+    at None = giving_none 1 table
+    at (Some waiter) = (omega arith, refl, refl, refl)
+
+passed_gives : (core : ℕ) (direction : Direction) (queue : ℕ) (table : Table) → IsGiving 1 table (passed stamp_queues core direction queue table)
+unfolding passed
+passed_gives core direction queue table =
+    let gone = with_passed direction queue table in
+    let list = event_list table.settings (other_way direction) queue in
+    giving_then 0 1 table gone (first_woken stamp_queues core list gone) (giving_none 0 table) (first_woken_gives core list gone)
+
+queue_waited_gives : (core task : ℕ) (direction : Direction) (queue : ℕ) (ticks : Option ℕ) (table : Table) → IsGiving 1 table
+    (queue_waited stamp_queues core task direction queue ticks table)
+unfolding queue_waited
+queue_waited_gives core task direction queue ticks table = blocked_gives core task (Transfer queue direction) ticks
+    (Some (record { list = event_list table.settings direction queue; priority = waiting_priority stamp_queues task table })) table
+
+one_more : (table next : Table) → IsGiving 1 table next → IsGiving 2 table next
+one_more table next gives = (omega (arith, gives.0), gives.1, gives.2, gives.3)
+
+queue_called_near : (core task : ℕ) (direction : Direction) (queue ticks : ℕ) (table : Table) → IsGiving 2 table
+    (queue_called stamp_queues core task direction queue ticks table).1
+unfolding queue_called
+queue_called_near core task direction queue ticks table = at (can_pass direction (queue_at table.queues queue)) (eqb ticks 0)
+  where
+    waits : Table
+    waits = queue_waited stamp_queues core task direction queue (timeout_of ticks) table
+
+    at : (b d : Bool) → IsGiving 2 table (cond {A = Reply × Table} b (Flag true, passed stamp_queues core direction queue table)
+        (cond d (Flag false, table) (reply.Blocked, waits))).1
+    at true d = one_more table (passed stamp_queues core direction queue table) (passed_gives core direction queue table)
+    at false true = giving_none 2 table
+    at false false = one_more table waits (queue_waited_gives core task direction queue (timeout_of ticks) table)
+
+queue_finished_near : (core task : ℕ) (direction : Direction) (queue : ℕ) (table : Table) → IsGiving 2 table
+    (queue_finished stamp_queues core task direction queue table).1
+unfolding queue_finished
+queue_finished_near core task direction queue table =
+    at (can_pass direction (queue_at table.queues queue)) (option_map_or (λ ticks. eqb ticks 0) left false)
+  where
+    left : Option ℕ
+    left = deadline_left task table.orders
+
+    over : Table
+    over = after_return stamp_queues task table
+
+    waits : Table
+    waits = queue_waited stamp_queues core task direction queue left table
+
+    at : (b d : Bool) → IsGiving 2 table (cond {A = Reply × Table} b (Flag true, passed stamp_queues core direction queue over)
+        (cond d (Flag false, over) (reply.Blocked, waits))).1
+    at true d = one_more table (passed stamp_queues core direction queue over)
+        (giving_then 0 1 table over (passed stamp_queues core direction queue over) (ended_gives task table) (passed_gives core direction queue over))
+    at false true = giving_then 0 2 table over over (ended_gives task table) (giving_none 2 over)
+    at false false = one_more table waits (queue_waited_gives core task direction queue left table)
+
+queue_interrupted_near : (core : ℕ) (direction : Direction) (queue : ℕ) (table : Table) → IsGiving 2 table
+    (queue_interrupted stamp_queues core direction queue table).1
+unfolding queue_interrupted
+queue_interrupted_near core direction queue table = either_gives 2 table (passed stamp_queues core direction queue table) table
+    (can_pass direction (queue_at table.queues queue)) (one_more table (passed stamp_queues core direction queue table) (passed_gives core direction queue table))
+    (giving_none 2 table)
+
 finished_near : (core task : ℕ) (call : Unfinished) (table : Table) → 0 < length table.orders.rows → IsNearer table
     (after_finish stamp_queues core task call table).1
 unfolding after_finish
@@ -305,6 +376,8 @@ finished_near core task (Made call) table some =
     (omega (arith, gives.0, ap (λ (o : Stamps). o.next) same.0), omega (arith, gives.1, ap (λ (o : Stamps). o.tick) same.0), same.1 ∙ gives.2, same.2 ∙ gives.3)
 finished_near core task (Take mutex mark) table some = giving_near table (take_finished stamp_queues core task mutex mark table).1 some
     (take_finished_near core task mutex mark table)
+finished_near core task (Transfer queue direction) table some = giving_near table (queue_finished stamp_queues core task direction queue table).1 some
+    (queue_finished_near core task direction queue table)
 
 call_finished_near : (core task : ℕ) (table : Table) → 0 < length table.orders.rows → IsNearer table
     (option_map_or {U = Reply × Table} (λ call. after_finish stamp_queues core task call table) (call_at table.calls task) (Done, table)).1
@@ -320,14 +393,6 @@ unfolding disinherited
 disinherited_gives core task table =
     either_gives 1 table _ table (eqb (held_by table.holders task) 0) (after_disinherit_gives core task (task_at table.control task).base table)
     (giving_none 1 table)
-
-first_woken_gives : (acting mutex : ℕ) (table : Table) → IsGiving 1 table (first_woken stamp_queues acting mutex table)
-unfolding first_woken wake add_to_ready_list
-first_woken_gives acting mutex table = at (first_waiter mutex table.orders)
-  where
-    at : (first : Option Waiter) → IsGiving 1 table (option_map_or (λ (waiter : Waiter). wake stamp_queues acting waiter.task table) first table)
-    at None = giving_none 1 table
-    at (Some waiter) = (omega arith, refl, refl, refl)
 
 give_near : (core task mutex : ℕ) (table : Table) → IsGiving 2 table (mutex_give stamp_queues core task mutex table).1
 unfolding mutex_give
@@ -430,12 +495,17 @@ called_near core task (MutexTake mutex ticks) table some = let near = giving_nea
     (take_near core task mutex ticks table) in (near.0, near.1, near.2, λ keeps. near.3)
 called_near core task (MutexGive mutex) table some = let near = giving_near table (mutex_give stamp_queues core task mutex table).1 some
     (give_near core task mutex table) in (near.0, near.1, near.2, λ keeps. near.3)
+called_near core task (QueueSend queue ticks) table some = let near = giving_near table (queue_called stamp_queues core task Send queue ticks table).1 some
+    (queue_called_near core task Send queue ticks table) in (near.0, near.1, near.2, λ keeps. near.3)
+called_near core task (QueueReceive queue ticks) table some = let near = giving_near table (queue_called stamp_queues core task Receive queue ticks table).1 some
+    (queue_called_near core task Receive queue ticks table) in (near.0, near.1, near.2, λ keeps. near.3)
 
 abbrev pub keeps_step : Step → Bool
 keeps_step (steps.Call core task call) = keeps_hold call
 keeps_step Tick = true
 keeps_step (Switch core) = true
 keeps_step (Interrupt core note) = true
+keeps_step (QueueInterrupt core queue direction) = true
 
 pub performed_near : (step : Step) (table : Table) → 0 < length table.orders.rows → IsNearBut (keeps_step step) table (performed stamp_queues step table).1
 unfolding performed interrupted
@@ -443,6 +513,8 @@ performed_near Tick table some = let near = ticked_near table in (near.0, near.1
 performed_near (Switch core) table some = let near = after_select_near core table some in (near.0, near.1, near.2, λ keeps. near.3)
 performed_near (steps.Call core task call) table some = called_near core task call table some
 performed_near (Interrupt core note) table some = let near = notify_near core note table some in (near.0, near.1, near.2, λ keeps. near.3)
+performed_near (QueueInterrupt core queue direction) table some = let near = giving_near table (queue_interrupted stamp_queues core direction queue table).1 some
+    (queue_interrupted_near core direction queue table) in (near.0, near.1, near.2, λ keeps. near.3)
 
 pub after_near : (step : Step) (table : Table) → 0 < length table.orders.rows → IsNear table (after stamp_queues step table).1
 unfolding after

@@ -2,13 +2,14 @@
 use Rattle.order_laws.proofs.FirstBlocks.{first_tasks, first_blocks, first_values_below, first_values_length}
 use Rattle.std.proofs.Common.{sym, ◌≡◌, ℕ, ◌*◌, zero, suc, ◌+◌, ◌-◌, ◌<◌, ◌≤◌, true, false, cond, ltb, List, [], ◌∷◌, ◌++◌, length, map, replicate, Bool, Option}
 use Rattle.std.proofs.Common.{Some, None, Ok, refl, ap, ◌∙◌, add-zero, arith, inl, inr}
-use Rattle.std.specs.Prelude.{slice_index_or, All}
+use Rattle.std.specs.Prelude.{slice_index_or, option_map, unwrap_or, All}
 use Rattle.std.specs.List.{fold, range_with_len, AllByRecursion}
 use Rattle.std.proofs.lemmas.Bool.Decides.{nat_tests}
 use Rattle.std.proofs.lemmas.Bool.{cases_lt}
-use Rattle.std.proofs.lemmas.List.{length-append, length-replicate, map-append, get_or_append_left, get_or-append_right, get_or-replicate}
+use Rattle.std.proofs.lemmas.List.{length-append, length-map, length-replicate, map-append, get_or_append_left, get_or-append_right, get_or-replicate}
 use Rattle.std.proofs.lemmas.List.FromFn.{length-map-range_with_len, get_or-map-range_with_len}
 use Rattle.bench_types.specs.declared.header.Header.{Header}
+use Rattle.bench_types.specs.declared.header.QueueArgs.{QueueArgs}
 use Rattle.bench_types.specs.declared.kernel_data.CoreLook.{CoreLook}
 use Rattle.bench_types.specs.declared.note.Notification.{Notification}
 use Rattle.bench_model.specs.Notes.{no_note}
@@ -25,14 +26,14 @@ use Rattle.bench_model.specs.State.{call_at}
 use Rattle.bench_model.specs.Seek.{after_switch}
 use Rattle.bench_model.specs.Table.{Stamps, Table, stamp_queues, row_at, stamp_of, is_ready, stands_ready, wake_in, deadline_at}
 use Rattle.bench_model.specs.Lists.{list_queues, lists_of, delayed_of, outranks, wakes_first, view_of}
-use Rattle.bench_model.specs.Sound.{list_values, IsStamped, HasCurrentTasks, WakesInTime, HasWords, HasMutexes, IsConsistent, IsSound, IsWaiter, mutex_taken}
-use Rattle.bench_model.specs.Start.{first_look, first_control, ready_row, first_stamps, first_lists, unstarted, started, start, start_seen}
+use Rattle.bench_model.specs.Sound.{list_values, IsStamped, HasCurrentTasks, WakesInTime, HasWords, HasMutexes, IsConsistent, IsSound, IsWaiter, list_of_call}
+use Rattle.bench_model.specs.Start.{first_look, first_control, first_queue, first_queues, ready_row, first_stamps, first_lists, unstarted, started, start, start_seen}
 use Rattle.list_orders.proofs.Filters.{All-weaker}
 use Rattle.step_laws.proofs.Nears.{turned_hold}
 use Rattle.list_orders.proofs.Stamped.{numbers_below, by_stamp_listed, by_stamp_none, range_parts}
 use Rattle.order_laws.proofs.Restamps.{standing_so, waits}
-use Rattle.bench_model.specs.Turns.{AreByMutex, AreInTurn, WaitOnce}
-use Rattle.bench_model.specs.Waiters.{mutex_awaited}
+use Rattle.bench_model.specs.Turns.{AreByList, AreInTurn, WaitOnce}
+use Rattle.bench_model.specs.Waiters.{list_awaited}
 use Rattle.order_laws.proofs.SeenMoves.{same_seen, deadline_from}
 use Rattle.order_laws.proofs.SeenSteps.{same_state}
 use Rattle.rule_laws.proofs.Seeks.{after_switch_seen, after_switch_sound, after_switch_length}
@@ -42,6 +43,11 @@ none_at : {A : Type 0} (n i : ℕ) → slice_index_or {A = Option A} (replicate 
 none_at zero i = refl
 none_at (suc n) zero = refl
 none_at (suc n) (suc i) = none_at n i
+
+-- there is what each queue has
+pub queues_length : (queues : Option (List QueueArgs)) → length (map first_queue (unwrap_or queues [])) ≡ unwrap_or (option_map length queues) 0
+queues_length None = refl
+queues_length (Some queues) = length-map queues first_queue
 
 no_deadlines : (tick n : ℕ) → map (deadline_from tick) (replicate n None) ≡ replicate n None
 no_deadlines tick zero = refl
@@ -211,11 +217,11 @@ module _ (header : Header) where
   unfolding first_stamps
   once_at_first = tt
 
-  by_mutex_at_first : AreByMutex first.waiters
+  by_mutex_at_first : AreByList first.waiters
   unfolding first_stamps
   by_mutex_at_first = tt
 
-  none_awaited : (i : ℕ) → mutex_awaited i first.waiters ≡ None
+  none_awaited : (i : ℕ) → list_awaited i first.waiters ≡ None
   unfolding first_stamps
   none_awaited i = refl
 
@@ -232,8 +238,8 @@ module _ (header : Header) where
     held_by_tasks = λ mutex task held. absurd (cc (none_at {A = ℕ} header.config.mutexes mutex, held));
     waits = no_waiters;
     once = once_at_first;
-    by_mutex = by_mutex_at_first;
-    awaited = λ i low blocked. none_awaited i ∙ sym (ap mutex_taken (none_at {A = Unfinished} (cores + users) i));
+    by_list = by_mutex_at_first;
+    awaited = λ i low blocked. none_awaited i ∙ sym (ap (list_of_call (settings_of header)) (none_at {A = Unfinished} (cores + users) i));
     turns = λ none. no_turns;
     values = values_below valid;
     deadlines = λ i deadline has. absurd (cc (first_deadline i, has));
@@ -258,6 +264,7 @@ module _ (header : Header) where
       notes = length-replicate ((cores + users) * header.config.notes) no_note;
       some_note = valid.some_note;
       holders = length-replicate header.config.mutexes None;
+      queues = queues_length header.queues;
       rows = first_length;
       deadlines = first_deadlines;
       values = values_at_first;
@@ -312,7 +319,7 @@ unstarted_seen : (header : Header) → view_of (unstarted (first_stamps header) 
 unfolding unstarted
 unstarted_seen header = same_state (settings_of header) (first_control header) (first_control header)
     (replicate (header.config.cores + length header.tasks) None) (replicate ((header.config.cores + length header.tasks) * header.config.notes) no_note)
-    (replicate header.config.mutexes None) None _ _ refl (first_seen header)
+    (replicate header.config.mutexes None) (first_queues header) None _ _ refl (first_seen header)
 
 pub start_seen_lem : (header : Header) → header_check header ≡ Ok tt → view_of (start header) ≡ start_seen header
 unfolding started

@@ -9,15 +9,16 @@ use Rattle.bench_types.specs.declared.reply.Reply.TheVariants.{Done, Blocked, Fl
 use Rattle.bench_types.specs.declared.reply.Refusal.{Refusal}
 use Rattle.bench_types.specs.declared.reply.Refusal.TheVariants.{Held, Displaced, SwitchDue, HoldBlock, NoHold, HoldDeep}
 use Rattle.bench_types.specs.declared.step.Step.{Step}
-use Rattle.bench_types.specs.declared.step.Step.TheVariants.{Tick, Switch, Interrupt}
+use Rattle.bench_types.specs.declared.step.Step.TheVariants.{Tick, Switch, Interrupt, QueueInterrupt}
 use Rattle.bench_types.specs.declared.step.Step.TheVariants as steps
 use Rattle.bench_types.specs.declared.step.BlockingCall.TheVariants as blocking
+use Rattle.bench_types.specs.declared.step.Direction.TheVariants.{Send, Receive}
 use Rattle.bench_types.specs.declared.step.Unfinished.{Unfinished}
 use Rattle.bench_types.specs.declared.step.Unfinished.TheVariants.{Made}
 use Rattle.bench_types.specs.declared.step.Call.{Call}
 use Rattle.bench_types.specs.declared.step.Call.TheVariants.{Yield, Delay, DelayUntil, Finish, PrioritySet, AffinitySet, PreemptOff, PreemptOn, Notify}
-use Rattle.bench_types.specs.declared.step.Call.TheVariants.{NotifyWait, NotifyTake, StateClear, ValueClear, MutexTake, MutexGive, HoldOpen, HoldClose}
-use Rattle.bench_types.proofs.Passes.{both_pass, checked_task, checked_mutex, noted_task}
+use Rattle.bench_types.specs.declared.step.Call.TheVariants.{NotifyWait, NotifyTake, StateClear, ValueClear, MutexTake, MutexGive, QueueSend, QueueReceive, HoldOpen, HoldClose}
+use Rattle.bench_types.proofs.Passes.{both_pass, checked_task, checked_mutex, checked_queue, noted_task}
 use Rattle.bench_types.specs.Step.{IsCheckedStep, IsCheckedCall, task_check, mask_check, ◌>>◌}
 use Rattle.bench_types.specs.Limits.{max_depth}
 use Rattle.bench_model.specs.Notes.{wait_entered, take_entered, of_slot, slot_of}
@@ -38,7 +39,9 @@ use Rattle.bench_model.specs.Session.{step_of}
 use Rattle.bench_model.specs.Sound.{IsCaller, StepFits, IsConsistent, IsSound}
 use Rattle.rule_laws.proofs.Awaiting.{wait_entered_word, take_entered_word, interrupted_seen, interrupted_sound, forgotten_seen, forgotten_sound, bits_seen}
 use Rattle.rule_laws.proofs.Awaiting.{bits_sound, timeout_seen, timeout_sound}
-use Rattle.rule_laws.proofs.Mutexes.{take_seen, take_sound, give_seen, give_sound, finished_seen, finished_sound}
+use Rattle.rule_laws.proofs.Mutexes.{take_seen, take_sound, give_seen, give_sound}
+use Rattle.rule_laws.proofs.Finishes.{finished_seen, finished_sound}
+use Rattle.rule_laws.proofs.Queues as queues
 use Rattle.rule_laws.proofs.Notifying.{notify_seen, notify_sound, ruled_sound}
 use Rattle.order_laws.proofs.SeenSteps.{yielded_seen, blocked_seen}
 use Rattle.order_laws.proofs.SoundSteps.{yielded_sound, blocked_sound}
@@ -134,6 +137,8 @@ called_seen core task (ValueClear other bits index) table sound checked place = 
 called_seen core task (MutexTake mutex ticks) table sound checked place = take_seen table core task mutex ticks sound place
 called_seen core task (MutexGive mutex) table sound checked place = give_seen table core task mutex sound (caller_below core task table sound place)
     (checked_mutex table.settings mutex checked.passes)
+called_seen core task (QueueSend queue ticks) table sound checked place = queues.called_seen table core task Send queue ticks sound place
+called_seen core task (QueueReceive queue ticks) table sound checked place = queues.called_seen table core task Receive queue ticks sound place
 called_seen core task HoldOpen table sound checked place = opened_seen core table
 called_seen core task HoldClose table sound checked place = closed_seen core table
 
@@ -143,6 +148,7 @@ unfolding performed
 performed_seen Tick table sound checked place = same_outcome Done _ _ (ticked_seen table sound)
 performed_seen (Switch core) table sound checked place = same_outcome Done _ _ (after_switch_seen table core sound (omega (arith, sound.sized.cores, place)))
 performed_seen (Interrupt core note) table sound checked place = interrupted_seen table core note sound place.1
+performed_seen (QueueInterrupt core queue direction) table sound checked place = queues.interrupted_seen table core direction queue sound
 performed_seen (steps.Call core task call) table sound checked place = called_seen core task call table sound
     (checked_call table.settings core task call checked).0 place
 
@@ -170,6 +176,8 @@ would_block_seen task (StateClear other index) table = refl
 would_block_seen task (ValueClear other bits index) table = refl
 would_block_seen task (MutexTake mutex ticks) table = refl
 would_block_seen task (MutexGive mutex) table = refl
+would_block_seen task (QueueSend queue ticks) table = refl
+would_block_seen task (QueueReceive queue ticks) table = refl
 would_block_seen task HoldOpen table = refl
 would_block_seen task HoldClose table = refl
 
@@ -178,6 +186,7 @@ unfolding refusal
 refusal_seen Tick table = refl
 refusal_seen (Switch core) table = refl
 refusal_seen (Interrupt core note) table = refl
+refusal_seen (QueueInterrupt core queue direction) table = refl
 refusal_seen (steps.Call core task call) table =
     let kept_out = is_held_elsewhere core table.hold in
     let displaced = not (eqb (current table.control core) task) in
@@ -289,6 +298,10 @@ called_sound core task (MutexTake mutex ticks) table sound place checked user = 
     (checked_mutex table.settings mutex checked.passes)
 called_sound core task (MutexGive mutex) table sound place checked user = give_sound table core task mutex sound (caller_below core task table sound place)
     (checked_mutex table.settings mutex checked.passes)
+called_sound core task (QueueSend queue ticks) table sound place checked user = queues.called_sound table core task Send queue ticks sound place user checked.words
+    (checked_queue table.settings queue checked.passes)
+called_sound core task (QueueReceive queue ticks) table sound place checked user = queues.called_sound table core task Receive queue ticks sound place user
+    checked.words (checked_queue table.settings queue checked.passes)
 called_sound core task HoldOpen table sound place checked user = opened_sound core table sound
 called_sound core task HoldClose table sound place checked user = closed_sound core table sound
 
@@ -298,6 +311,7 @@ unfolding performed
 performed_sound Tick table sound checked place = ticked_sound table sound
 performed_sound (Switch core) table sound checked place = after_switch_sound table core sound (omega (arith, sound.sized.cores, place))
 performed_sound (Interrupt core note) table sound checked place = interrupted_sound table core note sound place.1 checked.words
+performed_sound (QueueInterrupt core queue direction) table sound checked place = queues.interrupted_sound table core direction queue sound
 performed_sound (steps.Call core task call) table sound checked place =
     let call_checked = checked_call table.settings core task call checked in
     called_sound core task call table sound place call_checked.0 (omega (arith, sound.sized.cores, call_checked.1))

@@ -1,10 +1,11 @@
 -- The rules of steps that let no task wait and switch no core leave each core its task, each ready task ready, and the calls.
-use Rattle.std.proofs.Common.{◌≡◌, ℕ, ◌<◌, Bool, true, false, cond, eqb, ltb, ◌&&◌, List, [], ◌∷◌, length, Option, Some, None, refl, sym, ap, subst, ◌∙◌, arith}
+use Rattle.std.proofs.Common.{◌≡◌, ℕ, ◌<◌, Bool, true, false, cond, not, eqb, ltb, ◌&&◌, List, [], ◌∷◌, length, Option, Some, None, refl, sym, ap, subst, ◌∙◌, arith}
 use Rattle.std.specs.Prelude.{is_some, slice_set}
 use Rattle.std.specs.Option.{option_map_or, ForSome}
 use Rattle.std.specs.List.{AllByRecursion}
 use Rattle.std.proofs.lemmas.Bool.Decides.{nat_tests}
 use Rattle.bench_types.specs.declared.kernel_data.Hold.{Hold}
+use Rattle.bench_types.specs.declared.kernel_data.QueueLook.{QueueLook}
 use Rattle.bench_types.specs.declared.kernel_data.Settings.{Settings}
 use Rattle.bench_types.specs.declared.kernel_data.TaskControl.{TaskControl}
 use Rattle.bench_types.specs.declared.kernel_data.Waiter.{Waiter}
@@ -14,6 +15,7 @@ use Rattle.bench_types.specs.declared.reply.Reply.{Reply}
 use Rattle.bench_types.specs.declared.reply.Reply.TheVariants.{Blocked, Flag, Until}
 use Rattle.bench_types.specs.declared.step.BlockingCall.{BlockingCall}
 use Rattle.bench_types.specs.declared.step.BlockingCall.TheVariants as blocking
+use Rattle.bench_types.specs.declared.step.Direction.{Direction}
 use Rattle.bench_types.specs.declared.step.Unfinished.{Unfinished}
 use Rattle.bench_types.specs.declared.step.Unfinished.TheVariants.{Made}
 use Rattle.bench_model.specs.ControlFields.{with_task, with_base, with_in_use, in_use_set, value_set, in_use_and_value_set}
@@ -22,6 +24,7 @@ use Rattle.bench_model.specs.Mutexes.{held_by, taken, inherited, waited_at, take
 use Rattle.bench_model.specs.Mutexes.{mutex_give}
 use Rattle.bench_model.specs.Notes.{note_at, is_waiting, notified, slot_of}
 use Rattle.bench_model.specs.Notifying.{timeout_of, notify, completed, awaited, state_forgotten, bits_cleared}
+use Rattle.bench_model.specs.Queues.{can_pass, other_way, passed, queue_at, queue_called, queue_interrupted, queue_waited, with_passed}
 use Rattle.bench_model.specs.Seek.{seek, wake, shares_its_time, sliced}
 use Rattle.bench_model.specs.PriorityAffinity.{capped, in_use_after, yields_after_priority_set, priority_set, affinity_set, preemption_off, preemption_on}
 use Rattle.bench_model.specs.Sound.{IsConsistent, IsHeldWell, IsWaiter}
@@ -31,7 +34,9 @@ use Rattle.bench_model.specs.Until.{next_wake, is_ahead, ticks_to}
 use Rattle.bench_model.specs.Table.{Table, stamp_queues, is_ready, add_to_ready_list, tick_count, advance, due, first_waiter, set_list_value}
 use Rattle.rule_laws.proofs.Awaiting.{completed_notes}
 use Rattle.order_laws.proofs.FirstWaiters.{first_waiter_all}
+use Rattle.bench_model.specs.Waiters.{event_list}
 use Rattle.rule_laws.proofs.Mutexes.{lower_sound}
+use Rattle.rule_laws.proofs.Queues.{with_passed_sound}
 use Rattle.list_orders.proofs.Filters.{All-weaker}
 use Rattle.rule_laws.proofs.Seeks.{seek_more, each_more}
 use Rattle.order_laws.proofs.SeenSteps.{due_below}
@@ -76,6 +81,9 @@ notes_undisturbed table notes = record { settings = refl; currents = λ c. refl;
 
 holders_undisturbed : (table : Table) (holders : List (Option ℕ)) → IsUndisturbed table (record table { holders = holders })
 holders_undisturbed table holders = record { settings = refl; currents = λ c. refl; rows = refl; ready = λ i is. is; calls = refl; hold = refl }
+
+queues_undisturbed : (table : Table) (queues : List QueueLook) → IsUndisturbed table (record table { queues = queues })
+queues_undisturbed table queues = record { settings = refl; currents = λ c. refl; rows = refl; ready = λ i is. is; calls = refl; hold = refl }
 
 pub taken_undisturbed : (task mutex : ℕ) (table : Table) → IsUndisturbed table (taken task mutex table)
 unfolding taken
@@ -258,6 +266,37 @@ give_undisturbed core task mutex table sound below there = at (holder_at table.h
         undisturbed_then table lower _
         (undisturbed_then table freed lower (holders_undisturbed table _) (disinherited_undisturbed core task freed below))
         (first_woken_undisturbed core mutex lower (lower_sound table core task mutex sound (omega (arith, sound.sized.rows)) there))
+
+-- messages that go
+pub passed_undisturbed : (core : ℕ) (direction : Direction) (queue : ℕ) (table : Table) → IsConsistent table → IsUndisturbed table
+    (passed stamp_queues core direction queue table)
+unfolding passed
+passed_undisturbed core direction queue table sound =
+    let gone = with_passed direction queue table in
+    undisturbed_then table gone _ (queues_undisturbed table _)
+    (first_woken_undisturbed core (event_list table.settings (other_way direction) queue) gone (with_passed_sound table direction queue sound))
+
+pub queue_called_undisturbed : (core task : ℕ) (direction : Direction) (queue ticks : ℕ) (table : Table) → IsConsistent table →
+    (not (can_pass direction (queue_at table.queues queue)) && ltb 0 ticks) ≡ false → IsUndisturbed table
+    (queue_called stamp_queues core task direction queue ticks table).1
+unfolding queue_called
+queue_called_undisturbed core task direction queue ticks table sound goes = at (can_pass direction (queue_at table.queues queue)) (eqb ticks 0) refl goes
+  where
+    waits : Table
+    waits = queue_waited stamp_queues core task direction queue (timeout_of ticks) table
+
+    at : (b d : Bool) → eqb ticks 0 ≡ d → (not b && ltb 0 ticks) ≡ false → IsUndisturbed table
+        (cond {A = Reply × Table} b (Flag true, passed stamp_queues core direction queue table) (cond d (Flag false, table) (Blocked, waits))).1
+    at true d is goes = passed_undisturbed core direction queue table sound
+    at false true none goes = undisturbed table
+    at false false some goes = absurd (grind (arith, nat_tests, some, goes))
+
+pub queue_interrupted_undisturbed : (core : ℕ) (direction : Direction) (queue : ℕ) (table : Table) → IsConsistent table → IsUndisturbed table
+    (queue_interrupted stamp_queues core direction queue table).1
+unfolding queue_interrupted
+queue_interrupted_undisturbed core direction queue table sound =
+    either_undisturbed table (passed stamp_queues core direction queue table) table (can_pass direction (queue_at table.queues queue))
+    (passed_undisturbed core direction queue table sound) (undisturbed table)
 
 -- calls that end at once
 pub yielded_undisturbed : (core : ℕ) (table : Table) → core < length table.control.cores → IsUndisturbed table (yielded stamp_queues core table)

@@ -3,7 +3,7 @@ use Rattle.bench_model.specs.Lists.{seen_of}
 use Rattle.std.specs.Prelude.{◌≡◌, ℕ, ◌<◌, ◌≤◌, List, length, slice_set, true, false, Option, IsSome, IfSome, Ok}
 use Rattle.std.specs.List.{AllByRecursion}
 use Rattle.bench_types.specs.declared.header.Header.{Header}
-use Rattle.bench_types.specs.declared.kernel_data.MutexWait.{MutexWait}
+use Rattle.bench_types.specs.declared.kernel_data.EventWait.{EventWait}
 use Rattle.bench_types.specs.declared.step.Unfinished.{Unfinished}
 use Rattle.bench_types.specs.declared.step.Step.{Step}
 use Rattle.bench_types.specs.Header.{header_check}
@@ -15,7 +15,7 @@ use Rattle.bench_model.specs.Table.{Stamps, Table, stamp_queues, is_ready, pick,
 use Rattle.bench_model.specs.Lists as seen
 use Rattle.bench_model.specs.Lists.{list_queues, lists_of, view_of}
 use Rattle.bench_model.specs.Looks.{task_look, look_in}
-use Rattle.bench_model.specs.Sound.{IsStamped, IsWait, IsMutexWait, WakesInTime, IsCaller, IsConsistent, IsSound, IsWaitOf}
+use Rattle.bench_model.specs.Sound.{IsStamped, IsWait, IsEventWait, WakesInTime, IsCaller, IsConsistent, IsSound, IsWaitOf}
 use Rattle.bench_model.specs.Start.{start, start_seen}
 use Rattle.bench_model.specs.Session.{step_of}
 use Rattle.bench_model.specs.Equal.{Same}
@@ -94,7 +94,7 @@ PickSimulates =
 
 abbrev pub DelaySimulates : Type 0
 DelaySimulates =
-    (control : Control) (stamps : Stamps) (task : ℕ) (ticks : Option ℕ) (wait : Option MutexWait)
+    (control : Control) (stamps : Stamps) (task : ℕ) (ticks : Option ℕ) (wait : Option EventWait)
     → IsStamped stamps → task < length stamps.rows → is_ready task stamps ≡ true →
     lists_of control (delay task ticks wait stamps)
     ≡ seen.delay task ticks wait (lists_of control stamps)
@@ -123,7 +123,7 @@ SwitchSimulates =
 
 abbrev pub BlockSimulates : Type 0
 BlockSimulates =
-    (table : Table) (core task : ℕ) (call : Unfinished) (ticks : Option ℕ) (wait : Option MutexWait)
+    (table : Table) (core task : ℕ) (call : Unfinished) (ticks : Option ℕ) (wait : Option EventWait)
     → IsConsistent table → IsCaller table core task →
     view_of (blocked stamp_queues core task call ticks wait table)
     ≡ blocked list_queues core task call ticks wait (view_of table)
@@ -131,9 +131,9 @@ BlockSimulates =
 -- a user task that a call blocks leaves a consistent table consistent
 abbrev pub BlockKeepsConsistent : Type 0
 BlockKeepsConsistent =
-    (table : Table) (core task : ℕ) (call : Unfinished) (ticks : Option ℕ) (wait : Option MutexWait)
+    (table : Table) (core task : ℕ) (call : Unfinished) (ticks : Option ℕ) (wait : Option EventWait)
     → IsConsistent table → IsCaller table core task →
     IsCheckedUnfinished table.settings call → table.settings.cores ≤ task → IsWait ticks
-    → IfSome wait (IsMutexWait table.settings) →
-    IsWaitOf call ticks wait
+    → IfSome wait (IsEventWait table.settings) →
+    IsWaitOf table.settings call ticks wait
     → IsConsistent (blocked stamp_queues core task call ticks wait table)

@@ -91,6 +91,7 @@ alike_later table = let tick = table.orders.tick in record {
   calls = refl;
   notes = refl;
   holders = refl;
+  queues = refl;
   hold = refl;
   ticks = omega arith;
   ready = λ i low. ready_so (row_at table.orders i).standing ∙ sym (ap (λ (r : TaskRow). stands_ready r.standing) (row_so table i));
@@ -98,7 +99,7 @@ alike_later table = let tick = table.orders.tick in record {
       (row_so table i));
   waits = λ i low. refl;
   values = refl;
-  wait_order = λ mutex i j low below both. refl;
+  wait_order = λ list i j low below both. refl;
   deadlines = λ i low. left_so tick (deadline_at table.orders i) ∙ sym (ap (option_map (λ end. end - (tick + 2 ^ 32)))
       (get_or-map (option_map (λ end. end + 2 ^ 32)) table.orders.deadlines i None));
   ready_order = came_so InOneReadyList table;

@@ -3,7 +3,7 @@ use Rattle.std.specs.Prelude.{◌≡◌, ℕ, ◌+◌, ◌*◌, ◌^◌, List, B
 use Rattle.bench_types.specs.declared.header.Header.{Header}
 use Rattle.bench_types.specs.declared.header.TaskArgs.{TaskArgs}
 use Rattle.bench_types.specs.declared.kernel_data.Delayed.{Delayed}
-use Rattle.bench_types.specs.declared.kernel_data.MutexWait.{MutexWait}
+use Rattle.bench_types.specs.declared.kernel_data.EventWait.{EventWait}
 use Rattle.bench_types.specs.declared.reply.Reply.{Reply}
 use Rattle.bench_types.specs.declared.reply.Reply.TheVariants.{Done, Refused}
 use Rattle.bench_types.specs.declared.reply.Reply.TheVariants as reply
@@ -177,7 +177,7 @@ turned table =
     record table { orders = record table.orders { waiters = reverse table.orders.waiters } }
 
 -- the tasks 3 and 4, of one priority, wait in turn
-abbrev pub both_wait : Option ℕ → Option MutexWait → Table
+abbrev pub both_wait : Option ℕ → Option EventWait → Table
 both_wait ticks wait =
     let table = start three_tasks in
     record table { orders = delay 4 ticks wait (delay 3 ticks wait table.orders) }
@@ -188,5 +188,5 @@ pub record AlikeTables : Type 0 where
   pub other_delay_order :
       ¬ SamePairwise (both_wait (Some 1) None) (exchanged 3 4 (both_wait (Some 1) None))
   pub other_queue_order :
-      let table = both_wait None (Some (record { mutex = 0; priority = 1 })) in
+      let table = both_wait None (Some (record { list = 0; priority = 1 })) in
       ¬ SamePairwise table (turned table)

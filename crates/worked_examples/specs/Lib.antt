@@ -4,6 +4,7 @@ pub mod HoldExamples
 pub mod MeetingExamples
 pub mod MutexExamples
 pub mod NoteExamples
+pub mod QueueExamples
 pub mod SeekExamples
 pub mod SetExamples
 pub mod SettledExamples

@@ -58,11 +58,11 @@ abbrev pub waiters_raised : Option (List QueueArgs) → List Waiter
 waiters_raised queues =
     let orders = (start (record low_and_high { queues = queues })).orders in
     let raised =
-    set_list_value 2 3 (delay 2 None (Some (record { mutex = 0; priority = 1 })) orders) in
-    (delay 3 None (Some (record { mutex = 0; priority = 2 })) raised).waiters
+    set_list_value 2 3 (delay 2 None (Some (record { list = 0; priority = 1 })) orders) in
+    (delay 3 None (Some (record { list = 0; priority = 2 })) raised).waiters
 
 abbrev pub waiter : ℕ → ℕ → Waiter
-waiter task priority = record { task = task; wait = record { mutex = 0; priority = priority } }
+waiter task priority = record { task = task; wait = record { list = 0; priority = priority } }
 
 pub record WorkedMutexes : Type 0 where
   -- with list values the raised waiter stays in front
@@ -77,7 +77,7 @@ pub record WorkedMutexes : Type 0 where
   pub inherits_again : low_in_use stolen ≡ 3
   pub same_deadline : ticks_left 3 (state_after (start low_and_high) stolen).orders ≡ Some 4
   pub waits :
-      waiters_after contended ≡ record { task = 3; wait = record { mutex = 0; priority = 3 } } ∷ []
+      waiters_after contended ≡ record { task = 3; wait = record { list = 0; priority = 3 } } ∷ []
   pub waits_no_more : waiters_after (take 4 stolen) ≡ []
   pub keeps_what_it_inherited : low_in_use (both_held ++ Call 1 2 (MutexGive 0) ∷ []) ≡ 3
   pub asks_nobody :

@@ -8,6 +8,7 @@ ghost use Rattle.worked_examples.specs.HoldExamples.{WorkedHolds, WorkedUntils};
 ghost use Rattle.worked_examples.specs.MeetingExamples.{WorkedOpenings, WorkedMeetings, WorkedCheckpoints};
 ghost use Rattle.worked_examples.specs.MutexExamples.{WorkedMutexes};
 ghost use Rattle.worked_examples.specs.NoteExamples.{WorkedNotes, WorkedWaits, WorkedTakes, WorkedClears, WorkedNotifies, WorkedCalls, WorkedIndexes};
+ghost use Rattle.worked_examples.specs.QueueExamples.{WorkedQueues};
 ghost use Rattle.worked_examples.specs.SeekExamples.{AskedCores, SoughtCores, WorkedChoices};
 ghost use Rattle.worked_examples.specs.SetExamples.{WorkedPriorities, WorkedMasks, WorkedPreemption};
 ghost use Rattle.worked_examples.specs.SettledExamples.{WorkedQuietWork};
@@ -85,6 +86,12 @@ pub fn examples_of_notifications()
 pub fn examples_of_mutexes()
     // The definitions give the worked sessions of two tasks and two mutexes.
     ensures { WorkedMutexes }
+{}
+
+/// Queues: what a call, an interrupt and the end of a wait answer.
+pub fn examples_of_queues()
+    // The definitions give the worked sessions of two tasks and one queue.
+    ensures { WorkedQueues }
 {}
 
 /// Holds, and delays until a tick count.

@@ -2,7 +2,8 @@ use Rattle.order_laws.proofs.FirstWaiters.{first_waiter_seen}
 use Rattle.order_laws.proofs.Served.{first_is_served}
 use Rattle.bench_model.specs.Table.{first_waiter}
 use Rattle.order_laws.proofs.SeenMoves.{deadline_left_seen, forget_deadline_seen}
-use Rattle.rule_laws.proofs.Mutexes.{inherited_seen, inherited_sound, take_seen, take_sound, finished_seen, finished_sound, give_seen, give_sound}
+use Rattle.rule_laws.proofs.Mutexes.{inherited_seen, inherited_sound, take_seen, take_sound, give_seen, give_sound}
+use Rattle.rule_laws.proofs.Finishes.{finished_seen, finished_sound}
 use Rattle.rule_laws.proofs.Mutexes.{after_disinherit_seen, after_disinherit_sound}
 use Rattle.std.proofs.Common.{cond, ap, ◌∙◌, arith}
 use Rattle.std.specs.Prelude.{is_some}

@@ -8,7 +8,7 @@ use Rattle.std.proofs.lemmas.Bool.{cases_eq}
 use Rattle.std.proofs.lemmas.Bool.Decides.{nat_tests}
 use Rattle.std.proofs.lemmas.List.{append-nil, map-append}
 use Rattle.std.proofs.lemmas.List.Elements.{filter-append}
-use Rattle.bench_types.specs.declared.kernel_data.MutexWait.{MutexWait}
+use Rattle.bench_types.specs.declared.kernel_data.EventWait.{EventWait}
 use Rattle.bench_types.specs.declared.kernel_data.Waiter.{Waiter}
 use Rattle.list_orders.specs.Search.{inserted}
 use Rattle.list_orders.proofs.Filters.{filter_all, filter_none, filter-map, find_filter, list_any-map, All-append, All-map, All-weaker, All_each}
@@ -24,7 +24,7 @@ abbrev pub row_at : List (List Listed) → ℕ → List Listed
 row_at rows m = get_or rows m []
 
 abbrev waits_for : ℕ → Waiter → Bool
-waits_for m waiter = eqb waiter.wait.mutex m
+waits_for m waiter = eqb waiter.wait.list m
 
 abbrev is_key : ℕ → Listed → Type 0
 is_key n entry = (0 < entry.key) × (entry.key ≤ n)
@@ -50,46 +50,46 @@ inserted_right : (x : Waiter) (xs ys : List Waiter) → AllByRecursion (λ y. wa
 inserted_right x [] ys ahead = refl
 inserted_right x (z ∷ zs) ys ahead = inserted_behind waits_first x z (zs ++ ys) ahead.0 ∙ ap (λ ws. z ∷ ws) (inserted_right x zs ys ahead.1)
 
--- ---- lists of waiters, the first that of mutex m
+-- ---- event lists, the first of which is list m
 module _ (n : ℕ) where
-  one_mutex : (m : ℕ) (row : List Listed) → AllByRecursion (λ (w : Waiter). w.wait.mutex ≡ m) (map (waiter_at n m) row)
-  one_mutex m row = All-map (λ (w : Waiter). w.wait.mutex ≡ m) (waiter_at n m) row (All_each (λ e. (waiter_at n m e).wait.mutex ≡ m) (λ e. refl) row)
+  one_list : (m : ℕ) (row : List Listed) → AllByRecursion (λ (w : Waiter). w.wait.list ≡ m) (map (waiter_at n m) row)
+  one_list m row = All-map (λ (w : Waiter). w.wait.list ≡ m) (waiter_at n m) row (All_each (λ e. (waiter_at n m e).wait.list ≡ m) (λ e. refl) row)
 
-  from_mutex : (m : ℕ) (rows : List (List Listed)) → AllByRecursion (λ (w : Waiter). m ≤ w.wait.mutex) (waiters_from n m rows)
-  from_mutex m [] = tt
-  from_mutex m (row ∷ rows) =
-      All-append (λ (w : Waiter). m ≤ w.wait.mutex) (map (waiter_at n m) row) (waiters_from n (m + 1) rows)
-      (All-weaker (λ (w : Waiter). w.wait.mutex ≡ m) (λ (w : Waiter). m ≤ w.wait.mutex) (λ w is. omega (arith, is)) (map (waiter_at n m) row) (one_mutex m row))
-      (All-weaker (λ (w : Waiter). m + 1 ≤ w.wait.mutex) (λ (w : Waiter). m ≤ w.wait.mutex) (λ w low. omega (arith, low)) (waiters_from n (m + 1) rows)
-      (from_mutex (m + 1) rows))
+  from_list : (m : ℕ) (rows : List (List Listed)) → AllByRecursion (λ (w : Waiter). m ≤ w.wait.list) (waiters_from n m rows)
+  from_list m [] = tt
+  from_list m (row ∷ rows) =
+      All-append (λ (w : Waiter). m ≤ w.wait.list) (map (waiter_at n m) row) (waiters_from n (m + 1) rows)
+      (All-weaker (λ (w : Waiter). w.wait.list ≡ m) (λ (w : Waiter). m ≤ w.wait.list) (λ w is. omega (arith, is)) (map (waiter_at n m) row) (one_list m row))
+      (All-weaker (λ (w : Waiter). m + 1 ≤ w.wait.list) (λ (w : Waiter). m ≤ w.wait.list) (λ w low. omega (arith, low)) (waiters_from n (m + 1) rows)
+      (from_list (m + 1) rows))
 
-  -- those of a mutex are those of its list
-  pub of_mutex : (m k : ℕ) (rows : List (List Listed)) → filter (waits_for (m + k)) (waiters_from n m rows) ≡ map (waiter_at n (m + k)) (row_at rows k)
-  of_mutex m zero [] = refl
-  of_mutex m (suc k) [] = refl
-  of_mutex m zero (row ∷ rows) =
+  -- the waiters in a list are those that stand in it
+  pub of_list_from : (m k : ℕ) (rows : List (List Listed)) → filter (waits_for (m + k)) (waiters_from n m rows) ≡ map (waiter_at n (m + k)) (row_at rows k)
+  of_list_from m zero [] = refl
+  of_list_from m (suc k) [] = refl
+  of_list_from m zero (row ∷ rows) =
       let none : m + 0 ≡ m = omega arith in
       let here = map (waiter_at n m) row in
       let rest = waiters_from n (m + 1) rows in
       ap (λ j. filter (waits_for j) (here ++ rest)) none
       ∙ filter-append (waits_for m) here rest
       ∙ ap (λ ws. ws ++ filter (waits_for m) rest) (filter_all (waits_for m) here
-      (All-weaker (λ (w : Waiter). w.wait.mutex ≡ m) (λ w. waits_for m w ≡ true) (λ w is. grind (arith, nat_tests, is)) here (one_mutex m row)))
-      ∙ ap (λ ws. here ++ ws) (filter_none (waits_for m) rest (All-weaker (λ (w : Waiter). m + 1 ≤ w.wait.mutex) (λ w. waits_for m w ≡ false)
-      (λ w low. grind (arith, nat_tests, low)) rest (from_mutex (m + 1) rows)))
+      (All-weaker (λ (w : Waiter). w.wait.list ≡ m) (λ w. waits_for m w ≡ true) (λ w is. grind (arith, nat_tests, is)) here (one_list m row)))
+      ∙ ap (λ ws. here ++ ws) (filter_none (waits_for m) rest (All-weaker (λ (w : Waiter). m + 1 ≤ w.wait.list) (λ w. waits_for m w ≡ false)
+      (λ w low. grind (arith, nat_tests, low)) rest (from_list (m + 1) rows)))
       ∙ append-nil here ∙ ap (λ j. map (waiter_at n j) row) (sym none)
-  of_mutex m (suc k) (row ∷ rows) =
+  of_list_from m (suc k) (row ∷ rows) =
       let here = map (waiter_at n m) row in
       let rest = waiters_from n (m + 1) rows in
       filter-append (waits_for (m + suc k)) here rest
       ∙ ap (λ ws. ws ++ filter (waits_for (m + suc k)) rest) (filter_none (waits_for (m + suc k)) here
-      (All-weaker (λ (w : Waiter). w.wait.mutex ≡ m) (λ w. waits_for (m + suc k) w ≡ false) (λ w is. grind (arith, nat_tests, is)) here (one_mutex m row)))
+      (All-weaker (λ (w : Waiter). w.wait.list ≡ m) (λ w. waits_for (m + suc k) w ≡ false) (λ w is. grind (arith, nat_tests, is)) here (one_list m row)))
       ∙ ap (λ j. filter (waits_for j) rest) (sym (next_of_sum m k))
-      ∙ of_mutex (m + 1) k rows
+      ∙ of_list_from (m + 1) k rows
       ∙ ap (λ j. map (waiter_at n j) (row_at rows k)) (next_of_sum m k)
 
   pub of_list : (k : ℕ) (rows : List (List Listed)) → filter (waits_for k) (waiters_from n 0 rows) ≡ map (waiter_at n k) (row_at rows k)
-  of_list k rows = ap (λ j. filter (waits_for j) (waiters_from n 0 rows)) (sym (zero-add k)) ∙ of_mutex 0 k rows ∙ ap (λ j. map (waiter_at n j) (row_at rows k))
+  of_list k rows = ap (λ j. filter (waits_for j) (waiters_from n 0 rows)) (sym (zero-add k)) ∙ of_list_from 0 k rows ∙ ap (λ j. map (waiter_at n j) (row_at rows k))
       (zero-add k)
 
   tasks_in : (m : ℕ) (row : List Listed) → map (λ (w : Waiter). w.task) (map (waiter_at n m) row) ≡ items_of row
@@ -99,7 +99,7 @@ module _ (n : ℕ) where
   pub list_tasks : (k : ℕ) (rows : List (List Listed)) → items_of (row_at rows k) ≡ tasks_for k (waiters_from n 0 rows)
   list_tasks k rows = sym (tasks_in k (row_at rows k)) ∙ ap (map (λ (w : Waiter). w.task)) (sym (of_list k rows))
 
-  -- the first of a mutex is the first of its list
+  -- the first that waits in a list is the first that stands in it
   pub first_waiting : (k : ℕ) (rows : List (List Listed)) → first_of k (waiters_from n 0 rows) ≡ find (λ _. true) (map (waiter_at n k) (row_at rows k))
   first_waiting k rows = find_filter (waits_for k) (waiters_from n 0 rows) ∙ ap (find (λ _. true)) (of_list k rows)
 
@@ -146,8 +146,8 @@ module _ (n : ℕ) where
       let rest = waiters_from n (m + 1) rows in
       let w = waiter_at n m x in
       ap (λ ws. ws ++ rest) (map-inserted m x row here all)
-      ∙ sym (inserted_left w (map (waiter_at n m) row) rest (All-weaker (λ (y : Waiter). m + 1 ≤ y.wait.mutex) (λ y. waits_first y w ≡ false)
-      (λ y above. grind (arith, nat_tests, above)) rest (from_mutex (m + 1) rows)))
+      ∙ sym (inserted_left w (map (waiter_at n m) row) rest (All-weaker (λ (y : Waiter). m + 1 ≤ y.wait.list) (λ y. waits_first y w ≡ false)
+      (λ y above. grind (arith, nat_tests, above)) rest (from_list (m + 1) rows)))
       ∙ ap (λ j. inserted waits_first (waiter_at n j x) (map (waiter_at n m) row ++ rest)) (sym none)
   waiters_with m (suc k) x (row ∷ rows) low here all =
       let here_row = map (waiter_at n m) row in
@@ -155,8 +155,8 @@ module _ (n : ℕ) where
       let w = waiter_at n (m + suc k) x in
       ap (λ ws. here_row ++ ws) (waiters_with (m + 1) k x rows (omega (arith, low)) here all)
       ∙ ap (λ j. here_row ++ inserted waits_first (waiter_at n j x) rest) (next_of_sum m k)
-      ∙ sym (inserted_right w here_row rest (All-weaker (λ (y : Waiter). y.wait.mutex ≡ m) (λ y. waits_first y w ≡ true) (λ y is. grind (arith, nat_tests, is))
-      here_row (one_mutex m row)))
+      ∙ sym (inserted_right w here_row rest (All-weaker (λ (y : Waiter). y.wait.list ≡ m) (λ y. waits_first y w ≡ true) (λ y is. grind (arith, nat_tests, is))
+      here_row (one_list m row)))
 
   -- ---- a waiter gets another list value
   row_valued : (t value m : ℕ) (row : List Listed) → value < n → map (waiter_at n m) (map (keyed t (n - value)) row) ≡ map (with_value t value)
@@ -165,9 +165,9 @@ module _ (n : ℕ) where
   row_valued t value m (e ∷ row) low = cc (at (eqb e.item t), row_valued t value m row low)
     where
       at : (b : Bool) → waiter_at n m (cond b (record e { key = n - value }) e) ≡ cond b
-          (record { task = e.item; wait = record { mutex = m; priority = value } }) (waiter_at n m e)
+          (record { task = e.item; wait = record { list = m; priority = value } }) (waiter_at n m e)
       at true = let back : n - (n - value) ≡ value = omega (arith, low) in
-          ap (λ p. record { task = e.item; wait = record { mutex = m; priority = p } }) back
+          ap (λ p. record { task = e.item; wait = record { list = m; priority = p } }) back
       at false = refl
 
   pub waiters_valued : (t value m : ℕ) (rows : List (List Listed)) → value < n → waiters_from n m (map (map (keyed t (n - value))) rows) ≡ map
@@ -178,21 +178,21 @@ module _ (n : ℕ) where
       ∙ ap (λ ws. map (with_value t value) (map (waiter_at n m) row) ++ ws) (waiters_valued t value (m + 1) rows low)
       ∙ sym (map-append (with_value t value) (map (waiter_at n m) row) (waiters_from n (m + 1) rows))
 
-  -- ---- the mutex that a task waits for
+  -- ---- the list that a task waits in
   wait_later : (t : ℕ) (xs ys : List Waiter) → list_any (λ (w : Waiter). eqb w.task t) xs ≡ false → wait_of t (xs ++ ys) ≡ wait_of t ys
   wait_later t [] ys away = refl
   wait_later t (x ∷ xs) ys away = grind (arith, away, wait_later t xs ys)
 
-  abbrev mutex_of : MutexWait → ℕ
-  mutex_of wait = wait.mutex
+  abbrev list_of_wait : EventWait → ℕ
+  list_of_wait wait = wait.list
 
-  wait_here : (t m : ℕ) (row : List Listed) (ys : List Waiter) → has_item t row ≡ true → option_map mutex_of (wait_of t (map (waiter_at n m) row ++ ys)) ≡ Some
+  wait_here : (t m : ℕ) (row : List Listed) (ys : List Waiter) → has_item t row ≡ true → option_map list_of_wait (wait_of t (map (waiter_at n m) row ++ ys)) ≡ Some
       m
   wait_here t m [] ys here = absurd (cc (here))
   wait_here t m (e ∷ row) ys here = at (eqb e.item t) refl (wait_here t m row ys)
     where
-      at : (b : Bool) → eqb e.item t ≡ b → (has_item t row ≡ true → option_map mutex_of (wait_of t (map (waiter_at n m) row ++ ys)) ≡ Some m) → option_map
-          mutex_of (option_map (λ (w : Waiter). w.wait) (cond b (Some (waiter_at n m e)) (find (λ (w : Waiter). eqb w.task t) (map (waiter_at n m) row ++ ys))))
+      at : (b : Bool) → eqb e.item t ≡ b → (has_item t row ≡ true → option_map list_of_wait (wait_of t (map (waiter_at n m) row ++ ys)) ≡ Some m) → option_map
+          list_of_wait (option_map (λ (w : Waiter). w.wait) (cond b (Some (waiter_at n m e)) (find (λ (w : Waiter). eqb w.task t) (map (waiter_at n m) row ++ ys))))
           ≡ Some m
       at true is rest = refl
       at false is rest = rest (grind (arith, here, is))
@@ -200,7 +200,7 @@ module _ (n : ℕ) where
   abbrev place_in : ℕ → ℕ → List (List Listed) → Option ℕ
   place_in t m rows = cond (ltb (position_or_len (has_item t) rows) (length rows)) (Some (m + position_or_len (has_item t) rows)) None
 
-  waits_at : (t m : ℕ) (rows : List (List Listed)) → option_map mutex_of (wait_of t (waiters_from n m rows)) ≡ place_in t m rows
+  waits_at : (t m : ℕ) (rows : List (List Listed)) → option_map list_of_wait (wait_of t (waiters_from n m rows)) ≡ place_in t m rows
   waits_at t m [] = refl
   waits_at t m (row ∷ rows) = at (has_item t row) refl (waits_at t (m + 1) rows)
     where
@@ -210,7 +210,7 @@ module _ (n : ℕ) where
       pol : ℕ
       pol = position_or_len (has_item t) rows
 
-      at : (b : Bool) → has_item t row ≡ b → option_map mutex_of (wait_of t rest) ≡ place_in t (m + 1) rows → option_map mutex_of
+      at : (b : Bool) → has_item t row ≡ b → option_map list_of_wait (wait_of t rest) ≡ place_in t (m + 1) rows → option_map list_of_wait
           (wait_of t (map (waiter_at n m) row ++ rest)) ≡ cond (ltb (cond (not b) (1 + pol) 0) (suc (length rows))) (Some (m + cond (not b) (1 + pol) 0)) None
       at true here later =
           let within : ltb 0 (suc (length rows)) ≡ true = grind (arith, nat_tests) in
@@ -219,12 +219,12 @@ module _ (n : ℕ) where
       at false away later =
           let shift : (m + 1) + pol ≡ m + (1 + pol) = omega arith in
           let alike : ltb pol (length rows) ≡ ltb (1 + pol) (suc (length rows)) = grind (arith, nat_tests) in
-          ap (option_map mutex_of) (wait_later t (map (waiter_at n m) row) rest (list_any-map (λ (w : Waiter). eqb w.task t) (waiter_at n m) row ∙ away))
+          ap (option_map list_of_wait) (wait_later t (map (waiter_at n m) row) rest (list_any-map (λ (w : Waiter). eqb w.task t) (waiter_at n m) row ∙ away))
           ∙ later
           ∙ ap (λ j. cond (ltb pol (length rows)) (Some j) None) shift
           ∙ ap (λ b. cond b (Some (m + (1 + pol))) None) alike
 
-  pub waits_in : (t : ℕ) (view : ListsView) → option_map mutex_of (wait_of t (waiters_from n 0 view.lists)) ≡ list_of t view
+  pub waits_in : (t : ℕ) (view : ListsView) → option_map list_of_wait (wait_of t (waiters_from n 0 view.lists)) ≡ list_of t view
   waits_in t view =
       let pol = position_or_len (has_item t) view.lists in
       waits_at t 0 view.lists ∙ ap (λ j. cond (ltb pol (length view.lists)) (Some j) None) (zero-add pol)

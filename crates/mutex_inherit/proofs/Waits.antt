@@ -1,4 +1,4 @@
--- What the fields of the mutexes show.
+-- What the fields of the mutexes and of the event lists show.
 use Rattle.std.proofs.Common.{◌≡◌, ◌≢◌, ℕ, ◌-◌, ◌<◌, ◌≤◌, ◌^◌, Bool, true, false, cond, eqb, ltb, List, [], ◌∷◌, map, set, replicate, length, Option, Some, None}
 use Rattle.std.proofs.Common.{option_map, refl, sym, ap}
 use Rattle.std.specs.Prelude.{All}
@@ -9,7 +9,7 @@ use Rattle.std.specs.List.{filter, find}
 use Rattle.std.proofs.lemmas.List.{length-replicate, ext_get_or}
 use Rattle.std.proofs.lemmas.List.Elements.{All-replicate}
 use Rattle.std.proofs.lemmas.Option.{same_Some}
-use Rattle.bench_types.specs.declared.kernel_data.MutexWait.{MutexWait}
+use Rattle.bench_types.specs.declared.kernel_data.EventWait.{EventWait}
 use Rattle.bench_types.specs.declared.kernel_data.Waiter.{Waiter}
 use Rattle.list_orders.specs.Search.{inserted}
 use Rattle.index_lists.specs.Listed.{Listed, ListsView, empty_lists, with_list, items_of, list_of, key_of, without_item, keyed, lowest_first, first_of as first_item}
@@ -22,17 +22,18 @@ use Rattle.mutex_inherit.specs.Shape.{AreKeys, AreWaiters, IsMutexShape}
 use Rattle.mutex_inherit.proofs.Rows.{row_at, no_waiters, waiters_none, of_list, list_tasks, first_waiting, waiters_without, waiters_with, waiters_valued, waits_in, same_row}
 use Rattle.mutex_inherit.proofs.Rows.{same_rows, first_key}
 
-abbrev part_of : ℕ → ℕ → List (Option ℕ) → List ℕ → List Waiter → MutexPart
-part_of tasks priorities holders values waiters = record {
+abbrev part_of : ℕ → ℕ → ℕ → List (Option ℕ) → List ℕ → List Waiter → MutexPart
+part_of tasks priorities lists holders values waiters = record {
   tasks = tasks;
   priorities = priorities;
+  lists = lists;
   holders = holders;
   waiters = waiters;
   values = values;
 }
 
 abbrev waiter_from : ℕ → ℕ → ℕ → Waiter
-waiter_from task mutex priority = record { task = task; wait = record { mutex = mutex; priority = priority } }
+waiter_from task list priority = record { task = task; wait = record { list = list; priority = priority } }
 
 abbrev the_none : Option ℕ
 the_none = None
@@ -41,61 +42,62 @@ abbrev the_row : List Listed
 the_row = []
 
 -- the start
-pub free_shape : (tasks priorities mutexes : ℕ) (values : List ℕ) → mutexes < 2 ^ 32 → All (λ value. value < priorities) values → IsMutexShape tasks priorities
-    (replicate mutexes None) values (empty_lists tasks mutexes)
-free_shape tasks priorities mutexes values few below = record {
-  few_mutexes = omega (arith, length-replicate mutexes (the_none), few);
+pub free_shape : (tasks priorities mutexes lists : ℕ) (values : List ℕ) → lists < 2 ^ 32 → mutexes ≤ lists → All (λ value. value < priorities) values → IsMutexShape
+    tasks priorities lists (replicate mutexes None) values (empty_lists tasks lists)
+free_shape tasks priorities mutexes lists values few own below = record {
+  few_lists = few;
+  of_mutexes = omega (arith, length-replicate mutexes (the_none), own);
   held_by_tasks = All-replicate (λ holder. ForSome holder (λ task. task < tasks)) mutexes None (λ task is. absurd (cc (is)));
   items = refl;
-  each = length-replicate mutexes the_row ∙ sym (length-replicate mutexes the_none);
-  waiting = waiters_none priorities mutexes;
+  each = length-replicate lists the_row;
+  waiting = waiters_none priorities lists;
   list_values = below;
 }
 
-pub seen_free_mutexes : (tasks priorities mutexes : ℕ) (values : List ℕ) → seen_mutexes tasks priorities (replicate mutexes None) values
-    (empty_lists tasks mutexes) ≡ free_mutexes tasks priorities mutexes values
-seen_free_mutexes tasks priorities mutexes values = ap (part_of tasks priorities (replicate mutexes None) values) (no_waiters priorities 0 mutexes)
+pub seen_free_mutexes : (tasks priorities mutexes lists : ℕ) (values : List ℕ) → seen_mutexes tasks priorities lists (replicate mutexes None) values
+    (empty_lists tasks lists) ≡ free_mutexes tasks priorities mutexes lists values
+seen_free_mutexes tasks priorities mutexes lists values = ap (part_of tasks priorities lists (replicate mutexes None) values) (no_waiters priorities 0 lists)
 
 -- ---- fields that show a part
-module _ (t n : ℕ) (hs : List (Option ℕ)) (vs : List ℕ) (view : ListsView) (part : MutexPart) (is : seen_mutexes t n hs vs view ≡ part) where
+module _ (t n l : ℕ) (hs : List (Option ℕ)) (vs : List ℕ) (view : ListsView) (part : MutexPart) (is : seen_mutexes t n l hs vs view ≡ part) where
   pub tasks_seen : (m : ℕ) → items_of (row_at view.lists m) ≡ tasks_for m part.waiters
   tasks_seen m = list_tasks n m view.lists ∙ ap (λ (p : MutexPart). tasks_for m p.waiters) is
 
-  pub mutex_seen : (task : ℕ) → list_of task view ≡ option_map (λ (wait : MutexWait). wait.mutex) (wait_of task part.waiters)
-  mutex_seen task = sym (waits_in n task view) ∙ ap (λ (p : MutexPart). option_map (λ (wait : MutexWait). wait.mutex) (wait_of task p.waiters)) is
+  pub list_seen : (task : ℕ) → list_of task view ≡ option_map (λ (wait : EventWait). wait.list) (wait_of task part.waiters)
+  list_seen task = sym (waits_in n task view) ∙ ap (λ (p : MutexPart). option_map (λ (wait : EventWait). wait.list) (wait_of task p.waiters)) is
 
   pub free_seen : (task : ℕ) → wait_of task part.waiters ≡ None → list_of task view ≡ None
-  free_seen task free = mutex_seen task ∙ ap (option_map (λ (wait : MutexWait). wait.mutex)) free
+  free_seen task free = list_seen task ∙ ap (option_map (λ (wait : EventWait). wait.list)) free
 
   -- a waiter leaves, and one comes
-  pub seen_leave : (task : ℕ) → seen_mutexes t n hs vs (record view { lists = map (without_item task) view.lists }) ≡ record part
+  pub seen_leave : (task : ℕ) → seen_mutexes t n l hs vs (record view { lists = map (without_item task) view.lists }) ≡ record part
       { waiters = without_waiter task part.waiters }
   seen_leave task =
-      ap (λ (ws : List Waiter). part_of t n hs vs ws) (waiters_without n task 0 view.lists)
+      ap (λ (ws : List Waiter). part_of t n l hs vs ws) (waiters_without n task 0 view.lists)
       ∙ ap (λ (p : MutexPart). record p { waiters = without_waiter task p.waiters }) is
 
-  pub seen_enter : (task m priority : ℕ) → m < length view.lists → priority < n → AreWaiters n view.lists → seen_mutexes t n hs vs
+  pub seen_enter : (task m priority : ℕ) → m < length view.lists → priority < n → AreWaiters n view.lists → seen_mutexes t n l hs vs
       (with_list m (inserted lowest_first (record { item = task; key = n - priority }) (row_at view.lists m)) view) ≡ record part
-      { waiters = with_waiter (record { task = task; wait = record { mutex = m; priority = priority } }) part.waiters }
+      { waiters = with_waiter (record { task = task; wait = record { list = m; priority = priority } }) part.waiters }
   seen_enter task m priority low below waiting =
       let x : Listed = record { item = task; key = n - priority } in
       let back : n - (n - priority) ≡ priority = omega (arith, below) in
-      ap (λ (ws : List Waiter). part_of t n hs vs ws) (waiters_with n 0 m x view.lists low (omega (arith, below), omega arith) (waiting m))
-      ∙ ap (λ (j : ℕ). part_of t n hs vs (with_waiter (record { task = task; wait = record { mutex = j; priority = n - (n - priority) } })
+      ap (λ (ws : List Waiter). part_of t n l hs vs ws) (waiters_with n 0 m x view.lists low (omega (arith, below), omega arith) (waiting m))
+      ∙ ap (λ (j : ℕ). part_of t n l hs vs (with_waiter (record { task = task; wait = record { list = j; priority = n - (n - priority) } })
       (waiters_from n 0 view.lists))) (zero-add m)
-      ∙ ap (λ (j : ℕ). part_of t n hs vs (with_waiter (record { task = task; wait = record { mutex = m; priority = j } }) (waiters_from n 0 view.lists))) back
-      ∙ ap (λ (p : MutexPart). record p { waiters = with_waiter (record { task = task; wait = record { mutex = m; priority = priority } }) p.waiters }) is
+      ∙ ap (λ (j : ℕ). part_of t n l hs vs (with_waiter (record { task = task; wait = record { list = m; priority = j } }) (waiters_from n 0 view.lists))) back
+      ∙ ap (λ (p : MutexPart). record p { waiters = with_waiter (record { task = task; wait = record { list = m; priority = priority } }) p.waiters }) is
 
   -- a task gets another list value
-  pub seen_valued : (task value : ℕ) → value < n → task < length vs → seen_mutexes t n hs (set vs task value)
+  pub seen_valued : (task value : ℕ) → value < n → task < length vs → seen_mutexes t n l hs (set vs task value)
       (record view { lists = map (map (keyed task (n - value))) view.lists }) ≡ valued task value part
   seen_valued task value below low =
       let valid : ltb task (length vs) ≡ true = grind (arith, nat_tests, low) in
-      ap (part_of t n hs (set vs task value)) (waiters_valued n task value 0 view.lists below)
-      ∙ ap (λ b. part_of t n hs (set vs task value) (cond b (map (with_value task value) (waiters_from n 0 view.lists)) (waiters_from n 0 view.lists))) (sym valid)
+      ap (part_of t n l hs (set vs task value)) (waiters_valued n task value 0 view.lists below)
+      ∙ ap (λ b. part_of t n l hs (set vs task value) (cond b (map (with_value task value) (waiters_from n 0 view.lists)) (waiters_from n 0 view.lists))) (sym valid)
       ∙ ap (valued task value) is
 
-  -- the first of a mutex
+  -- the first of a list
   heads : (m : ℕ) (row : List Listed) → first_item row ≡ option_map (λ (w : Waiter). w.task) (find (λ _. true) (map (waiter_at n m) row))
   heads m [] = refl
   heads m (e ∷ row) = refl
@@ -147,7 +149,7 @@ module _ (t n : ℕ) (hs : List (Option ℕ)) (vs : List ℕ) (view : ListsView)
     pub has_key : key_of task view ≢ None
     has_key none = absurd (cc (sym the_key.1.2 ∙ none))
 
--- ---- a waiter that gets another list value is one still, for the same mutex
+-- ---- a waiter that gets another list value is one still, in the same list
 free_valued : (i task value : ℕ) (ws : List Waiter) → wait_of i ws ≡ None → wait_of i (map (with_value task value) ws) ≡ None
 free_valued i task value [] free = refl
 free_valued i task value (w ∷ ws) free = at (eqb w.task i) (eqb w.task task) refl free (free_valued i task value ws)
@@ -176,9 +178,9 @@ free_later i holder priority control part free = at (ltb (task_at control holder
     at false c = free
 
 -- ---- two of them
-module _ (t n : ℕ) (hs : List (Option ℕ)) (vs : List ℕ) (view : ListsView) (part : MutexPart) (is : seen_mutexes t n hs vs view ≡ part) (u o : ℕ)
-    (gs : List (Option ℕ)) (us : List ℕ) (view' : ListsView) (part' : MutexPart) (is' : seen_mutexes u o gs us view' ≡ part')
-    (shape : IsMutexShape t n hs vs view) (shape' : IsMutexShape u o gs us view')
+module _ (t n l : ℕ) (hs : List (Option ℕ)) (vs : List ℕ) (view : ListsView) (part : MutexPart) (is : seen_mutexes t n l hs vs view ≡ part) (u o j : ℕ)
+    (gs : List (Option ℕ)) (us : List ℕ) (view' : ListsView) (part' : MutexPart) (is' : seen_mutexes u o j gs us view' ≡ part')
+    (shape : IsMutexShape t n l hs vs view) (shape' : IsMutexShape u o j gs us view')
     (alike : part.priorities ≡ part'.priorities) where
   same_n : o ≡ n
   same_n = ap (λ (p : MutexPart). p.priorities) is' ∙ sym alike ∙ sym (ap (λ (p : MutexPart). p.priorities) is)
@@ -192,21 +194,21 @@ module _ (t n : ℕ) (hs : List (Option ℕ)) (vs : List ℕ) (view : ListsView)
   pub same_lists : part.waiters ≡ part'.waiters → (k : ℕ) → row_at view.lists k ≡ row_at view'.lists k
   same_lists same k = same_rows n view.lists view'.lists shape.waiting waiting' (ap (λ (p : MutexPart). p.waiters) is ∙ same ∙ sym seen') k
 
-  group : (k : ℕ) → filter (λ w. eqb w.wait.mutex k) part.waiters ≡ map (waiter_at n k) (row_at view.lists k)
-  group k = ap (λ (p : MutexPart). filter (λ w. eqb w.wait.mutex k) p.waiters) (sym is) ∙ of_list n k view.lists
+  group : (k : ℕ) → filter (λ w. eqb w.wait.list k) part.waiters ≡ map (waiter_at n k) (row_at view.lists k)
+  group k = ap (λ (p : MutexPart). filter (λ w. eqb w.wait.list k) p.waiters) (sym is) ∙ of_list n k view.lists
 
-  group' : (k : ℕ) → filter (λ w. eqb w.wait.mutex k) part'.waiters ≡ map (waiter_at n k) (row_at view'.lists k)
-  group' k = ap (filter (λ (w : Waiter). eqb w.wait.mutex k)) (sym seen') ∙ of_list n k view'.lists
+  group' : (k : ℕ) → filter (λ w. eqb w.wait.list k) part'.waiters ≡ map (waiter_at n k) (row_at view'.lists k)
+  group' k = ap (filter (λ (w : Waiter). eqb w.wait.list k)) (sym seen') ∙ of_list n k view'.lists
 
-  pub same_group : (k : ℕ) → row_at view.lists k ≡ row_at view'.lists k → filter (λ w. eqb w.wait.mutex k) part.waiters ≡ filter (λ w. eqb w.wait.mutex k)
+  pub same_group : (k : ℕ) → row_at view.lists k ≡ row_at view'.lists k → filter (λ w. eqb w.wait.list k) part.waiters ≡ filter (λ w. eqb w.wait.list k)
       part'.waiters
   same_group k same = group k ∙ ap (map (waiter_at n k)) same ∙ sym (group' k)
 
-  pub same_groups : part.holders ≡ part'.holders → ((k : ℕ) → k < length hs → filter (λ w. eqb w.wait.mutex k) part.waiters ≡ filter (λ w. eqb w.wait.mutex k)
+  pub same_groups : part.lists ≡ part'.lists → ((k : ℕ) → k < l → filter (λ w. eqb w.wait.list k) part.waiters ≡ filter (λ w. eqb w.wait.list k)
       part'.waiters) → part.waiters ≡ part'.waiters
-  same_groups holders same =
-      let sized : length view.lists ≡ length view'.lists = shape.each ∙ ap (λ (p : MutexPart). length p.holders) is ∙ ap length holders ∙ sym
-      (ap (λ (p : MutexPart). length p.holders) is') ∙ sym shape'.each in
+  same_groups lists same =
+      let sized : length view.lists ≡ length view'.lists = shape.each ∙ ap (λ (p : MutexPart). p.lists) is ∙ lists ∙ sym
+      (ap (λ (p : MutexPart). p.lists) is') ∙ sym shape'.each in
       let rows : view.lists ≡ view'.lists = ext_get_or the_row view.lists view'.lists sized
       (λ k low. same_row n k (row_at view.lists k) (row_at view'.lists k) (shape.waiting k) (waiting' k)
       (sym (group k) ∙ same k (omega (arith, low, shape.each)) ∙ group' k)) in

@@ -12,13 +12,14 @@ AreKeys priorities list = AllByRecursion (λ entry. (0 < entry.key) × (entry.ke
 abbrev pub AreWaiters : ℕ → List (List Listed) → Type 0
 AreWaiters priorities lists = (m : ℕ) → AreKeys priorities (slice_index_or lists m [])
 
--- each holder is a task, each list value is a priority, and there is a list of waiters for each
--- mutex
-pub record IsMutexShape (tasks priorities : ℕ) (holders : List (Option ℕ)) (values : List ℕ)
+-- each holder is a task, each list value is a priority, there are as many event lists as the number
+-- says, and one of each mutex is among them
+pub record IsMutexShape (tasks priorities lists : ℕ) (holders : List (Option ℕ)) (values : List ℕ)
     (view : ListsView) : Type 0 where
-  pub few_mutexes : length holders < 2 ^ 32
+  pub few_lists : lists < 2 ^ 32
+  pub of_mutexes : length holders ≤ lists
   pub held_by_tasks : All (λ holder. ForSome holder (λ task. task < tasks)) holders
   pub items : view.items ≡ tasks
-  pub each : length view.lists ≡ length holders
+  pub each : length view.lists ≡ lists
   pub waiting : AreWaiters priorities view.lists
   pub list_values : All (λ value. value < priorities) values

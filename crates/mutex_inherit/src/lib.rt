@@ -1,5 +1,5 @@
-//! Mutexes with priority inheritance: who holds each, who waits for it, and what a wait does to the
-//! priority of its holder.
+//! Mutexes with priority inheritance, and event lists: who holds each mutex, who waits in each
+//! list, and what a wait for a mutex does to the priority of its holder.
 #![tactic(auto)]
 
 mod inheritance;

@@ -1,7 +1,7 @@
-//! Mutexes, their holders and their waiters.
-ghost use Rattle.std.specs.Prelude.{◌≡◌, ◌↔◌, ℕ, ◌+◌, ◌<◌, ◌^◌, ◌==◌, ◌&&◌, not, if◌then◌else◌, length, replicate, slice_set, is_none, option_map, Some, None, All, IsTrue, IfOk, IfSome};
+//! Mutexes and their holders, and the tasks that wait in event lists.
+ghost use Rattle.std.specs.Prelude.{◌≡◌, ◌↔◌, ℕ, ◌+◌, ◌<◌, ◌≤◌, ◌^◌, ◌==◌, ◌&&◌, not, if◌then◌else◌, length, replicate, slice_set, is_none, option_map, unwrap_or, Some, None, All, IsTrue, IfOk, IfSome};
 ghost use Rattle.std.specs.Option.{IsSome, ForSome};
-ghost use Rattle.bench_types.specs.declared.kernel_data.MutexWait.{MutexWait};
+ghost use Rattle.bench_types.specs.declared.kernel_data.EventWait.{EventWait};
 ghost use Rattle.bench_types.specs.declared.kernel_data.Waiter.{Waiter};
 ghost use Rattle.bench_model.specs.Control.{task_at};
 ghost use Rattle.bench_model.specs.State.{holder_at};
@@ -14,21 +14,24 @@ ghost use Rattle.index_lists.specs.Listed.{list_at, items_of};
 ghost use Rattle.mutex_inherit.specs.Parts.{disinherited_part, free_mutexes, holder_of, inherited_part, tasks_for, valued, waited_part};
 
 use crate::inheritance::{disinherit_priority, inherit, is_marked, lower};
-use bench_types::{MutexWait, Waiter};
+use bench_types::{EventWait, Waiter};
 use index_lists::Lists;
 use ready_core::Cores;
 use std::alloc::{AllocError, Global};
 use std::marker::Model;
 
-/// Who holds each mutex, and who waits for it.
+/// Who holds each mutex, and who waits in each event list. List m is that of mutex m; behind those
+/// of all mutexes there may be more.
 #[derive(Debug)]
 pub struct Mutexes {
     tasks: u32,
     priorities: u32,
+    /// How many event lists there are.
+    list_count: u32,
     /// Per mutex the task that holds it.
     holders: Vec<Option<u32>>,
-    /// Per mutex the tasks that wait for it, each with how far its waiting priority lies below the
-    /// number of priorities.
+    /// Per event list the tasks that wait in it, each with how far its waiting priority lies below
+    /// the number of priorities.
     lists: Lists,
     /// Per task its list value; empty where the session has none.
     values: Vec<u32>,
@@ -40,6 +43,7 @@ impl Drop for Mutexes {
         let Mutexes {
             tasks: _,
             priorities: _,
+            list_count: _,
             holders: _,
             lists: _,
             values: _,
@@ -53,33 +57,38 @@ impl Model for Mutexes {
 
     ghost Value = { MutexPart };
 
-    ghost view = { λ part. seen_mutexes part.tasks part.priorities part.holders.items
-        part.values.items part.lists };
+    ghost view = { λ part. seen_mutexes part.tasks part.priorities part.list_count
+        part.holders.items part.values.items part.lists };
 
-    ghost invariant = { λ part. IsMutexShape part.tasks part.priorities part.holders.items
-        part.values.items part.lists };
+    ghost invariant = { λ part. IsMutexShape part.tasks part.priorities part.list_count
+        part.holders.items part.values.items part.lists };
 }
 
 impl Mutexes {
     /// No mutex is held, and no task waits. There is room for so many tasks to wait, each with a
-    /// priority below their number. The values are the tasks' list values, task 0 first; none
-    /// where the session has no list values.
+    /// priority below their number. The event lists are those of the mutexes and what comes behind
+    /// them. The values are the tasks' list values, task 0 first; none where the session has no
+    /// list values.
     pub fn new(
         alloc: Global,
         tasks: u32,
         priorities: u32,
         mutexes: u32,
+        lists: u32,
         values: Vec<u32>,
     ) -> Result<Self, AllocError>
-        requires few { tasks + mutexes < 2 ^ 32 }
+        requires few { tasks + lists < 2 ^ 32 }
+        requires mutexes { mutexes ≤ lists }
         requires values { All (λ value. value < priorities) values.items }
-        ensures { IfOk result (λ part. part ≡ free_mutexes tasks priorities mutexes values.items) }
+        ensures { IfOk result
+            (λ part. part ≡ free_mutexes tasks priorities mutexes lists values.items) }
     {
         Ok(Mutexes {
             tasks,
             priorities,
+            list_count: lists,
             holders: free_holders(alloc, mutexes)?,
-            lists: Lists::new(alloc, tasks, mutexes)?,
+            lists: Lists::new(alloc, tasks, lists)?,
             values,
         })
     }
@@ -91,17 +100,19 @@ impl Mutexes {
         Ok(Mutexes {
             tasks: self.tasks,
             priorities: self.priorities,
+            list_count: self.list_count,
             holders: Vec::from_slice(alloc, &self.holders)?,
             lists: self.lists.copy(alloc)?,
             values: Vec::from_slice(alloc, &self.values)?,
         })
     }
 
-    /// This becomes equal to the other, which has as many tasks, mutexes and list values. No memory
-    /// is taken.
+    /// This becomes equal to the other, which has as many tasks, mutexes, event lists and list
+    /// values. No memory is taken.
     pub fn copy_from(&mut self, other: &Self)
         requires tasks { self.old.tasks ≡ other.now.tasks }
         requires mutexes { length self.old.holders ≡ length other.now.holders }
+        requires lists { self.old.lists ≡ other.now.lists }
         requires values { length self.old.values ≡ length other.now.values }
         ensures { self.new ≡ other.now }
     {
@@ -126,6 +137,8 @@ impl Mutexes {
         requires { mutex < length self.now.holders }
         ensures holder { result ≡ holder_at self.now.holders mutex }
         ensures task { IfSome result (λ holder. holder < self.now.tasks) }
+        // Its event list is there.
+        ensures list { mutex < self.now.lists }
     {
         self.holders[mutex as usize]
     }
@@ -137,23 +150,33 @@ impl Mutexes {
         held_by(&self.holders, task)
     }
 
-    /// The mutex that the task waits for; none where it waits for none.
-    pub fn waits_on(&self, task: u32) -> Option<u32>
+    /// The event list that the task waits in; none where it waits in none.
+    pub fn waits_in(&self, task: u32) -> Option<u32>
         requires { task < self.now.tasks }
         ensures { result
-            ≡ option_map (λ (wait : MutexWait). wait.mutex) (wait_of task self.now.waiters) }
+            ≡ option_map (λ (wait : EventWait). wait.list) (wait_of task self.now.waiters) }
     {
         self.lists.list_of(task)
     }
 
-    /// The tasks that wait: list m has those that wait for mutex m, in the order of the waiters.
+    /// The event lists, in each the tasks that wait in it, in the order of the waiters.
     pub fn lists(&self) -> &Lists
         ensures items { result.now.items ≡ self.now.tasks }
-        ensures mutexes { length result.now.lists ≡ length self.now.holders }
-        ensures lists { (m : ℕ) → m < length self.now.holders
-            → items_of (list_at result.now m) ≡ tasks_for m self.now.waiters }
+        ensures lists { length result.now.lists ≡ self.now.lists }
+        ensures tasks { (list : ℕ) → list < self.now.lists
+            → items_of (list_at result.now list) ≡ tasks_for list self.now.waiters }
     {
         &self.lists
+    }
+
+    /// The first task that waits in the event list; none where no task does.
+    pub fn first_task(&self, list: u32) -> Option<u32>
+        requires { list < self.now.lists }
+        ensures first { result
+            ≡ option_map (λ (waiter : Waiter). waiter.task) (first_of list self.now.waiters) }
+        ensures task { IfSome result (λ task. task < self.now.tasks) }
+    {
+        self.lists.first(list)
     }
 
     /// The list value of the task, a priority; none where the session has no list values.
@@ -195,6 +218,29 @@ impl Mutexes {
         is_free
     }
 
+    /// The task begins to wait in the event list with its list value, or with this priority, its
+    /// priority in use, where there are no list values: before the first that waits there with a
+    /// lesser one.
+    pub fn wait_in(&mut self, task: u32, list: u32, in_use: u32)
+        requires task { task < self.old.tasks }
+        requires list { list < self.old.lists }
+        requires priority { in_use < self.old.priorities }
+        requires free { wait_of task self.old.waiters ≡ None }
+        ensures { self.new ≡ record self.old {
+          waiters = with_waiter
+              (record {
+                task = task;
+                wait = record {
+                  list = list;
+                  priority = unwrap_or (list_value_of task self.old.values) in_use;
+                };
+              }) self.old.waiters;
+        } }
+    {
+        let priority = self.waiting_priority(task, in_use);
+        self.enter(task, list, priority);
+    }
+
     /// The task waits for the mutex, which a task holds, with its list value, or with its priority
     /// in use where there are no list values: before the first that waits for it with a lesser
     /// one. The holder inherits the task's priority in use. Returns the mark of the wait.
@@ -215,7 +261,7 @@ impl Mutexes {
     {
         let holder = self.holder_of(mutex);
         let in_use = cores.in_use(task);
-        let priority = self.list_value(task).unwrap_or(in_use);
+        let priority = self.waiting_priority(task, in_use);
         let mark = is_marked(cores, task, holder);
         self.inherit(cores, acting, holder, in_use);
         self.enter(task, mutex, priority);
@@ -281,7 +327,7 @@ impl Mutexes {
         }
     }
 
-    /// The task waits for no mutex any more.
+    /// The task waits in no event list any more.
     pub fn leave(&mut self, task: u32)
         requires { task < self.old.tasks }
         ensures { self.new ≡ record self.old { waiters = without_waiter task self.old.waiters } }
@@ -289,12 +335,14 @@ impl Mutexes {
         self.lists.remove(task);
     }
 
-    // Whether the numbers of tasks and of priorities are equal.
+    // Whether the numbers of tasks, of priorities and of event lists are equal.
     fn has_same_sizes(&self, other: &Self) -> bool
         ensures { IsTrue result ↔
-            ((self.now.tasks ≡ other.now.tasks) × (self.now.priorities ≡ other.now.priorities)) }
+            ((self.now.tasks ≡ other.now.tasks) × (self.now.priorities ≡ other.now.priorities)
+            × (self.now.lists ≡ other.now.lists)) }
     {
-        self.tasks == other.tasks && self.priorities == other.priorities
+        self.tasks == other.tasks
+            && (self.priorities == other.priorities && self.list_count == other.list_count)
     }
 
     fn has_same_holders(&self, other: &Self) -> bool
@@ -309,14 +357,14 @@ impl Mutexes {
         self.values == other.values
     }
 
-    // Whether the same tasks wait for each mutex, with the same priorities, in the same order.
+    // Whether the same tasks wait in each event list, with the same priorities, in the same order.
     fn has_same_waiters(&self, other: &Self) -> bool
         requires priorities { self.now.priorities ≡ other.now.priorities }
-        requires holders { self.now.holders ≡ other.now.holders }
+        requires lists { self.now.lists ≡ other.now.lists }
         ensures { IsTrue result ↔ (self.now.waiters ≡ other.now.waiters) }
     {
-        for mutex in 0..self.holders.len() as u32 {
-            if !self.lists.has_same_entries(mutex, &other.lists, mutex) {
+        for list in 0..self.list_count {
+            if !self.lists.has_same_entries(list, &other.lists, list) {
                 return false;
             }
         }
@@ -329,6 +377,8 @@ impl Mutexes {
         requires held { IsSome (holder_at self.now.holders mutex) }
         ensures holder { result ≡ holder_of self.now.holders mutex }
         ensures task { result < self.now.tasks }
+        // Its event list is there.
+        ensures list { mutex < self.now.lists }
     {
         self.holder(mutex).unwrap()
     }
@@ -336,9 +386,21 @@ impl Mutexes {
     fn set_holder(&mut self, mutex: u32, holder: Option<u32>)
         requires mutex { mutex < length self.old.holders }
         requires holder { ForSome holder (λ task. task < self.old.tasks) }
-        ensures { self.new ≡ record self.old { holders = slice_set self.old.holders mutex holder } }
+        ensures set { self.new
+            ≡ record self.old { holders = slice_set self.old.holders mutex holder } }
+        // Its event list is there.
+        ensures list { mutex < self.new.lists }
     {
         self.holders[mutex as usize] = holder;
+    }
+
+    // With which priority the task begins to wait, where this one is its priority in use.
+    fn waiting_priority(&self, task: u32, in_use: u32) -> u32
+        requires { in_use < self.now.priorities }
+        ensures value { result ≡ unwrap_or (list_value_of task self.now.values) in_use }
+        ensures below { result < self.now.priorities }
+    {
+        self.list_value(task).unwrap_or(in_use)
     }
 
     // The holder takes over a greater priority in use, and as its list value too.
@@ -373,43 +435,34 @@ impl Mutexes {
         lower(cores, acting, task, priority);
     }
 
-    // The task waits for the mutex with the priority.
-    fn enter(&mut self, task: u32, mutex: u32, priority: u32)
+    // The task waits in the event list with the priority.
+    fn enter(&mut self, task: u32, list: u32, priority: u32)
         requires task { task < self.old.tasks }
-        requires mutex { mutex < length self.old.holders }
+        requires list { list < self.old.lists }
         requires priority { priority < self.old.priorities }
         requires free { wait_of task self.old.waiters ≡ None }
         ensures { self.new ≡ record self.old {
           waiters = with_waiter
-              (record { task = task; wait = record { mutex = mutex; priority = priority } })
+              (record { task = task; wait = record { list = list; priority = priority } })
               self.old.waiters;
         } }
     {
         let below = self.priorities - priority;
-        self.lists.insert_sorted(mutex, task, below);
+        self.lists.insert_sorted(list, task, below);
     }
 
-    // Of those that wait for the mutex the first.
-    fn first_waiter(&self, mutex: u32) -> Option<Waiter>
-        requires { mutex < length self.now.holders }
-        ensures first { result ≡ first_of mutex self.now.waiters }
+    // Of those that wait in the event list the first.
+    fn first_waiter(&self, list: u32) -> Option<Waiter>
+        requires { list < self.now.lists }
+        ensures first { result ≡ first_of list self.now.waiters }
         ensures task { ForSome result (λ waiter. waiter.task < self.now.tasks) }
         ensures priority { ForSome result (λ waiter. waiter.wait.priority < self.now.priorities) }
     {
-        let task = self.lists.first(mutex)?;
+        let task = self.lists.first(list)?;
         let below = self.lists.key_of(task)?;
         let priority = self.priorities - below;
-        let wait = MutexWait { mutex, priority };
+        let wait = EventWait { list, priority };
         Some(Waiter { task, wait })
-    }
-
-    fn first_task(&self, mutex: u32) -> Option<u32>
-        requires { mutex < length self.now.holders }
-        ensures first { result
-            ≡ option_map (λ (waiter : Waiter). waiter.task) (first_of mutex self.now.waiters) }
-        ensures task { IfSome result (λ task. task < self.now.tasks) }
-    {
-        self.lists.first(mutex)
     }
 }
 

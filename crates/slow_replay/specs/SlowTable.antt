@@ -2,6 +2,8 @@
 use Rattle.std.specs.Prelude.{◌≡◌, ℕ, ◌*◌, ◌<◌, ◌≤◌, ◌^◌, length, false, Some, None, slice_index_or}
 use Rattle.std.specs.List.{AllByRecursion}
 use Rattle.bench_types.specs.Limits.{max_cores}
+use Rattle.bench_types.specs.Step.{queue_total}
+use Rattle.bench_model.specs.Waiters.{event_lists}
 use Rattle.slow_replay.specs.declared.slow.SlowTable.TheInside.{Inside}
 
 pub record IsFit (table : Inside) : Type 0 where
@@ -12,6 +14,8 @@ pub record IsFit (table : Inside) : Type 0 where
   pub notes : length table.notes.items ≡ table.settings.tasks * table.settings.notes
   pub few_notes : table.settings.tasks * table.settings.notes < 2 ^ 32
   pub holders : length table.holders.items ≡ table.settings.mutexes
+  pub queues : length table.queues.items ≡ queue_total table.settings
+  pub few_lists : event_lists table.settings < 2 ^ 32
   pub rows : length table.rows.items ≡ table.settings.tasks
   pub deadlines : length table.deadlines.items ≡ table.settings.tasks
   pub waiting_tasks :

@@ -16,20 +16,21 @@ ghost use Rattle.bench_types.specs.Limits.{max_cores, max_notes, max_tasks};
 ghost use Rattle.bench_model.specs.Table.{stamp_queues, advance, add_to_ready_list, ahead, is_ready, goes_before, pick, restamped, row_at, stamp_of, tasks_of, wakes_at};
 ghost use Rattle.bench_model.specs.Waiters.{without_waiter};
 ghost use Rattle.list_orders.specs.Search.{is_best, numbers};
-ghost use Rattle.bench_model.specs.Start.{first_look, ready_row, idle_control, user_control, first_control, first_values, first_stamps, unstarted, start};
+ghost use Rattle.bench_model.specs.Start.{first_look, ready_row, idle_control, user_control, first_control, first_queue, first_queues, first_values, first_stamps, unstarted, start};
 ghost use Rattle.slow_replay.specs.SlowDue.{first_due};
 
 mod holds;
 mod mutexes;
 mod notes;
+mod queues;
 mod seek;
 mod sets;
 
 use bench_model::until::{is_ahead, next_wake};
 use bench_model::{TaskRow, TaskState};
 use bench_types::{
-    BlockingCall, Call, CoreLook, Header, Hold, NoteState, Notification, Refusal, Reply, Row,
-    Settings, Step, TaskArgs, TaskControl, Unfinished, Waiter, cores_of_mask,
+    BlockingCall, Call, CoreLook, Header, Hold, NoteState, Notification, QueueArgs, QueueLook,
+    Refusal, Reply, Row, Settings, Step, TaskArgs, TaskControl, Unfinished, Waiter, cores_of_mask,
 };
 use std::alloc::{AllocError, Global};
 use std::marker::Model;
@@ -43,6 +44,7 @@ struct SlowTable {
     calls: Vec<Option<Unfinished>>,
     notes: Vec<Notification>,
     holders: Vec<Option<u32>>,
+    queues: Vec<QueueLook>,
     hold: Option<Hold>,
     rows: Vec<TaskRow>,
     waiters: Vec<Waiter>,
@@ -63,6 +65,7 @@ impl Drop for SlowTable {
             calls: _,
             notes: _,
             holders: _,
+            queues: _,
             hold: _,
             rows: _,
             waiters: _,
@@ -87,6 +90,7 @@ impl Model for SlowTable {
       calls = t.calls.items;
       notes = t.notes.items;
       holders = t.holders.items;
+      queues = t.queues.items;
       hold = t.hold;
       orders = record {
         rows = t.rows.items;
@@ -235,7 +239,7 @@ impl SlowTable {
         self.task_numbers().find(|task| self.is_first_due(*task))
     }
 
-    // The task waits for no mutex any more.
+    // The task waits in no event list any more.
     fn leave(&mut self, task: u32)
         ensures { self.new ≡ record self.old {
           orders = record self.old.orders {
@@ -364,7 +368,7 @@ impl SlowTable {
         ticks.map(|ticks| tick + u128::from(ticks))
     }
 
-    // The task waits in its call until the tick count, at no mutex so far.
+    // The task waits in its call until the tick count, in no event list so far.
     #[tactic(auto, unfolding(bench_model::specs::State::yielded))]
     fn stand(&mut self, core: u32, task: u32, call: Unfinished, wake: Option<u128>)
         requires core { core < length self.old.control.cores }
@@ -475,6 +479,10 @@ impl SlowTable {
             }
             Call::MutexTake { mutex, ticks } => return self.take(alloc, core, task, mutex, ticks),
             Call::MutexGive(mutex) => return Ok(self.give(core, task, mutex)),
+            Call::QueueSend { queue, ticks } => return self.send(alloc, core, task, queue, ticks),
+            Call::QueueReceive { queue, ticks } => {
+                return self.receive(alloc, core, task, queue, ticks);
+            }
         }
         Ok(Reply::Done)
     }
@@ -500,6 +508,11 @@ impl SlowTable {
             }
             Step::Call { core, task, call } => self.call(alloc, core, task, call),
             Step::Interrupt { core, note } => Ok(self.interrupt(core, note)),
+            Step::QueueInterrupt {
+                core,
+                queue,
+                direction,
+            } => Ok(self.interrupt_queue(core, direction, queue)),
         }
     }
 
@@ -584,6 +597,27 @@ fn no_holders(alloc: Global, mutexes: u32) -> Result<Vec<Option<u32>>, AllocErro
     ensures { IfOk result (λ holders. holders.items ≡ replicate mutexes None) }
 {
     vec![in alloc; None; mutexes as usize]
+}
+
+fn first_queue(args: QueueArgs) -> QueueLook
+    ensures { result ≡ first_queue args }
+{
+    QueueLook {
+        length: args.length,
+        messages: args.messages,
+    }
+}
+
+fn first_queues(alloc: Global, header: &Header) -> Result<Vec<QueueLook>, AllocError>
+    ensures { IfOk result (λ queues. queues.items ≡ first_queues header.now) }
+{
+    match &header.queues {
+        None => Ok(Vec::new(alloc)),
+        Some(queues) => {
+            let args = queues.as_slice();
+            args.iter().copied().map(first_queue).collect(alloc)
+        }
+    }
 }
 
 // None of the waiters is the task any more.
@@ -699,6 +733,7 @@ fn unstarted(alloc: Global, header: &Header) -> Result<SlowTable, AllocError>
     let calls = no_calls(alloc, settings.tasks)?;
     let notes = no_notes(alloc, settings.tasks * settings.notes)?;
     let holders = no_holders(alloc, settings.mutexes)?;
+    let queues = first_queues(alloc, header)?;
     let rows = first_rows(alloc, settings.cores, users)?;
     let waiters = no_waiters(alloc);
     let deadlines = no_deadlines(alloc, settings.tasks)?;
@@ -710,6 +745,7 @@ fn unstarted(alloc: Global, header: &Header) -> Result<SlowTable, AllocError>
         calls,
         notes,
         holders,
+        queues,
         hold: None,
         rows,
         waiters,

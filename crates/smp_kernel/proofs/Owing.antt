@@ -4,6 +4,7 @@ use Rattle.std.specs.Prelude.{option_map, slice_set}
 use Rattle.std.specs.Option.{option_map_or}
 use Rattle.std.proofs.lemmas.List.{length-set}
 use Rattle.bench_types.specs.declared.kernel_data.Waiter.{Waiter}
+use Rattle.bench_types.specs.declared.step.Direction.{Direction}
 use Rattle.bench_types.specs.declared.reply.Reply.{Reply}
 use Rattle.bench_types.specs.declared.reply.Reply.TheVariants.{Flag}
 use Rattle.bench_model.specs.Control.{Control, task_at}
@@ -11,7 +12,8 @@ use Rattle.bench_model.specs.State.{holder_at}
 use Rattle.bench_model.specs.Seek.{wake}
 use Rattle.bench_model.specs.Cores.{CoresView, cores_rule}
 use Rattle.bench_model.specs.Lists.{View, list_queues, first_waiter}
-use Rattle.bench_model.specs.Waiters.{first_of}
+use Rattle.bench_model.specs.Queues.{other_way, passed, with_passed}
+use Rattle.bench_model.specs.Waiters.{event_list, first_of}
 use Rattle.bench_model.specs.Mutexes.{held_by, disinherit_priority, after_disinherit, timed_out, disinherited, first_woken, mutex_give}
 use Rattle.smp_kernel.specs.Kernel.{Parts, kernel_view, IsKernelShape}
 use Rattle.smp_kernel.proofs.Sizes.{reshaped, sizes_of}
@@ -96,6 +98,24 @@ woken_none core mutex view is = at (first_of mutex view.orders.waiters) is
         (λ (waiter : Waiter). wake list_queues core waiter.task view) first view
     at None is = refl
     at (Some first) is = absurd (cc (is))
+
+-- a message went, and the first task that waits for one to go the other way is woken
+module _ (acting : ℕ) (direction way : Direction) (queue : ℕ) (view later : View) (gone : later ≡ with_passed direction queue view)
+    (other : way ≡ other_way direction) where
+  woken_there : first_woken list_queues acting (event_list later.settings way queue) later ≡ passed list_queues acting direction queue view
+  unfolding passed
+  woken_there =
+      ap (λ (view : View). first_woken list_queues acting (event_list view.settings way queue) view) gone
+      ∙ ap (λ way. first_woken list_queues acting (event_list view.settings way queue) (with_passed direction queue view)) other
+
+  pub passed_to : (waiter : ℕ) → Some waiter ≡ option_map (λ (waiter : Waiter). waiter.task)
+      (first_of (event_list later.settings way queue) later.orders.waiters) → wake list_queues acting waiter later ≡ passed list_queues acting direction
+      queue view
+  passed_to waiter is = woken_first acting (event_list later.settings way queue) later waiter is ∙ woken_there
+
+  pub passed_to_none : None ≡ option_map (λ (waiter : Waiter). waiter.task) (first_of (event_list later.settings way queue) later.orders.waiters) →
+      later ≡ passed list_queues acting direction queue view
+  passed_to_none is = woken_none acting (event_list later.settings way queue) later is ∙ woken_there
 
 given : (core task mutex : ℕ) (view : View) (holder : ℕ) → holder_at view.holders mutex ≡ Some holder → known (Flag true)
     (first_woken list_queues core mutex (disinherited list_queues core task (record view { holders = slice_set view.holders mutex None }))) ≡ mutex_give

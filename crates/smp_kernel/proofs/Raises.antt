@@ -11,15 +11,17 @@ use Rattle.bench_types.specs.declared.reply.Refusal.{Refusal}
 use Rattle.bench_types.specs.declared.reply.Reply.{Reply}
 use Rattle.bench_types.specs.declared.reply.Reply.TheVariants.{Done, Blocked, Flag, Until, Refused}
 use Rattle.bench_types.specs.declared.step.Step.{Step}
-use Rattle.bench_types.specs.declared.step.Step.TheVariants.{Tick, Switch, Interrupt}
+use Rattle.bench_types.specs.declared.step.Step.TheVariants.{Tick, Switch, Interrupt, QueueInterrupt}
 use Rattle.bench_types.specs.declared.step.Step.TheVariants as steps
 use Rattle.bench_types.specs.declared.step.Call.{Call}
 use Rattle.bench_types.specs.declared.step.Call.TheVariants.{Yield, Delay, DelayUntil, Finish, PrioritySet, AffinitySet, PreemptOff, PreemptOn, Notify}
-use Rattle.bench_types.specs.declared.step.Call.TheVariants.{NotifyWait, NotifyTake, StateClear, ValueClear, MutexTake, MutexGive, HoldOpen, HoldClose}
+use Rattle.bench_types.specs.declared.step.Call.TheVariants.{NotifyWait, NotifyTake, StateClear, ValueClear, MutexTake, MutexGive, QueueSend, QueueReceive, HoldOpen, HoldClose}
+use Rattle.bench_types.specs.declared.step.Direction.{Direction}
+use Rattle.bench_types.specs.declared.step.Direction.TheVariants.{Send, Receive}
 use Rattle.bench_types.specs.declared.step.BlockingCall.{BlockingCall}
 use Rattle.bench_types.specs.declared.step.BlockingCall.TheVariants as blocking
 use Rattle.bench_types.specs.declared.step.Unfinished.{Unfinished}
-use Rattle.bench_types.specs.declared.step.Unfinished.TheVariants.{Made, Take}
+use Rattle.bench_types.specs.declared.step.Unfinished.TheVariants.{Made, Take, Transfer}
 use Rattle.bench_model.specs.Control.{Control, current, task_at, in_mask, ask_each, ask_its_core}
 use Rattle.bench_model.specs.ControlFields.{with_base, with_affinity, with_preemption, in_use_set, value_set, in_use_and_value_set}
 use Rattle.bench_model.specs.Holds.{hold_opened, hold_closed}
@@ -29,11 +31,13 @@ use Rattle.bench_model.specs.Notes.{note_at, is_waiting, notified, wait_entered,
 use Rattle.bench_model.specs.Notifying.{timeout_of, notify, interrupted, state_forgotten, bits_cleared, completed, awaited}
 use Rattle.bench_model.specs.PriorityAffinity.{capped, in_use_after, yields_after_priority_set, yields_after_affinity_set, priority_set, affinity_set}
 use Rattle.bench_model.specs.PriorityAffinity.{preemption_off, preemption_on}
+use Rattle.bench_model.specs.Queues.{can_pass, other_way, passed, queue_at, queue_called, queue_finished, queue_interrupted, queue_waited, with_passed}
 use Rattle.bench_model.specs.Refusals.{refusal}
 use Rattle.bench_model.specs.Seek.{seek, may_move, wake, after_eviction, after_switch, shares_its_time, sliced}
 use Rattle.bench_model.specs.State.{State, QueueOps, call_at, holder_at, after_select, after_return, yielded, blocked}
 use Rattle.bench_model.specs.Steps.{woken, ticked, delayed_until, after_finish, called, performed, after}
 use Rattle.bench_model.specs.Until.{next_wake, is_ahead, ticks_to}
+use Rattle.bench_model.specs.Waiters.{event_list}
 use Rattle.order_laws.proofs.ControlBlocks.{block_other, in_use_kept}
 use Rattle.rule_laws.proofs.Awaiting.{completed_notes}
 use Rattle.rule_laws.proofs.PriorityAffinity.{its_core_more, after_priority_set_more, after_affinity_set_more}
@@ -291,12 +295,71 @@ module _ {Orders : Type 0} (ops : QueueOps Orders) where
       at None = λ other away. refl
       at (Some holder) = held holder (option_map_or (λ ticks. eqb ticks 0) left false)
 
+  first_kept : (core list : ℕ) (state : State Orders) → KeepsAll state.control (first_woken ops core list state).control
+  unfolding first_woken
+  first_kept core list state = at (ops.first_waiter list state.orders)
+    where
+      at : (waiter : Option Waiter) → KeepsAll state.control (option_map_or (λ (waiter : Waiter). wake ops core waiter.task state) waiter state).control
+      at None = λ other. refl
+      at (Some waiter) = wake_kept core waiter.task state
+
+  -- queues
+  passed_kept : (core : ℕ) (direction : Direction) (queue : ℕ) (state : State Orders) → KeepsAll state.control
+      (passed ops core direction queue state).control
+  unfolding passed
+  passed_kept core direction queue state = first_kept core (event_list state.settings (other_way direction) queue) (with_passed direction queue state)
+
+  queue_waited_kept : (core task : ℕ) (direction : Direction) (queue : ℕ) (ticks : Option ℕ) (state : State Orders) → KeepsAll state.control
+      (queue_waited ops core task direction queue ticks state).control
+  unfolding queue_waited blocked
+  queue_waited_kept core task direction queue ticks state other = refl
+
+  queue_called_kept : (core task : ℕ) (direction : Direction) (queue ticks : ℕ) (state : State Orders) → KeepsAll state.control
+      (queue_called ops core task direction queue ticks state).1.control
+  unfolding queue_called
+  queue_called_kept core task direction queue ticks state = at (can_pass direction (queue_at state.queues queue)) (eqb ticks 0)
+    where
+      at : (b d : Bool) → KeepsAll state.control (cond b (outcome (Flag true) (passed ops core direction queue state))
+          (cond d (outcome (Flag false) state) (outcome Blocked (queue_waited ops core task direction queue (timeout_of ticks) state)))).1.control
+      at true d = passed_kept core direction queue state
+      at false true = λ other. refl
+      at false false = queue_waited_kept core task direction queue (timeout_of ticks) state
+
+  queue_finished_kept : (core task : ℕ) (direction : Direction) (queue : ℕ) (state : State Orders) → KeepsAll state.control
+      (queue_finished ops core task direction queue state).1.control
+  unfolding queue_finished
+  queue_finished_kept core task direction queue state =
+      at (can_pass direction (queue_at state.queues queue)) (option_map_or (λ ticks. eqb ticks 0) left false)
+    where
+      left : Option ℕ
+      left = ops.deadline_left task state.orders
+
+      over : State Orders
+      over = after_return ops task state
+
+      at : (b d : Bool) → KeepsAll state.control (cond b (outcome (Flag true) (passed ops core direction queue over))
+          (cond d (outcome (Flag false) over) (outcome Blocked (queue_waited ops core task direction queue left state)))).1.control
+      at true d = passed_kept core direction queue over
+      at false true = λ other. refl
+      at false false = queue_waited_kept core task direction queue left state
+
+  queue_interrupted_kept : (core : ℕ) (direction : Direction) (queue : ℕ) (state : State Orders) → KeepsAll state.control
+      (queue_interrupted ops core direction queue state).1.control
+  unfolding queue_interrupted
+  queue_interrupted_kept core direction queue state = at (can_pass direction (queue_at state.queues queue))
+    where
+      at : (b : Bool) → KeepsAll state.control (cond b (passed ops core direction queue state) state).control
+      at true = passed_kept core direction queue state
+      at false = λ other. refl
+
   end_others : (core task : ℕ) (call : Unfinished) (state : State Orders) → KeepsOthers (raised_by_end state.holders (Some call)) state.control
       (after_finish ops core task call state).1.control
   unfolding after_finish
   end_others core task (Made call) state = all_kept None state.control (completed task call (after_return ops task state)).1.control
       (completed_kept task call (after_return ops task state))
   end_others core task (Take mutex mark) state = take_end_others core task mutex mark state
+  end_others core task (Transfer queue direction) state = all_kept None state.control (queue_finished ops core task direction queue state).1.control
+      (queue_finished_kept core task direction queue state)
 
   finish_others : (core task : ℕ) (state : State Orders) → KeepsOthers (raised_by_end state.holders (call_at state.calls task)) state.control
       (called ops core task Finish state).1.control
@@ -318,14 +381,6 @@ module _ {Orders : Type 0} (ops : QueueOps Orders) where
       at : (b : Bool) → KeepsOthers (Some task) state.control (cond b (after_disinherit ops core task base state) state).control
       at true = disinherit_others core task base state
       at false = λ other away. refl
-
-  first_kept : (core mutex : ℕ) (state : State Orders) → KeepsAll state.control (first_woken ops core mutex state).control
-  unfolding first_woken
-  first_kept core mutex state = at (ops.first_waiter mutex state.orders)
-    where
-      at : (waiter : Option Waiter) → KeepsAll state.control (option_map_or (λ (waiter : Waiter). wake ops core waiter.task state) waiter state).control
-      at None = λ other. refl
-      at (Some waiter) = wake_kept core waiter.task state
 
   give_others : (core task mutex : ℕ) (state : State Orders) → KeepsOthers (Some task) state.control (mutex_give ops core task mutex state).1.control
   unfolding mutex_give
@@ -363,6 +418,8 @@ module _ {Orders : Type 0} (ops : QueueOps Orders) where
   called_others core task (ValueClear set bits index) state = λ other away. refl
   called_others core task (MutexTake mutex ticks) state = take_others core task mutex ticks state
   called_others core task (MutexGive mutex) state = give_others core task mutex state
+  called_others core task (QueueSend queue ticks) state = λ other away. queue_called_kept core task Send queue ticks state other
+  called_others core task (QueueReceive queue ticks) state = λ other away. queue_called_kept core task Receive queue ticks state other
   called_others core task HoldOpen state = λ other away. refl
   called_others core task HoldClose state = λ other away. refl
 
@@ -372,6 +429,7 @@ module _ {Orders : Type 0} (ops : QueueOps Orders) where
   performed_others (Switch core) state = λ other away. switch_kept core state other
   performed_others (steps.Call core task call) state = called_others core task call state
   performed_others (Interrupt core note) state = λ other away. notify_kept core note state other
+  performed_others (QueueInterrupt core queue direction) state = λ other away. queue_interrupted_kept core direction queue state other
 
   pub step_others : (step : Step) (state : State Orders) → KeepsOthers (raised_by state step) state.control (after ops step state).1.control
   unfolding after

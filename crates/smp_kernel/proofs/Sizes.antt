@@ -1,9 +1,11 @@
 -- How large the parts of a kernel are: what a rule does to them says whether the kernel keeps its
 -- shape.
-use Rattle.std.proofs.Common.{◌≡◌, ℕ, ◌<◌, ◌≤◌, Bool, length, sym, ap, subst, ◌∙◌}
+use Rattle.std.proofs.Common.{◌≡◌, ℕ, ◌<◌, ◌≤◌, ◌^◌, Bool, length, sym, ap, subst, ◌∙◌}
 use Rattle.bench_types.specs.Limits.{max_cores}
 use Rattle.bench_types.specs.declared.kernel_data.Settings.{Settings}
+use Rattle.bench_types.specs.Step.{queue_total}
 use Rattle.bench_model.specs.Sound.{list_values}
+use Rattle.bench_model.specs.Waiters.{event_lists}
 use Rattle.smp_kernel.specs.Kernel.{IsDisjoint, Parts, IsKernelShape, delayed_task, waiting_task}
 
 pub record Sizes : Type 0 where
@@ -17,6 +19,8 @@ pub record Sizes : Type 0 where
   pub mutexes : ℕ
   pub mutex_priorities : ℕ
   pub holders : ℕ
+  pub lists : ℕ
+  pub queues : ℕ
   pub delays : ℕ
   pub deadlines : ℕ
   pub values : ℕ
@@ -33,6 +37,8 @@ sizes_of parts = record {
   mutexes = parts.mutexes.tasks;
   mutex_priorities = parts.mutexes.priorities;
   holders = length parts.mutexes.holders;
+  lists = parts.mutexes.lists;
+  queues = length parts.queues;
   delays = parts.delays.tasks;
   deadlines = length parts.deadlines;
   values = length parts.mutexes.values;
@@ -58,6 +64,9 @@ reshaped parts later same sizes undelayed unqueued shape = record {
   mutexes = ap (λ (s : Sizes). s.mutexes) sizes ∙ shape.mutexes ∙ ap (λ (s : Settings). s.tasks) (sym same);
   mutex_priorities = ap (λ (s : Sizes). s.mutex_priorities) sizes ∙ shape.mutex_priorities ∙ ap (λ (s : Settings). s.priorities) (sym same);
   holders = ap (λ (s : Sizes). s.holders) sizes ∙ shape.holders ∙ ap (λ (s : Settings). s.mutexes) (sym same);
+  lists = ap (λ (s : Sizes). s.lists) sizes ∙ shape.lists ∙ ap event_lists (sym same);
+  few_lists = subst (λ (s : Settings). event_lists s < 2 ^ 32) (sym same) shape.few_lists;
+  queues = ap (λ (s : Sizes). s.queues) sizes ∙ shape.queues ∙ ap queue_total (sym same);
   delays = ap (λ (s : Sizes). s.delays) sizes ∙ shape.delays ∙ ap (λ (s : Settings). s.tasks) (sym same);
   deadlines = ap (λ (s : Sizes). s.deadlines) sizes ∙ shape.deadlines ∙ ap (λ (s : Settings). s.tasks) (sym same);
   values = ap (λ (s : Sizes). s.values) sizes ∙ shape.values ∙ ap list_values (sym same);

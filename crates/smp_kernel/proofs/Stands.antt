@@ -9,16 +9,18 @@ use Rattle.bench_types.specs.declared.note.Notification.{Notification}
 use Rattle.bench_types.specs.declared.reply.Reply.{Reply}
 use Rattle.bench_types.specs.declared.reply.Reply.TheVariants.{Done, Blocked, Flag, Until, Refused}
 use Rattle.bench_types.specs.declared.step.Step.{Step}
-use Rattle.bench_types.specs.declared.step.Step.TheVariants.{Tick, Switch, Interrupt}
+use Rattle.bench_types.specs.declared.step.Step.TheVariants.{Tick, Switch, Interrupt, QueueInterrupt}
 use Rattle.bench_types.specs.declared.step.Step.TheVariants as steps
 use Rattle.bench_types.specs.declared.step.Call.{Call}
 use Rattle.bench_types.specs.declared.step.BlockingCall.{BlockingCall}
 use Rattle.bench_types.specs.declared.step.BlockingCall.TheVariants as blocking
 use Rattle.bench_types.specs.declared.step.Unfinished.{Unfinished}
-use Rattle.bench_types.specs.declared.step.Unfinished.TheVariants.{Made, Take}
+use Rattle.bench_types.specs.declared.step.Unfinished.TheVariants.{Made, Take, Transfer}
 use Rattle.bench_types.specs.declared.kernel_data.Waiter.{Waiter}
 use Rattle.bench_types.specs.declared.step.Call.TheVariants.{Yield, Delay, DelayUntil, Finish, PrioritySet, AffinitySet, PreemptOff, PreemptOn, Notify}
-use Rattle.bench_types.specs.declared.step.Call.TheVariants.{NotifyWait, NotifyTake, StateClear, ValueClear, MutexTake, MutexGive, HoldOpen, HoldClose}
+use Rattle.bench_types.specs.declared.step.Call.TheVariants.{NotifyWait, NotifyTake, StateClear, ValueClear, MutexTake, MutexGive, QueueSend, QueueReceive, HoldOpen, HoldClose}
+use Rattle.bench_types.specs.declared.step.Direction.{Direction}
+use Rattle.bench_types.specs.declared.step.Direction.TheVariants.{Send, Receive}
 use Rattle.bench_types.specs.Step.{step_check, IsStepOfWords, IsCheckedStep}
 use Rattle.bench_model.specs.declared.row.TaskState.{TaskState}
 use Rattle.bench_model.specs.declared.row.TaskState.TheVariants as standing
@@ -26,6 +28,7 @@ use Rattle.list_orders.specs.Search.{numbers, has}
 use Rattle.bench_model.specs.Control.{core_at, task_at, current, in_mask, ask_its_core}
 use Rattle.bench_model.specs.State.{call_at, holder_at, yielded, blocked, after_return}
 use Rattle.bench_model.specs.Holds.{hold_opened, hold_closed}
+use Rattle.bench_model.specs.Queues.{can_pass, other_way, passed, queue_at, queue_called, queue_finished, queue_interrupted, queue_waited, with_passed}
 use Rattle.bench_model.specs.Refusals.{refusal}
 use Rattle.bench_model.specs.Until.{next_wake, is_ahead, ticks_to}
 use Rattle.bench_model.specs.Seek.{seek, wake}
@@ -40,7 +43,7 @@ use Rattle.bench_model.specs.Steps.{woken, ticked, delayed_until, called, perfor
 use Rattle.bench_model.specs.Table.{Stamps, Table, row_at, stamp_of, is_ready, wake_in, wakes_at, due}
 use Rattle.bench_model.specs.Lists as seen
 use Rattle.bench_model.specs.Lists.{Lists, View, list_queues, lists_of, view_of, due_tasks}
-use Rattle.bench_model.specs.Waiters.{first_of}
+use Rattle.bench_model.specs.Waiters.{event_list, first_of}
 use Rattle.bench_model.specs.Lists.{seen_of}
 use Rattle.bench_model.specs.Sound.{IsConsistent, IsSound, WakesInTime}
 use Rattle.bench_model.specs.Session.{step_of}
@@ -203,10 +206,67 @@ take_finished_settings core task mutex mark view = at (holder_at view.holders mu
     at None = refl
     at (Some holder) = held holder (option_map_or (λ ticks. eqb ticks 0) left false)
 
+first_settings : (core list : ℕ) (view : View) → (first_woken list_queues core list view).settings ≡ view.settings
+unfolding first_woken wake
+first_settings core list view = at (seen.first_waiter list view.orders)
+  where
+    at : (waiter : Option Waiter) → (option_map_or (λ (waiter : Waiter). wake list_queues core waiter.task view) waiter view).settings ≡ view.settings
+    at None = refl
+    at (Some waiter) = refl
+
+passed_settings : (core : ℕ) (direction : Direction) (queue : ℕ) (view : View) → (passed list_queues core direction queue view).settings ≡ view.settings
+unfolding passed
+passed_settings core direction queue view = first_settings core (event_list view.settings (other_way direction) queue) (with_passed direction queue view)
+
+queue_waited_settings : (core task : ℕ) (direction : Direction) (queue : ℕ) (ticks : Option ℕ) (view : View) →
+    (queue_waited list_queues core task direction queue ticks view).settings ≡ view.settings
+unfolding queue_waited blocked
+queue_waited_settings core task direction queue ticks view = refl
+
+queue_called_settings : (core task : ℕ) (direction : Direction) (queue ticks : ℕ) (view : View) →
+    (queue_called list_queues core task direction queue ticks view).1.settings ≡ view.settings
+unfolding queue_called
+queue_called_settings core task direction queue ticks view = at (can_pass direction (queue_at view.queues queue)) (eqb ticks 0)
+  where
+    at : (b d : Bool) → (cond b (outcome (Flag true) (passed list_queues core direction queue view))
+        (cond d (outcome (Flag false) view) (outcome Blocked (queue_waited list_queues core task direction queue (timeout_of ticks) view)))).1.settings ≡
+        view.settings
+    at true d = passed_settings core direction queue view
+    at false true = refl
+    at false false = queue_waited_settings core task direction queue (timeout_of ticks) view
+
+queue_finished_settings : (core task : ℕ) (direction : Direction) (queue : ℕ) (view : View) →
+    (queue_finished list_queues core task direction queue view).1.settings ≡ view.settings
+unfolding queue_finished
+queue_finished_settings core task direction queue view =
+    at (can_pass direction (queue_at view.queues queue)) (option_map_or (λ ticks. eqb ticks 0) left false)
+  where
+    left : Option ℕ
+    left = seen.deadline_left task view.orders
+
+    over : View
+    over = after_return list_queues task view
+
+    at : (b d : Bool) → (cond b (outcome (Flag true) (passed list_queues core direction queue over))
+        (cond d (outcome (Flag false) over) (outcome Blocked (queue_waited list_queues core task direction queue left view)))).1.settings ≡ view.settings
+    at true d = passed_settings core direction queue over
+    at false true = refl
+    at false false = queue_waited_settings core task direction queue left view
+
+queue_interrupted_settings : (core : ℕ) (direction : Direction) (queue : ℕ) (view : View) →
+    (queue_interrupted list_queues core direction queue view).1.settings ≡ view.settings
+unfolding queue_interrupted
+queue_interrupted_settings core direction queue view = at (can_pass direction (queue_at view.queues queue))
+  where
+    at : (b : Bool) → (cond b (passed list_queues core direction queue view) view).settings ≡ view.settings
+    at true = passed_settings core direction queue view
+    at false = refl
+
 finished_settings : (core task : ℕ) (call : Unfinished) (view : View) → (after_finish list_queues core task call view).1.settings ≡ view.settings
 unfolding after_finish
 finished_settings core task (Made call) view = completed_settings task call (after_return list_queues task view)
 finished_settings core task (Take mutex mark) view = take_finished_settings core task mutex mark view
+finished_settings core task (Transfer queue direction) view = queue_finished_settings core task direction queue view
 
 finish_settings : (core task : ℕ) (view : View) → (option_map_or (λ call. after_finish list_queues core task call view) (call_at view.calls task)
     (outcome Done view)).1.settings ≡ view.settings
@@ -277,6 +337,8 @@ called_settings core task (StateClear other index) view = refl
 called_settings core task (ValueClear other bits index) view = refl
 called_settings core task (MutexTake mutex ticks) view = taken_settings core task mutex ticks view
 called_settings core task (MutexGive mutex) view = given_settings core task mutex view
+called_settings core task (QueueSend queue ticks) view = queue_called_settings core task Send queue ticks view
+called_settings core task (QueueReceive queue ticks) view = queue_called_settings core task Receive queue ticks view
 called_settings core task (DelayUntil prev inc) view = until_settings core task prev inc view
 called_settings core task HoldOpen view = refl
 called_settings core task HoldClose view = refl
@@ -289,6 +351,7 @@ performed_settings Tick view =
 performed_settings (Switch core) view = turned_settings core view
 performed_settings (steps.Call core task call) view = called_settings core task call view
 performed_settings (Interrupt core note) view = notify_settings core note view
+performed_settings (QueueInterrupt core queue direction) view = queue_interrupted_settings core direction queue view
 
 after_settings : (step : Step) (view : View) → (after list_queues step view).1.settings ≡ view.settings
 unfolding after
@@ -305,6 +368,9 @@ look_of view table core stands = ap (λ (v : View). core_at v.control core) (sym
 
 pub holder_seen : (view : View) (table : Table) (mutex : ℕ) → StandsFor view table → holder_at view.holders mutex ≡ holder_at table.holders mutex
 holder_seen view table mutex stands = ap (λ (v : View). holder_at v.holders mutex) (sym stands.shows)
+
+pub queue_seen : (view : View) (table : Table) (queue : ℕ) → StandsFor view table → queue_at view.queues queue ≡ queue_at table.queues queue
+queue_seen view table queue stands = ap (λ (v : View). queue_at v.queues queue) (sym stands.shows)
 
 pub task_look_of : (view : View) (table : Table) (task : ℕ) → task < view.settings.tasks → StandsFor view table → look_in view task ≡ task_look table task
 task_look_of view table task low stands =

@@ -1,14 +1,15 @@
 -- A kernel's parts together, and what a step needs of them.
-use Rattle.std.specs.Prelude.{◌≡◌, ℕ, ◌<◌, ◌≤◌, ◌==◌, ◌&&◌, Bool, not, filter, List, [], length, true, false, Option, Some, None, Ok}
+use Rattle.std.specs.Prelude.{◌≡◌, ℕ, ◌<◌, ◌≤◌, ◌^◌, ◌==◌, ◌&&◌, Bool, not, filter, List, [], length, true, false, Option, Some, None, Ok}
 use Rattle.std.specs.List.{list_any}
 use Rattle.std.specs.Option.{ForSome}
 use Rattle.bench_types.specs.declared.kernel_data.Delayed.{Delayed}
 use Rattle.bench_types.specs.declared.kernel_data.Hold.{Hold}
+use Rattle.bench_types.specs.declared.kernel_data.QueueLook.{QueueLook}
 use Rattle.bench_types.specs.declared.kernel_data.Settings.{Settings}
 use Rattle.bench_types.specs.declared.kernel_data.Waiter.{Waiter}
 use Rattle.bench_types.specs.declared.step.Call.{Call}
 use Rattle.bench_types.specs.declared.step.Unfinished.{Unfinished}
-use Rattle.bench_types.specs.Step.{call_check, IsCheckedUnfinished}
+use Rattle.bench_types.specs.Step.{call_check, queue_total, IsCheckedUnfinished}
 use Rattle.bench_types.specs.Limits.{max_cores, max_depth}
 use Rattle.list_orders.specs.Search.{has}
 use Rattle.bench_model.specs.Control.{current, is_due}
@@ -19,6 +20,7 @@ use Rattle.bench_model.specs.State.{call_at}
 use Rattle.bench_model.specs.Table.{Table}
 use Rattle.bench_model.specs.Lists.{View, due_tasks, is_ready}
 use Rattle.bench_model.specs.Tally.{is_current}
+use Rattle.bench_model.specs.Waiters.{event_lists}
 use Rattle.ready_core.specs.Fields.{has_priority}
 use Rattle.bench_model.specs.Equal.{StandsFor}
 use Rattle.bench_model.specs.Cores.{CoresView}
@@ -33,22 +35,25 @@ pub record Parts : Type 0 where
   pub calls : List (Option Unfinished)
   pub notes : NotesPart
   pub mutexes : MutexPart
+  -- per queue how many messages it has
+  pub queues : List QueueLook
   pub delays : DelayView
-  -- per task the ticks left to the end of its unfinished wait for a mutex
+  -- per task the ticks left to the end of its unfinished wait for an event
   pub deadlines : List (Option ℕ)
   -- the open hold, if there is one
   pub hold : Option Hold
 
 -- the parts, in the order of the record
 abbrev pub parts_of :
-    Settings → CoresView → List (Option Unfinished) → NotesPart → MutexPart → DelayView
-    → List (Option ℕ) → Option Hold → Parts
-parts_of settings cores calls notes mutexes delays deadlines hold = record {
+    Settings → CoresView → List (Option Unfinished) → NotesPart → MutexPart → List QueueLook
+    → DelayView → List (Option ℕ) → Option Hold → Parts
+parts_of settings cores calls notes mutexes queues delays deadlines hold = record {
   settings = settings;
   cores = cores;
   calls = calls;
   notes = notes;
   mutexes = mutexes;
+  queues = queues;
   delays = delays;
   deadlines = deadlines;
   hold = hold;
@@ -62,6 +67,7 @@ kernel_view parts = record {
   calls = parts.calls;
   notes = parts.notes.notes;
   holders = parts.mutexes.holders;
+  queues = parts.queues;
   hold = parts.hold;
   orders = record {
     ready = parts.cores.ready;
@@ -99,6 +105,9 @@ pub record IsKernelShape (parts : Parts) : Type 0 where
   pub mutexes : parts.mutexes.tasks ≡ parts.settings.tasks
   pub mutex_priorities : parts.mutexes.priorities ≡ parts.settings.priorities
   pub holders : length parts.mutexes.holders ≡ parts.settings.mutexes
+  pub lists : parts.mutexes.lists ≡ event_lists parts.settings
+  pub few_lists : event_lists parts.settings < 2 ^ 32
+  pub queues : length parts.queues ≡ queue_total parts.settings
   pub delays : parts.delays.tasks ≡ parts.settings.tasks
   pub deadlines : length parts.deadlines ≡ parts.settings.tasks
   pub values : length parts.mutexes.values ≡ list_values parts.settings
@@ -153,11 +162,12 @@ StandsForSome view = (table : Table) × StandsFor view table
 abbrev pub but_for_delays : View → View
 but_for_delays view = record view { orders = record view.orders { tick = 0; delayed = [] } }
 
--- two kernels have equal cores and control blocks, holders of mutexes, and orders of tasks but for
--- those with ticks left
+-- two kernels have equal cores and control blocks, holders of mutexes, messages, and orders of
+-- tasks but for those with ticks left
 pub record HasSameOrders (one other : View) : Type 0 where
   pub control : one.control ≡ other.control
   pub holders : one.holders ≡ other.holders
+  pub queues : one.queues ≡ other.queues
   pub ready : one.orders.ready ≡ other.orders.ready
   pub waiters : one.orders.waiters ≡ other.orders.waiters
   pub deadlines : one.orders.deadlines ≡ other.orders.deadlines

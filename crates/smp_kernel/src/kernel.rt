@@ -2,11 +2,12 @@
 ghost use Rattle.std.specs.Prelude.{◌≡◌, ℕ, ◌+◌, ◌-◌, ◌<◌, ◌≤◌, ◌%◌, ◌^◌, ◌↔◌, nat_lt, map, slice_get, Some, true, option_map, IsErr, IfOk, IfSome, Ok, Err, min};
 ghost use Rattle.bench_types.specs.Header.{header_check};
 ghost use Rattle.bench_types.specs.Limits.{max_cores};
-ghost use Rattle.bench_types.specs.Step.{settings_of, step_check};
+ghost use Rattle.bench_types.specs.Step.{queue_total, settings_of, step_check};
 ghost use Rattle.list_orders.specs.Listings.{IsListing};
 ghost use Rattle.list_orders.specs.Search.{numbers};
 ghost use Rattle.bench_model.specs.Control.{core_at, current, is_allowed, task_at};
 ghost use Rattle.bench_model.specs.State.{call_at, holder_at};
+ghost use Rattle.bench_model.specs.Queues.{queue_at};
 ghost use Rattle.bench_model.specs.Refusals.{refusal};
 ghost use Rattle.bench_model.specs.Table.{Table, stamp_queues};
 ghost use Rattle.bench_model.specs.Start.{start};
@@ -23,7 +24,8 @@ ghost use Rattle.smp_kernel.specs.Raised.{raised_by, KeepsOthers};
 use crate::Meter;
 use crate::scheduler::Scheduler;
 use bench_types::{
-    CoreLook, Fault, Header, NoteState, Refusal, Reply, Settings, Step, TaskLook, Unfinished,
+    CoreLook, Fault, Header, NoteState, QueueLook, Refusal, Reply, Settings, Step, TaskLook,
+    Unfinished,
 };
 use std::alloc::{AllocError, Global};
 use std::marker::Model;
@@ -110,13 +112,15 @@ impl Kernel {
 
     /// Whether the two kernels are equal, and so reply alike to every step from now on.
     ///
-    /// Compared are the settings (cores, priorities, slicing, mutexes, tasks, and how many
+    /// Compared are the settings (cores, priorities, slicing, mutexes, queues, tasks, and how many
     /// notifications each task has), the tick count as 32 bits, each core's current task and flags,
     /// each task's control block, notifications and unfinished call, the holder of each mutex, the
-    /// open hold, and the orders: of each ready list, of the delays with the ticks left, and of the
-    /// waiters of each mutex with their priorities. Of an unfinished call that takes a mutex these
-    /// are the mutex, its mark and the ticks left to its deadline, and not the ticks that it named.
-    /// Not compared are names, the header's arguments, and how a kernel came there.
+    /// length and the messages of each queue, the open hold, and the orders: of each ready list, of
+    /// the delays with the ticks left, and of each event list with the waiting priorities. Of an
+    /// unfinished call that takes a mutex these are the mutex, its mark and the ticks left to its
+    /// deadline, and not the ticks that it named; of one that waits at a queue the queue, whether
+    /// it sends or receives, and the ticks left. Not compared are names, the header's arguments,
+    /// and how a kernel came there.
     pub fn same(&self, other: &Kernel) -> bool
         ensures { (a b : Table) → StandsFor self.now a → StandsFor other.now b
             → ((result ≡ true) ↔ Same a b) }
@@ -321,6 +325,17 @@ impl Kernel {
         ensures task { IfSome result (λ holder. holder < self.now.settings.tasks) }
     {
         self.scheduler.holder(mutex)
+    }
+
+    /// What can be seen of the queue: how many messages it has (`uxQueueMessagesWaiting`), and how
+    /// many it can have.
+    pub fn queue(&self, queue: u32) -> QueueLook
+        requires { queue < queue_total self.now.settings }
+        ensures queue { (table : Table) → StandsFor self.now table
+            → result ≡ queue_at table.queues queue }
+        ensures seen { result ≡ queue_at self.now.queues queue }
+    {
+        self.scheduler.queue(queue)
     }
 
     /// The open hold of the kernel: its core, and how many times over it was opened

@@ -2,10 +2,10 @@
 ghost use Rattle.std.specs.Prelude.{◌≡◌, ℕ, ◌+◌, ◌<◌, ◌≤◌, nat_lt, map, slice_get, [], true, false, IfOk, IfSome, Ok, Some, None, replicate};
 ghost use Rattle.std.specs.Option.{option_map_or};
 ghost use Rattle.bench_types.specs.Header.{header_check};
-ghost use Rattle.bench_types.specs.Step.{call_check, step_check, IsStepOfWords};
+ghost use Rattle.bench_types.specs.Step.{call_check, queue_total, step_check, IsStepOfWords};
 ghost use Rattle.bench_types.specs.Limits.{max_cores, max_depth};
 ghost use Rattle.bench_types.specs.declared.step.Call.TheVariants.{Delay};
-ghost use Rattle.bench_types.specs.declared.step.Step.TheVariants.{Tick, Switch, Interrupt};
+ghost use Rattle.bench_types.specs.declared.step.Step.TheVariants.{Tick, Switch, Interrupt, QueueInterrupt};
 ghost use Rattle.bench_types.specs.declared.step.Step.TheVariants as steps;
 ghost use Rattle.bench_types.specs.declared.step.Unfinished.TheVariants.{Made};
 ghost use Rattle.list_orders.specs.Listings.{IsListing};
@@ -28,6 +28,7 @@ mod first;
 mod holds;
 mod mutexes;
 mod notes;
+mod queues;
 mod raises;
 mod refusals;
 mod sets;
@@ -35,11 +36,12 @@ mod sets;
 use self::first::{first_orders, no_ends, no_waits};
 use crate::deadlines::Deadlines;
 use bench_types::{
-    BlockingCall, Call, CoreLook, Header, Hold, Note, Notification, Reply, Settings, Step,
-    TaskLook, Unfinished,
+    BlockingCall, Call, CoreLook, Direction, Header, Hold, Note, Notification, Reply, Settings,
+    Step, TaskLook, Unfinished,
 };
 use mutex_inherit::Mutexes;
 use notify_core::Notes;
+use queue_core::Queues;
 use ready_core::Cores;
 use std::alloc::{AllocError, Global};
 use std::marker::Model;
@@ -54,6 +56,7 @@ pub struct Scheduler {
     calls: Vec<Option<Unfinished>>,
     notes: Notes,
     mutexes: Mutexes,
+    queues: Queues,
     delays: Delays,
     deadlines: Deadlines,
     /// The open hold, if there is one.
@@ -68,11 +71,11 @@ impl Model for Scheduler {
 
     ghost view = { λ kernel. kernel_view
         (parts_of kernel.settings kernel.cores kernel.calls.items kernel.notes kernel.mutexes
-        kernel.delays kernel.deadlines kernel.hold) };
+        kernel.queues kernel.delays kernel.deadlines kernel.hold) };
 
     ghost invariant = { λ kernel. IsKernelShape
         (parts_of kernel.settings kernel.cores kernel.calls.items kernel.notes kernel.mutexes
-        kernel.delays kernel.deadlines kernel.hold) };
+        kernel.queues kernel.delays kernel.deadlines kernel.hold) };
 }
 
 impl Scheduler {
@@ -108,6 +111,7 @@ impl Scheduler {
         };
         let (cores, mutexes) = first_orders(alloc, header, settings)?;
         let (calls, notes) = no_waits(alloc, tasks, config.notes)?;
+        let queues = Queues::new(alloc, header)?;
         let (delays, deadlines) = no_ends(alloc, config.tick, tasks)?;
         Ok(Scheduler {
             settings,
@@ -115,6 +119,7 @@ impl Scheduler {
             calls,
             notes,
             mutexes,
+            queues,
             delays,
             deadlines,
             hold: None,
@@ -288,6 +293,11 @@ impl Scheduler {
             Step::Switch { core } => self.make_switch(core),
             Step::Call { core, task, call } => self.make_call(core, task, call),
             Step::Interrupt { core, note } => self.make_interrupt(core, note),
+            Step::QueueInterrupt {
+                core,
+                queue,
+                direction,
+            } => self.make_queue_interrupt(core, queue, direction),
         }
     }
 
@@ -342,6 +352,17 @@ impl Scheduler {
         ensures words { IsStepOfWords (Interrupt core note) }
     {
         self.interrupt(core, note)
+    }
+
+    // Nor is one that sends or receives.
+    #[tactic(auto, unfolding(bench_model::specs::Steps::after, bench_model::specs::Steps::performed, bench_model::specs::Refusals::refusal))]
+    fn make_queue_interrupt(&mut self, core: u32, queue: u32, direction: Direction) -> Reply
+        requires { step_check self.old.settings (QueueInterrupt core queue direction) ≡ Ok tt }
+        ensures made { (result, self.new)
+            ≡ after list_queues (QueueInterrupt core queue direction) self.old }
+        ensures words { IsStepOfWords (QueueInterrupt core queue direction) }
+    {
+        self.interrupt_queue(core, direction, queue)
     }
 
     // One tick more. Each task that has waited long enough then is woken, and then time slices end.
@@ -428,6 +449,12 @@ impl Scheduler {
             } => return self.take(core, task, clear, ticks, index),
             Call::MutexTake { mutex, ticks } => return self.take_mutex(core, task, mutex, ticks),
             Call::MutexGive(mutex) => return self.give_mutex(core, task, mutex),
+            Call::QueueSend { queue, ticks } => {
+                return self.send_or_receive(core, task, Direction::Send, queue, ticks);
+            }
+            Call::QueueReceive { queue, ticks } => {
+                return self.send_or_receive(core, task, Direction::Receive, queue, ticks);
+            }
             Call::StateClear { task, index } => return self.clear_state(task, index),
             Call::ValueClear { task, bits, index } => return self.clear_value(task, bits, index),
             Call::Finish => return self.finish(core, task),

@@ -8,7 +8,7 @@ ghost use Rattle.bench_model.specs.Table.{stamp_queues, tick_count};
 
 use super::{SlowTable, notes};
 use bench_model::until::{is_ahead, next_wake};
-use bench_types::{Call, Hold, MAX_DEPTH, Refusal, Step, Unfinished};
+use bench_types::{Call, Direction, Hold, MAX_DEPTH, Refusal, Step, Unfinished};
 
 impl SlowTable {
     pub(super) fn tick_count(&self) -> u32
@@ -90,6 +90,12 @@ impl SlowTable {
                 notes::take_entered(self.note(task, index)).0 && 0 < ticks
             }
             Call::MutexTake { mutex, ticks } => self.holder(mutex).is_some() && 0 < ticks,
+            Call::QueueSend { queue, ticks } => {
+                !self.can_pass(Direction::Send, queue) && 0 < ticks
+            }
+            Call::QueueReceive { queue, ticks } => {
+                !self.can_pass(Direction::Receive, queue) && 0 < ticks
+            }
             _ => false,
         }
     }
@@ -146,7 +152,7 @@ impl SlowTable {
         ensures { result ≡ refusal stamp_queues step.now self.now }
     {
         match *step {
-            Step::Tick | Step::Interrupt { .. } => None,
+            Step::Tick | Step::Interrupt { .. } | Step::QueueInterrupt { .. } => None,
             Step::Switch { .. } if self.hold.is_some() => Some(Refusal::Held),
             Step::Switch { core } => (!self.is_due(core)).then_some(Refusal::NotDue),
             Step::Call { core, .. } if self.is_held_elsewhere(core) => Some(Refusal::Held),

@@ -10,7 +10,7 @@ ghost use Rattle.std.specs.List.{AllByRecursion, prefix_len};
 ghost use Rattle.bench_model.specs.Waiters.{first_of, waits_first, with_waiter};
 
 use super::{SlowTable, notes};
-use bench_types::{MutexWait, Reply, Unfinished, Waiter};
+use bench_types::{EventWait, Reply, Unfinished, Waiter};
 use std::alloc::{AllocError, Global};
 
 impl SlowTable {
@@ -100,16 +100,16 @@ impl SlowTable {
         self.deadlines[task as usize] = deadline;
     }
 
-    // The task waits in its call for a mutex.
+    // The task waits in its call in an event list.
     #[tactic(auto, unfolding(bench_model::specs::State::blocked, bench_model::specs::Table::delay))]
-    fn block_at(
+    pub(super) fn block_at(
         &mut self,
         alloc: Global,
         core: u32,
         task: u32,
         call: Unfinished,
         ticks: Option<u32>,
-        wait: MutexWait,
+        wait: EventWait,
     ) -> Result<(), AllocError>
         requires core { core < length self.old.control.cores }
         requires task { task < length self.old.orders.rows }
@@ -128,7 +128,7 @@ impl SlowTable {
 
     // The priority that the task begins to wait with: its list value, or its priority in use where
     // the session has no list values.
-    fn waiting_priority(&self, task: u32) -> u32
+    pub(super) fn waiting_priority(&self, task: u32) -> u32
         requires { task < length self.now.orders.rows }
         ensures { result ≡ waiting_priority stamp_queues task self.now }
     {
@@ -165,7 +165,10 @@ impl SlowTable {
             task,
             call,
             ticks,
-            MutexWait { mutex, priority },
+            EventWait {
+                list: mutex,
+                priority,
+            },
         )
     }
 
@@ -197,13 +200,13 @@ impl SlowTable {
         Ok(Reply::Blocked)
     }
 
-    // The first waiter of the mutex.
+    // The first waiter of the event list.
     #[tactic(auto, unfolding(bench_model::specs::Table::first_waiter))]
-    fn first_waiting(&self, mutex: u32) -> Option<Waiter>
-        ensures first { result ≡ first_waiter mutex self.now.orders }
+    fn first_waiting(&self, list: u32) -> Option<Waiter>
+        ensures first { result ≡ first_waiter list self.now.orders }
         ensures task { IfSome result (λ waiter. waiter.task < length self.now.orders.rows) }
     {
-        first_of(mutex, self.waiters())
+        first_of(list, self.waiters())
     }
 
     fn owed(&self, task: u32, mutex: u32) -> u32
@@ -245,7 +248,7 @@ impl SlowTable {
     }
 
     #[tactic(auto, unfolding(bench_model::specs::Table::forget_deadline))]
-    fn end_call(&mut self, task: u32)
+    pub(super) fn end_call(&mut self, task: u32)
         requires { task < length self.old.orders.rows }
         ensures ended { self.new ≡ after_return stamp_queues task self.old }
         ensures rows { length self.new.orders.rows ≡ length self.old.orders.rows }
@@ -255,9 +258,9 @@ impl SlowTable {
         self.deadlines[task as usize] = None;
     }
 
-    // The ticks that are left of the task's wait for a mutex.
+    // The ticks that are left of the task's wait for an event.
     #[tactic(auto, unfolding(bench_model::specs::Table::deadline_left))]
-    fn deadline_left(&self, task: u32) -> Option<u32>
+    pub(super) fn deadline_left(&self, task: u32) -> Option<u32>
         requires task { task < length self.now.orders.rows }
         requires near { IfSome (deadline_at self.now.orders task)
             (λ deadline. deadline < self.now.orders.tick + 2 ^ 32) }
@@ -328,6 +331,9 @@ impl SlowTable {
             Some(Unfinished::Take { mutex, mark }) => {
                 self.finish_take(alloc, core, task, mutex, mark)
             }
+            Some(Unfinished::Transfer { queue, direction }) => {
+                self.finish_transfer(alloc, core, task, direction, queue)
+            }
         }
     }
 
@@ -346,11 +352,12 @@ impl SlowTable {
     }
 
     #[tactic(auto, unfolding(bench_model::specs::Mutexes::first_woken))]
-    fn wake_first(&mut self, acting: u32, mutex: u32)
+    pub(super) fn wake_first(&mut self, acting: u32, list: u32)
         requires room { self.old.orders.next + 1 < 2 ^ 128 }
-        ensures { self.new ≡ first_woken stamp_queues acting mutex self.old }
+        ensures woken { self.new ≡ first_woken stamp_queues acting list self.old }
+        ensures settings { self.new.settings ≡ self.old.settings }
     {
-        if let Some(waiter) = self.first_waiting(mutex) {
+        if let Some(waiter) = self.first_waiting(list) {
             self.wake(acting, waiter.task);
         }
     }
@@ -372,14 +379,14 @@ impl SlowTable {
     }
 }
 
-// The first of the waiters that waits for the mutex.
-fn first_of(mutex: u32, waiters: &[Waiter]) -> Option<Waiter>
-    ensures { result ≡ first_of mutex waiters.now }
+// The first of the waiters of the event list.
+fn first_of(list: u32, waiters: &[Waiter]) -> Option<Waiter>
+    ensures { result ≡ first_of list waiters.now }
 {
     waiters
         .iter()
         .copied()
-        .find(|waiter| waiter.wait.mutex == mutex)
+        .find(|waiter| waiter.wait.list == list)
 }
 
 // The waiters with one more, before the first that does not stay in front of it.
@@ -406,5 +413,5 @@ fn waits_first(one: &Waiter, other: &Waiter) -> bool
     ensures { result ≡ waits_first one.now other.now }
 {
     let (a, b) = (one.wait, other.wait);
-    a.mutex < b.mutex || (a.mutex == b.mutex && b.priority <= a.priority)
+    a.list < b.list || (a.list == b.list && b.priority <= a.priority)
 }

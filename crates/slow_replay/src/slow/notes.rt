@@ -61,7 +61,7 @@ impl SlowTable {
         passes(note.action, before.state)
     }
 
-    fn has_asked_itself(&self, core: u32) -> bool
+    pub(super) fn has_asked_itself(&self, core: u32) -> bool
         requires { core < self.now.settings.cores }
         ensures { result ≡ (core_at self.now.control core).pend }
     {

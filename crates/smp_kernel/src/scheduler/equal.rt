@@ -19,6 +19,7 @@ impl Scheduler {
     {
         let (cores, mutexes) = copied_orders(alloc, &self.cores, &self.mutexes)?;
         let (calls, notes) = copied_waits(alloc, &self.calls, &self.notes)?;
+        let queues = self.queues.copy(alloc)?;
         let (delays, deadlines) = copied_ends(alloc, &self.delays, &self.deadlines)?;
         Ok(Scheduler {
             settings: self.settings,
@@ -26,6 +27,7 @@ impl Scheduler {
             calls,
             notes,
             mutexes,
+            queues,
             delays,
             deadlines,
             hold: self.hold,
@@ -41,6 +43,7 @@ impl Scheduler {
         self.calls.copy_from_slice(&other.calls);
         self.notes.copy_from(&other.notes);
         self.mutexes.copy_from(&other.mutexes);
+        self.queues.copy_from(&other.queues);
         self.delays.copy_from(&other.delays);
         self.deadlines.copy_from(&other.deadlines);
         self.hold = other.hold;
@@ -82,14 +85,15 @@ impl Scheduler {
     }
 
     // Whether the cores, the control blocks and the orders of tasks but that of delays are equal,
-    // and the holders of mutexes.
+    // the holders of mutexes and the messages of queues.
     fn has_same_orders(&self, other: &Self) -> bool
         requires { self.now.settings ≡ other.now.settings }
         ensures { IsTrue result ↔ HasSameOrders self.now other.now }
     {
         // Nested, so that each test is proved where those before it hold.
         self.cores.same(&other.cores)
-            && (self.mutexes.same(&other.mutexes) && self.deadlines.same(&other.deadlines))
+            && (self.mutexes.same(&other.mutexes)
+                && (self.queues.same(&other.queues) && self.deadlines.same(&other.deadlines)))
     }
 }
 

@@ -3,6 +3,7 @@ ghost use Rattle.std.specs.Prelude.{◌≡◌, ◌<◌, ◌+◌, ◌*◌, ◌^�
 ghost use Rattle.bench_types.specs.Header.{header_check};
 ghost use Rattle.bench_model.specs.Cores.{cores_of};
 ghost use Rattle.bench_model.specs.Start.{first_lists, first_values, unstarted};
+ghost use Rattle.bench_model.specs.Waiters.{event_lists};
 ghost use Rattle.mutex_inherit.specs.Parts.{free_mutexes};
 ghost use Rattle.notify_core.specs.Parts.{fresh_notes};
 ghost use Rattle.tick_delay.specs.Parts.{no_delays};
@@ -22,20 +23,29 @@ pub(super) fn first_orders(
     settings: Settings,
 ) -> Result<(Cores, Mutexes), AllocError>
     requires passes { header_check header.now ≡ Ok tt }
-    requires few { settings.tasks + settings.mutexes < 2 ^ 32 }
+    requires few { settings.tasks + event_lists settings < 2 ^ 32 }
     requires priorities { settings.priorities ≡ header.now.config.priorities }
     ensures cores { IfOk result
         (λ parts. parts.0 ≡ cores_of (unstarted (first_lists header.now) header.now)) }
     ensures mutexes { IfOk result
         (λ parts. parts.1
-        ≡ free_mutexes settings.tasks settings.priorities settings.mutexes
+        ≡ free_mutexes settings.tasks settings.priorities settings.mutexes (event_lists settings)
         (first_values header.now)) }
 {
     let cores = Cores::new(alloc, header)?;
     let (tasks, priorities) = (settings.tasks, settings.priorities);
     let values = first_values(alloc, header, &cores)?;
-    let mutexes = Mutexes::new(alloc, tasks, priorities, settings.mutexes, values)?;
+    let lists = event_lists(settings);
+    let mutexes = Mutexes::new(alloc, tasks, priorities, settings.mutexes, lists, values)?;
     Ok((cores, mutexes))
+}
+
+// How many event lists there are: one for each mutex, and two for each queue.
+fn event_lists(settings: Settings) -> u32
+    requires { event_lists settings < 2 ^ 32 }
+    ensures { result ≡ event_lists settings }
+{
+    settings.mutexes + 2 * settings.queues.unwrap_or(0)
 }
 
 // Each task's list value is its base priority, where the session has list values.

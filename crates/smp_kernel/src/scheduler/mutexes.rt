@@ -59,7 +59,7 @@ impl Scheduler {
     }
 
     // The unfinished call of the task returns, or the task waits again for the mutex that its call
-    // takes.
+    // takes, or for a message to go.
     #[tactic(auto, unfolding(bench_model::specs::Steps::after_finish))]
     pub(super) fn finish(&mut self, core: u32, task: u32) -> Reply
         requires core { core < self.old.settings.cores }
@@ -79,12 +79,15 @@ impl Scheduler {
                 self.complete(task, call)
             }
             Unfinished::Take { mutex, mark } => self.finish_take(core, task, mutex, mark),
+            Unfinished::Transfer { queue, direction } => {
+                self.finish_transfer(core, task, direction, queue)
+            }
         }
     }
 
     // The task's unfinished call is over.
     #[tactic(auto, unfolding(bench_model::specs::Lists::forget_deadline))]
-    fn end_call(&mut self, task: u32)
+    pub(super) fn end_call(&mut self, task: u32)
         requires { task < self.old.settings.tasks }
         ensures { self.new ≡ after_return list_queues task self.old }
     {

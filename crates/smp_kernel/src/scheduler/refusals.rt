@@ -10,7 +10,7 @@ ghost use Rattle.bench_model.specs.Refusals.{call_refusal, give_refusal, would_b
 use super::Scheduler;
 use bench_model::notes::is_received;
 use bench_model::until::{is_ahead, next_wake};
-use bench_types::{Call, MAX_DEPTH, Refusal, Step, Unfinished};
+use bench_types::{Call, Direction, MAX_DEPTH, Refusal, Step, Unfinished};
 
 impl Scheduler {
     // A tick and an interrupt never are.
@@ -20,7 +20,7 @@ impl Scheduler {
         ensures { result ≡ refusal list_queues step.now self.now }
     {
         match *step {
-            Step::Tick | Step::Interrupt { .. } => None,
+            Step::Tick | Step::Interrupt { .. } | Step::QueueInterrupt { .. } => None,
             Step::Switch { core } => self.switch_refusal(core),
             Step::Call { core, task, call } => self.call_refusal(core, task, call),
         }
@@ -126,6 +126,12 @@ impl Scheduler {
                 self.notes.value(task, index) == 0 && ticks > 0
             }
             Call::MutexTake { mutex, ticks } => self.mutexes.holder(mutex).is_some() && ticks > 0,
+            Call::QueueSend { queue, ticks } => {
+                !self.queues.can_pass(Direction::Send, queue) && ticks > 0
+            }
+            Call::QueueReceive { queue, ticks } => {
+                !self.queues.can_pass(Direction::Receive, queue) && ticks > 0
+            }
             _ => false,
         }
     }

@@ -7,7 +7,8 @@ use Rattle.mutex_inherit.proofs.mutexes.Mutexes.leave.Goals as goal
 
 pub invariant_of-self : goal.invariant_of-self
 invariant_of-self c = rw c.remove.ensures (record {
-  few_mutexes = c.self.invariant.few_mutexes;
+  few_lists = c.self.invariant.few_lists;
+  of_mutexes = c.self.invariant.of_mutexes;
   held_by_tasks = c.self.invariant.held_by_tasks;
   items = c.self.invariant.items;
   each = length-map c.self.inside.lists.lists (without_item c.args.task) ∙ c.self.invariant.each;
@@ -16,4 +17,4 @@ invariant_of-self c = rw c.remove.ensures (record {
 })
 
 pub returns : goal.returns
-returns c = rw c.remove.ensures (seen_leave _ _ _ _ c.self.inside.lists _ c.self.view_is c.args.task)
+returns c = rw c.remove.ensures (seen_leave _ _ _ _ _ c.self.inside.lists _ c.self.view_is c.args.task)

@@ -13,7 +13,8 @@ invariant_of-self c =
     let below : c.args.value < n = omega (arith, c.requires.value, ap (λ (view : MutexPart). view.priorities) c.self.view_is) in
     let rows = c.self.inside.lists.lists in
     rw c.set_key.ensures (record {
-      few_mutexes = c.self.invariant.few_mutexes;
+      few_lists = c.self.invariant.few_lists;
+      of_mutexes = c.self.invariant.of_mutexes;
       held_by_tasks = c.self.invariant.held_by_tasks;
       items = c.self.invariant.items;
       each = length-map rows (map (keyed c.args.task (n - c.args.value))) ∙ c.self.invariant.each;
@@ -29,4 +30,4 @@ returns-then-task-len c =
       ap (λ (view : MutexPart). view.priorities) c.self.view_is,
     ) in
     let low : c.args.task < length c.self.inside.values.items = omega (arith, c.if-task-len.true, c.len.ensures) in
-    rw c.set_key.ensures (seen_valued _ _ _ _ c.self.inside.lists _ c.self.view_is c.args.task c.args.value below low)
+    rw c.set_key.ensures (seen_valued _ _ _ _ _ c.self.inside.lists _ c.self.view_is c.args.task c.args.value below low)

@@ -15,7 +15,7 @@ loop-waiter-preserved c =
     let at = c.loop-waiter.waiter-index in
     let now = c.loop-waiter.waiters in
     let first = c.args.waiters.now in
-    let none : Waiter = record { task = 0; wait = record { mutex = 0; priority = 0 } } in
+    let none : Waiter = record { task = 0; wait = record { list = 0; priority = 0 } } in
     let same = ap length c.loop-waiter.invariant ∙ changed_length change at first in
     let low : at < length now = omega (arith, c.loop-waiter-test.true, same) in
     let below : at < length first = omega (arith, low, same) in

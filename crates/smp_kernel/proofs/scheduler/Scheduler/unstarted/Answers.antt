@@ -3,7 +3,7 @@ use Rattle.std.proofs.Math.Nat.{mul-le-mul}
 use Rattle.bench_types.proofs.Passes.{checked_header}
 use Rattle.bench_types.specs.Limits.{max_cores, max_tasks}
 use Rattle.tick_delay.specs.Parts.{DelayView}
-use Rattle.smp_kernel.proofs.Firsts.{seen_unstarted, first_kernel_shape}
+use Rattle.smp_kernel.proofs.Firsts.{few_event_lists, seen_unstarted, first_kernel_shape}
 use Rattle.smp_kernel.proofs.scheduler.Scheduler.unstarted.Goals as goal
 
 pub no_waits-requires : goal.no_waits-requires
@@ -14,6 +14,12 @@ no_waits-requires c =
     let long = ap (λ tasks. (c.args.header.now.config.cores + length tasks) * c.args.header.now.config.notes) c.as_slice.ensures in
     omega (arith, most, long)
 
+pub first_orders-requires-clause-few : goal.first_orders-requires-clause-few
+first_orders-requires-clause-few c =
+    let facts = checked_header c.args.header.now c.requires in
+    let few = few_event_lists c.args.header.now c.requires in
+    rw (c.as_slice.ensures, c.queue_count.ensures) (omega (arith, few, facts.few_cores, facts.few_tasks))
+
 pub invariant_of-result : goal.invariant_of-result
 invariant_of-result c =
     rw (
@@ -21,6 +27,7 @@ invariant_of-result c =
       c.in_ok-calls.ensures.calls,
       c.in_ok-calls.ensures.notes,
       c.in_ok-cores.ensures.mutexes,
+      c.in_ok-queues.ensures,
       c.in_ok-delays.ensures.delays,
       c.in_ok-delays.ensures.deadlines,
       c.as_slice.ensures,
@@ -36,6 +43,7 @@ returns c =
       c.in_ok-calls.ensures.calls,
       c.in_ok-calls.ensures.notes,
       c.in_ok-cores.ensures.mutexes,
+      c.in_ok-queues.ensures,
       c.in_ok-delays.ensures.delays,
       c.in_ok-delays.ensures.deadlines,
       c.as_slice.ensures,

@@ -1,0 +1,6 @@
+//! Queues and semaphores: how many messages each has.
+#![tactic(auto)]
+
+mod queues;
+
+pub use queues::Queues;

@@ -207,6 +207,12 @@ mutex_text mutex count =
     then codes "mutex " ++ decimal mutex ++ codes " is none: the session has no mutexes"
     else none_of_text (codes "mutex") mutex (codes "mutexes") count
 
+abbrev pub no_queue_text : ℕ → ℕ → List ℕ
+no_queue_text queue count =
+    if count == 0
+    then codes "queue " ++ decimal queue ++ codes " is none: the session has no queues"
+    else none_of_text (codes "queue") queue (codes "queues") count
+
 abbrev pub mask_text : ℕ → ℕ → List ℕ
 mask_text mask cores =
     codes "mask " ++ decimal mask ++ codes " has no bit below bit " ++ decimal cores
@@ -216,6 +222,7 @@ step_flaw_text (flaws.Core core cores) = none_of_text (codes "core") core (codes
 step_flaw_text (flaws.TickCore core) = codes "only core 0 has ticks"
 step_flaw_text (flaws.Task task) = codes "no user task has such a name"
 step_flaw_text (flaws.Mutex mutex mutexes) = mutex_text mutex mutexes
+step_flaw_text (flaws.Queue queue queues) = no_queue_text queue queues
 step_flaw_text (flaws.Mask mask cores) = mask_text mask cores
 step_flaw_text flaws.Increment = codes "inc has to be 1 or more"
 step_flaw_text (flaws.Index index notes) =

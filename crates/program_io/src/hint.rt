@@ -5,7 +5,7 @@ ghost use Rattle.serde_json.specs.Read.{read};
 ghost use Rattle.bench_types.specs.declared.step_flaw.StepFlaw.TheVariants.{NewPriority};
 ghost use Rattle.session_text.specs.declared.detail.Detail.TheVariants.{Limit, NoTask, OnePerCore};
 ghost use Rattle.session_text.specs.declared.fault.Why.TheVariants.{NoMemory};
-ghost use Rattle.program_io.specs.Hint.{bad_name_text, header_line, IsFaultHint, IsNotJsonHint, IsShortTextHint, TellsLocation, expected_text, fault_line, flaw_text, found_text, limits_text, line_at, mask_text, member_text, mutex_text, nearest_name_text, nearest_text, no_name_text, no_word_text, none_of_text, number_text, queue_text, quoted, shape_text, step_flaw_text, task_limit_text, task_text, too_long_line, too_many_steps_line, unknown_text, whole_text, word_text, words_text, wrong_text};
+ghost use Rattle.program_io.specs.Hint.{bad_name_text, header_line, IsFaultHint, IsNotJsonHint, IsShortTextHint, TellsLocation, expected_text, fault_line, flaw_text, found_text, limits_text, line_at, mask_text, member_text, mutex_text, nearest_name_text, nearest_text, no_name_text, no_queue_text, no_word_text, none_of_text, number_text, queue_text, quoted, shape_text, step_flaw_text, task_limit_text, task_text, too_long_line, too_many_steps_line, unknown_text, whole_text, word_text, words_text, wrong_text};
 
 use crate::placed::{fault_location, flaw_path, push_location};
 use bench_types::{
@@ -308,7 +308,7 @@ fn push_none_of(
     word: &str,
     number: u32,
     words: &str,
-    count: u32,
+    count: usize,
 ) -> Result<(), AllocError>
     ensures { OnOk result
         (string_bytes text.new
@@ -325,7 +325,18 @@ fn push_mutex(text: &mut String, mutex: u32, mutexes: u32) -> Result<(), AllocEr
     if mutexes == 0 {
         write!(text, "mutex {mutex} is none: the session has no mutexes")
     } else {
-        push_none_of(text, "mutex", mutex, "mutexes", mutexes)
+        push_none_of(text, "mutex", mutex, "mutexes", mutexes as usize)
+    }
+}
+
+fn push_no_queue(text: &mut String, queue: u32, queues: usize) -> Result<(), AllocError>
+    ensures { OnOk result
+        (string_bytes text.new ≡ string_bytes text.old ++ no_queue_text queue queues) }
+{
+    if queues == 0 {
+        write!(text, "queue {queue} is none: the session has no queues")
+    } else {
+        push_none_of(text, "queue", queue, "queues", queues)
     }
 }
 
@@ -347,16 +358,19 @@ fn push_step_flaw(text: &mut String, flaw: StepFlaw) -> Result<(), AllocError>
     ensures { OnOk result (string_bytes text.new ≡ string_bytes text.old ++ step_flaw_text flaw) }
 {
     match flaw {
-        StepFlaw::Core { core, cores } => push_none_of(text, "core", core, "cores", cores),
+        StepFlaw::Core { core, cores } => {
+            push_none_of(text, "core", core, "cores", cores as usize)
+        }
         StepFlaw::TickCore(_) => text.push_str("only core 0 has ticks"),
         StepFlaw::Task(_) => text.push_str("no user task has such a name"),
         StepFlaw::Mutex { mutex, mutexes } => push_mutex(text, mutex, mutexes),
+        StepFlaw::Queue { queue, queues } => push_no_queue(text, queue, queues),
         StepFlaw::Mask { mask, cores } | StepFlaw::NewMask { mask, cores } => {
             push_mask(text, mask, cores)
         }
         StepFlaw::Increment => text.push_str("inc has to be 1 or more"),
         StepFlaw::Index { index, notes } => {
-            push_none_of(text, "index", index, "notifications", notes)
+            push_none_of(text, "index", index, "notifications", notes as usize)
         }
         StepFlaw::NewPriority {
             priority,

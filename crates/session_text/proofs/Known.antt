@@ -58,6 +58,8 @@ of_call format (call.ValueClear task bits index) ms known =
     ms known
 of_call format (call.MutexTake mutex ticks) ms known = known
 of_call format (call.MutexGive mutex) ms known = known
+of_call format (call.QueueSend queue ticks) ms known = known
+of_call format (call.QueueReceive queue ticks) ms known = known
 of_call format call.Finish ms known = known
 of_call format call.HoldOpen ms known = known
 of_call format call.HoldClose ms known = known
@@ -69,6 +71,7 @@ known_in format (step.Switch core) ms known = known
 known_in format (step.Call core task made) ms known = of_call format made ms known
 known_in format (step.Interrupt core note) ms known =
     of_interrupt format (action_number note.action) ms known
+known_in format (step.QueueInterrupt core queue direction) ms known = known
 
 same_of_call : (made : Call) → members_of_call Three made ≡ members_of_call Two made
 same_of_call call.Yield = refl
@@ -85,6 +88,8 @@ same_of_call (call.StateClear task index) = refl
 same_of_call (call.ValueClear task bits index) = refl
 same_of_call (call.MutexTake mutex ticks) = refl
 same_of_call (call.MutexGive mutex) = refl
+same_of_call (call.QueueSend queue ticks) = refl
+same_of_call (call.QueueReceive queue ticks) = refl
 same_of_call call.Finish = refl
 same_of_call call.HoldOpen = refl
 same_of_call call.HoldClose = refl
@@ -95,3 +100,4 @@ same_in_three step.Tick = refl
 same_in_three (step.Switch core) = refl
 same_in_three (step.Call core task made) = same_of_call made
 same_in_three (step.Interrupt core note) = refl
+same_in_three (step.QueueInterrupt core queue direction) = refl

@@ -7,3 +7,4 @@ mod Loops
 mod NearWords
 mod NewNames
 mod Scripts
+mod StepWords

@@ -1,7 +1,7 @@
 -- Lists at references, as the definitions see them.
-use Rattle.std.proofs.Common.{◌≡◌, ℕ, Bool, not, ◌||◌, List, [], ◌∷◌, drop, map, ap, refl, sym}
+use Rattle.std.proofs.Common.{◌≡◌, ℕ, Bool, not, ◌||◌, List, [], ◌∷◌, drop, take, map, ap, refl, sym}
 use Rattle.std.specs.List.{list_any, prefix_len, position}
-use Rattle.std.proofs.lemmas.List.{drop-map, length-map}
+use Rattle.std.proofs.lemmas.List.{drop-map, length-map, take-map}
 
 -- a test of what is seen
 pub list_any_map : {A B : Type 0} (test : B → Bool) (see : A → B) (xs : List A) → list_any test (map see xs) ≡ list_any (λ x. test (see x)) xs
@@ -19,3 +19,7 @@ position_map test see xs = rw (prefix_len_map (λ y. not (test y)) see xs, lengt
 -- what is seen of all but the first ones
 pub map_drop : {A B : Type 0} (see : A → B) (n : ℕ) (xs : List A) → map see (drop n xs) ≡ drop n (map see xs)
 map_drop see n xs = sym (drop-map see n xs)
+
+-- and of the first ones
+pub map_take : {A B : Type 0} (see : A → B) (n : ℕ) (xs : List A) → map see (take n xs) ≡ take n (map see xs)
+map_take see n xs = sym (take-map see n xs)

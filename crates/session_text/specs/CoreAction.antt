@@ -1,5 +1,5 @@
 -- An action of a script: a step that doesn't say on which core, nor by which task.
-use Rattle.std.specs.Prelude.{ℕ, List, Result, Ok}
+use Rattle.std.specs.Prelude.{ℕ, List, codes, Result, Ok}
 use Rattle.serde_json.specs.Data.{Data}
 use Rattle.bench_types.specs.declared.core_action.CoreAction.{CoreAction}
 use Rattle.bench_types.specs.declared.core_action.CoreAction.TheVariants as core_action
@@ -8,7 +8,7 @@ use Rattle.session_text.specs.declared.format.Format.{Format}
 use Rattle.session_text.specs.declared.step.Kind.{Kind}
 use Rattle.session_text.specs.declared.step.Kind.TheVariants as kind
 use Rattle.session_text.specs.Array.{each_at}
-use Rattle.session_text.specs.Member.{object_at, items_at, only_at}
+use Rattle.session_text.specs.Member.{object_at, items_at, number_at, only_at}
 use Rattle.session_text.specs.Names.{TaskNames}
 use Rattle.session_text.specs.ReadingRules.{◌>>=◌}
 use Rattle.session_text.specs.Step.{call_at, kind_at, members_of_core_action, note_at}
@@ -23,11 +23,14 @@ core_action_of_kind_at format names (kind.Call which) at d = do
 core_action_of_kind_at format names kind.Interrupt at d = do
   note ← note_at format names at d
   Ok (core_action.Interrupt note)
+core_action_of_kind_at format names (kind.QueueInterrupt direction) at d = do
+  queue ← number_at at (codes "queue") d
+  Ok (core_action.QueueInterrupt queue direction)
 
 unfoldable pub core_action_at : Format → TaskNames → List ℕ → Data → Result CoreAction TextFault
 core_action_at format names at d = do
   members ← object_at at d
-  which ← kind_at at d
+  which ← kind_at format at d
   made ← core_action_of_kind_at format names which at d
   only ← only_at at (members_of_core_action format made) members
   Ok made

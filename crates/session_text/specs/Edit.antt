@@ -1,5 +1,5 @@
 -- An edit: `edit` says which, and after it stand the members of its kind.
-use Rattle.std.specs.Prelude.{ℕ, List, [], ◌∷◌, codes, bytes_eq, find, Option, Some, option_map, Result, Ok}
+use Rattle.std.specs.Prelude.{ℕ, List, [], ◌∷◌, codes, bytes_eq, find, Option, Some, option_map, is_some, Result, Ok, if◌then◌else◌}
 use Rattle.serde_json.specs.Data.{Data}
 use Rattle.bench_types.specs.declared.header.Header.{Header}
 use Rattle.bench_types.specs.declared.step.Step.{Step}
@@ -9,7 +9,7 @@ use Rattle.bench_types.specs.StepFlaw.{edit_flaw}
 use Rattle.session_text.specs.declared.detail.Detail.TheVariants.{NoWord}
 use Rattle.session_text.specs.declared.fault.TextFault.{TextFault}
 use Rattle.session_text.specs.declared.format.Format.{Format}
-use Rattle.session_text.specs.declared.format.Format.TheVariants.{Two}
+use Rattle.session_text.specs.declared.format.Format.TheVariants.{Two, Three}
 use Rattle.session_text.specs.declared.edit.EditKind.{EditKind}
 use Rattle.session_text.specs.declared.edit.EditKind.TheVariants.{Insert, Remove, Replace, Change}
 use Rattle.session_text.specs.Accepted.{item_accepted}
@@ -75,10 +75,15 @@ edit_at format names at d = do
   only ← only_at at (edit_members_of which) members
   Ok made
 
--- an edit under a header, or its first fault; its step may have an index, as in the second format
+-- the format that an edit is read in where it stands alone: the third where the header says which
+-- queues there are, else the second, so its step may have an index
+abbrev pub lone_format : Header → Format
+lone_format header = if is_some header.queues then Three else Two
+
+-- an edit under a header, or its first fault
 unfoldable pub lone_edit_at : Header → List ℕ → Data → Result Edit TextFault
 lone_edit_at header at d = do
-  made ← edit_at Two (names_of header) at d
+  made ← edit_at (lone_format header) (names_of header) at d
   done ← item_accepted (user_names header) at (Some d) (edit_flaw header made)
   Ok made
 

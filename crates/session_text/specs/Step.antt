@@ -1,5 +1,5 @@
 -- A step: `do` says which, and after it stand the members of its kind.
-use Rattle.std.specs.Prelude.{ℕ, List, [], ◌∷◌, codes, bytes_eq, find, Option, Some, None, option_map, Result, Ok}
+use Rattle.std.specs.Prelude.{ℕ, List, [], ◌∷◌, ◌++◌, codes, bytes_eq, find, Option, Some, None, option_map, Result, Ok}
 use Rattle.serde_json.specs.Data.{Data}
 use Rattle.bench_types.specs.declared.core_action.CoreAction.{CoreAction}
 use Rattle.bench_types.specs.declared.core_action.CoreAction.TheVariants as core_action
@@ -8,6 +8,8 @@ use Rattle.bench_types.specs.declared.step.Step.{Step}
 use Rattle.bench_types.specs.declared.step.Step.TheVariants as step
 use Rattle.bench_types.specs.declared.step.Call.{Call}
 use Rattle.bench_types.specs.declared.step.Call.TheVariants as call
+use Rattle.bench_types.specs.declared.step.Direction.{Direction}
+use Rattle.bench_types.specs.declared.step.Direction.TheVariants.{Send, Receive}
 use Rattle.session_text.specs.declared.detail.Detail.TheVariants.{NoWord}
 use Rattle.session_text.specs.declared.fault.TextFault.{TextFault}
 use Rattle.session_text.specs.declared.step.Kind.{Kind}
@@ -15,6 +17,7 @@ use Rattle.session_text.specs.declared.step.Kind.TheVariants as kind
 use Rattle.session_text.specs.declared.call.CallKind.{CallKind}
 use Rattle.session_text.specs.declared.call.CallKind.TheVariants as callkind
 use Rattle.session_text.specs.declared.format.Format.{Format}
+use Rattle.session_text.specs.declared.format.Format.TheVariants.{One, Two, Three}
 use Rattle.session_text.specs.Detail.{words_of}
 use Rattle.session_text.specs.NotifyAction.{action_at, action_number}
 use Rattle.session_text.specs.Format.{index_at, index_member}
@@ -24,7 +27,7 @@ use Rattle.session_text.specs.Nearest.{stray}
 use Rattle.session_text.specs.ReadingRules.{◌>>=◌, found}
 use Rattle.session_text.specs.Path.{member_path}
 
--- the words of `do`
+-- the words of `do` that each format has
 abbrev pub kinds : List (List ℕ × Kind)
 kinds =
     (codes "tick", kind.Tick) ∷
@@ -48,13 +51,34 @@ kinds =
     (codes "hold_open", kind.Call callkind.HoldOpen) ∷
     (codes "hold_close", kind.Call callkind.HoldClose) ∷ []
 
-abbrev pub kind_of : List ℕ → Option Kind
-kind_of word = option_map (λ entry. entry.1) (find (λ entry. bytes_eq word entry.0) kinds)
+-- those that the third alone has
+abbrev pub queue_kinds : List (List ℕ × Kind)
+queue_kinds =
+    (codes "queue_send", kind.Call callkind.QueueSend) ∷
+    (codes "queue_receive", kind.Call callkind.QueueReceive) ∷
+    (codes "isr_send", kind.QueueInterrupt Send) ∷
+    (codes "isr_receive", kind.QueueInterrupt Receive) ∷ []
 
-unfoldable pub kind_at : List ℕ → Data → Result Kind TextFault
-kind_at at d = do
+-- those that the format has beside the ones that each has
+abbrev pub further_kinds : Format → List (List ℕ × Kind)
+further_kinds One = []
+further_kinds Two = []
+further_kinds Three = queue_kinds
+
+-- the words of `do` in a format
+abbrev pub kinds_in : Format → List (List ℕ × Kind)
+kinds_in format = kinds ++ further_kinds format
+
+-- what a word is among others
+abbrev pub kind_among : List (List ℕ × Kind) → List ℕ → Option Kind
+kind_among entries word =
+    option_map (λ entry. entry.1) (find (λ entry. bytes_eq word entry.0) entries)
+
+unfoldable pub kind_at : Format → List ℕ → Data → Result Kind TextFault
+kind_at format at d = do
   word ← text_at at (codes "do") d
-  found (kind_of word) (member_path at (codes "do")) (NoWord (stray word (words_of kinds)))
+  found (kind_among (kinds_in format) word) (member_path at (codes "do"))
+      (NoWord (stray word (words_of (kinds_in format))))
 
 -- the members of a notification: `value` is one where the action has a number
 abbrev pub note_members : Format → Option ℕ → List (List ℕ)
@@ -81,6 +105,8 @@ arguments_of format (call.ValueClear task bits index) =
     codes "to" ∷ codes "bits" ∷ index_member format
 arguments_of format (call.MutexTake mutex ticks) = codes "mutex" ∷ codes "ticks" ∷ []
 arguments_of format (call.MutexGive mutex) = codes "mutex" ∷ []
+arguments_of format (call.QueueSend queue ticks) = codes "queue" ∷ codes "ticks" ∷ []
+arguments_of format (call.QueueReceive queue ticks) = codes "queue" ∷ codes "ticks" ∷ []
 arguments_of format call.Finish = []
 arguments_of format call.HoldOpen = []
 arguments_of format call.HoldClose = []
@@ -92,6 +118,8 @@ members_of_core_action format core_action.Switch = codes "do" ∷ []
 members_of_core_action format (core_action.Call made) = codes "do" ∷ arguments_of format made
 members_of_core_action format (core_action.Interrupt note) =
     codes "do" ∷ note_members format (action_number note.action)
+members_of_core_action format (core_action.QueueInterrupt queue direction) =
+    codes "do" ∷ codes "queue" ∷ []
 
 -- a step has `core` beside the members of its action, and a call has `by` too
 abbrev pub members_of_call : Format → Call → List (List ℕ)
@@ -106,6 +134,8 @@ members_of format step.Tick = members_of_core_action format core_action.Tick
 members_of format (step.Switch core) = codes "core" ∷ members_of_core_action format core_action.Switch
 members_of format (step.Call core task made) = members_of_call format made
 members_of format (step.Interrupt core note) = members_of_interrupt format note
+members_of format (step.QueueInterrupt core queue direction) =
+    codes "core" ∷ members_of_core_action format (core_action.QueueInterrupt queue direction)
 
 -- the number of the task that a member names
 unfoldable pub task_named_at : TaskNames → List ℕ → List ℕ → Data → Result ℕ TextFault
@@ -128,6 +158,17 @@ wait_at format at d = do
   ticks ← number_at at (codes "ticks") d
   index ← index_at format at d
   Ok (call.NotifyWait entry exit ticks index)
+
+-- a call by which a message goes into a queue or out of it
+unfoldable pub transfer_at : Direction → List ℕ → Data → Result Call TextFault
+transfer_at Send at d = do
+  queue ← number_at at (codes "queue") d
+  ticks ← number_at at (codes "ticks") d
+  Ok (call.QueueSend queue ticks)
+transfer_at Receive at d = do
+  queue ← number_at at (codes "queue") d
+  ticks ← number_at at (codes "ticks") d
+  Ok (call.QueueReceive queue ticks)
 
 -- `to` names the task that a call is for
 unfoldable pub call_at :
@@ -179,6 +220,8 @@ call_at format names callkind.MutexTake at d = do
 call_at format names callkind.MutexGive at d = do
   mutex ← number_at at (codes "mutex") d
   Ok (call.MutexGive mutex)
+call_at format names callkind.QueueSend at d = transfer_at Send at d
+call_at format names callkind.QueueReceive at d = transfer_at Receive at d
 call_at format names callkind.Finish at d = Ok call.Finish
 call_at format names callkind.HoldOpen at d = Ok call.HoldOpen
 call_at format names callkind.HoldClose at d = Ok call.HoldClose
@@ -198,11 +241,15 @@ step_of_kind_at format names kind.Interrupt at d = do
   core ← number_at at (codes "core") d
   note ← note_at format names at d
   Ok (step.Interrupt core note)
+step_of_kind_at format names (kind.QueueInterrupt direction) at d = do
+  core ← number_at at (codes "core") d
+  queue ← number_at at (codes "queue") d
+  Ok (step.QueueInterrupt core queue direction)
 
 unfoldable pub step_at : Format → TaskNames → List ℕ → Data → Result Step TextFault
 step_at format names at d = do
   members ← object_at at d
-  which ← kind_at at d
+  which ← kind_at format at d
   made ← step_of_kind_at format names which at d
   only ← only_at at (members_of format made) members
   Ok made

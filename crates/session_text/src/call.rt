@@ -3,14 +3,14 @@ ghost use Rattle.std.specs.Prelude.{◌≡◌, map};
 ghost use Rattle.bench_types.specs.declared.step.Call.TheVariants as call;
 ghost use Rattle.session_text.specs.Node.{data_of, location_of};
 ghost use Rattle.session_text.specs.ReadingRules.{Gives};
-ghost use Rattle.session_text.specs.Step.{call_at, members_of_call, members_of_interrupt, note_at, wait_at};
+ghost use Rattle.session_text.specs.Step.{call_at, members_of_call, members_of_interrupt, note_at, transfer_at, wait_at};
 
 use crate::action::{action_at, action_number};
 use crate::fault::ReadFault;
 use crate::format::{Format, index_at};
 use crate::names::Names;
 use crate::node::Node;
-use bench_types::{Call, Note};
+use bench_types::{Call, Direction, Note};
 
 /// What `do` says of a call.
 #[derive(Clone, Copy)]
@@ -29,6 +29,8 @@ pub(crate) enum CallKind {
     ValueClear,
     MutexTake,
     MutexGive,
+    QueueSend,
+    QueueReceive,
     Finish,
     HoldOpen,
     HoldClose,
@@ -62,6 +64,24 @@ fn wait_at(format: Format, node: &Node<'_, '_, '_>) -> Result<Call, ReadFault>
         ticks: node.number("ticks")?,
         index: index_at(format, node)?,
     })
+}
+
+/// The call by which a message goes into a queue or out of it.
+#[tactic(auto, unfolding(crate::specs::Step::transfer_at))]
+fn transfer_at(direction: Direction, node: &Node<'_, '_, '_>) -> Result<Call, ReadFault>
+    ensures { Gives (λ call. call) result
+        (transfer_at direction (location_of node.now) (data_of node.now)) }
+{
+    match direction {
+        Direction::Send => Ok(Call::QueueSend {
+            queue: node.number("queue")?,
+            ticks: node.number("ticks")?,
+        }),
+        Direction::Receive => Ok(Call::QueueReceive {
+            queue: node.number("queue")?,
+            ticks: node.number("ticks")?,
+        }),
+    }
 }
 
 #[tactic(auto, unfolding(crate::specs::Step::call_at))]
@@ -112,6 +132,8 @@ pub(crate) fn call_at(
             ticks: node.number("ticks")?,
         }),
         CallKind::MutexGive => Ok(Call::MutexGive(node.number("mutex")?)),
+        CallKind::QueueSend => transfer_at(Direction::Send, node),
+        CallKind::QueueReceive => transfer_at(Direction::Receive, node),
         CallKind::Finish => Ok(Call::Finish),
         CallKind::HoldOpen => Ok(Call::HoldOpen),
         CallKind::HoldClose => Ok(Call::HoldClose),
@@ -148,6 +170,9 @@ pub(crate) fn call_members(format: Format, call: Call) -> &'static [&'static str
         },
         Call::MutexTake { .. } => &["core", "by", "do", "mutex", "ticks"],
         Call::MutexGive(_) => &["core", "by", "do", "mutex"],
+        Call::QueueSend { .. } | Call::QueueReceive { .. } => {
+            &["core", "by", "do", "queue", "ticks"]
+        }
     }
 }
 

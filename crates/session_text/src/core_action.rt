@@ -24,6 +24,7 @@ fn known_members(format: Format, core_action: CoreAction) -> &'static [&'static 
         CoreAction::Tick | CoreAction::Switch => &["do"],
         CoreAction::Call(call) => &call_members(format, call)[2..],
         CoreAction::Interrupt(note) => &interrupt_members(format, note)[1..],
+        CoreAction::QueueInterrupt { .. } => &["do", "queue"],
     }
 }
 
@@ -42,6 +43,10 @@ fn core_action_of_kind_at(
         Kind::Switch => Ok(CoreAction::Switch),
         Kind::Call(kind) => Ok(CoreAction::Call(call_at(format, names, kind, node)?)),
         Kind::Interrupt => Ok(CoreAction::Interrupt(note_at(format, names, node)?)),
+        Kind::QueueInterrupt(direction) => Ok(CoreAction::QueueInterrupt {
+            queue: node.number("queue")?,
+            direction,
+        }),
     }
 }
 
@@ -62,7 +67,7 @@ impl<'v> ReadItem<'v> for CoreActionReader<'_, '_> {
     #[tactic(auto, unfolding(crate::specs::CoreAction::core_action_at))]
     fn read(&self, node: &Node<'_, '_, 'v>) -> Result<CoreAction, ReadFault> {
         let members = node.object()?;
-        let kind = kind_at(node)?;
+        let kind = kind_at(self.format, node)?;
         let core_action = core_action_of_kind_at(self.format, self.names, kind, node)?;
         node.only(known_members(self.format, core_action), &members)?;
         Ok(core_action)

@@ -4,7 +4,7 @@ ghost use Rattle.bench_types.specs.Edit.{IsCheckedEdit};
 ghost use Rattle.bench_types.specs.Header.{header_check};
 ghost use Rattle.json_data.specs.View.{document_view};
 ghost use Rattle.session_text.specs.Detail.{words_of};
-ghost use Rattle.session_text.specs.Edit.{edit_kind_at, edit_kind_of, edit_kinds, edit_members_of, edit_of_kind_at, edit_text, lone_edit_at, new_step_at};
+ghost use Rattle.session_text.specs.Edit.{edit_kind_at, edit_kind_of, edit_kinds, edit_members_of, edit_of_kind_at, edit_text, lone_edit_at, lone_format, new_step_at};
 ghost use Rattle.session_text.specs.Node.{data_of, location_of};
 ghost use Rattle.session_text.specs.ReadingRules.{Gives};
 ghost use Rattle.session_text.specs.Session.{IsRefusedAtOnce, ReadsAs};
@@ -24,8 +24,9 @@ use std::alloc::Global;
 
 /// Reads an edit of a session with this header from a JSON text.
 ///
-/// A step may have the index of a notification, whatever the format of the session's text is. The
-/// path of a fault begins at the edit, which is `top`.
+/// Its step is read in format 3 where the header says which queues there are. Else it may have the
+/// index of a notification, whatever the format of the session's text is. The path of a fault
+/// begins at the edit, which is `top`.
 #[tactic(auto, unfolding(crate::specs::Edit::edit_text))]
 pub fn read_edit(alloc: Global, text: &[u8], header: &Header) -> Result<Edit, TextFault>
     requires { header_check header.now ≡ Ok tt }
@@ -55,7 +56,18 @@ fn edit_in(alloc: Global, document: &Document<'_>, header: &Header) -> Result<Ed
     lone_edit_at(&node, header)
 }
 
-/// The edit under the header, whose step may have an index.
+/// The format that an edit is read in where it stands alone.
+fn lone_format(header: &Header) -> Format
+    ensures { result ≡ lone_format header.now }
+{
+    if header.queues.is_some() {
+        Format::Three
+    } else {
+        Format::Two
+    }
+}
+
+/// The edit under the header.
 #[tactic(auto, unfolding(crate::specs::Edit::lone_edit_at))]
 fn lone_edit_at(node: &Node<'_, '_, '_>, header: &Header) -> Result<Edit, ReadFault>
     requires { header_check header.now ≡ Ok tt }
@@ -65,7 +77,7 @@ fn lone_edit_at(node: &Node<'_, '_, '_>, header: &Header) -> Result<Edit, ReadFa
 {
     let names = Names::of(node.alloc, header)?;
     let reader = EditReader {
-        format: Format::Two,
+        format: lone_format(header),
         names: &names,
     };
     let edit = reader.read(node)?;

@@ -3,11 +3,11 @@ ghost use Rattle.std.specs.Prelude.{◌≡◌, map, true};
 ghost use Rattle.json_data.specs.ObjectView.{members_view};
 ghost use Rattle.json_data.specs.Reading.{are_known};
 ghost use Rattle.session_text.specs.Detail.{words_of};
-ghost use Rattle.session_text.specs.declared.format.Format.TheVariants.{One, Two};
+ghost use Rattle.session_text.specs.declared.format.Format.TheVariants.{One, Three, Two};
 ghost use Rattle.session_text.specs.Member.{only_at};
 ghost use Rattle.session_text.specs.Node.{data_of, location_of};
 ghost use Rattle.session_text.specs.ReadingRules.{Gives};
-ghost use Rattle.session_text.specs.Step.{kind_at, kind_of, kinds, members_of, members_of_call, step_at, step_of_kind_at};
+ghost use Rattle.session_text.specs.Step.{kind_among, kind_at, kinds, kinds_in, members_of, members_of_call, queue_kinds, step_at, step_of_kind_at};
 
 use crate::action::action_number;
 use crate::array::ReadItem;
@@ -16,7 +16,7 @@ use crate::fault::ReadFault;
 use crate::format::Format;
 use crate::names::Names;
 use crate::node::Node;
-use bench_types::{Call, Step};
+use bench_types::{Call, Direction, Step};
 use json_data::Object;
 
 /// What `do` says of a step.
@@ -26,11 +26,25 @@ pub(crate) enum Kind {
     Switch,
     Call(CallKind),
     Interrupt,
+    QueueInterrupt(Direction),
 }
 
+/// How many words of `do` each format has; format 3 has more behind them.
+const FEWEST_WORDS: usize = 20;
+
 impl Kind {
-    fn words() -> &'static [&'static str]
-        ensures { map (λ word. word.now) result.now ≡ words_of kinds }
+    #[tactic(auto, using(crate::proofs::Lists::map_take))]
+    fn words(format: Format) -> &'static [&'static str]
+        ensures { map (λ word. word.now) result.now ≡ words_of (kinds_in format) }
+    {
+        match format {
+            Format::One | Format::Two => &Kind::all_words()[..FEWEST_WORDS],
+            Format::Three => Kind::all_words(),
+        }
+    }
+
+    fn all_words() -> &'static [&'static str]
+        ensures { map (λ word. word.now) result.now ≡ words_of (kinds_in Three) }
     {
         &[
             "tick",
@@ -53,11 +67,25 @@ impl Kind {
             "finish",
             "hold_open",
             "hold_close",
+            "queue_send",
+            "queue_receive",
+            "isr_send",
+            "isr_receive",
         ]
     }
 
-    fn of(word: &str) -> Option<Kind>
-        ensures { result ≡ kind_of word.now }
+    fn of(format: Format, word: &str) -> Option<Kind>
+        ensures { result ≡ kind_among (kinds_in format) word.now }
+    {
+        match format {
+            Format::One | Format::Two => Kind::of_any_format(word),
+            Format::Three => Kind::of_any_format(word).or(Kind::of_queues(word)),
+        }
+    }
+
+    /// What a word that each format has says.
+    fn of_any_format(word: &str) -> Option<Kind>
+        ensures { result ≡ kind_among kinds word.now }
     {
         match word {
             "tick" => Some(Kind::Tick),
@@ -83,6 +111,19 @@ impl Kind {
             _ => None,
         }
     }
+
+    /// What a word that format 3 alone has says.
+    fn of_queues(word: &str) -> Option<Kind>
+        ensures { result ≡ kind_among queue_kinds word.now }
+    {
+        match word {
+            "queue_send" => Some(Kind::Call(CallKind::QueueSend)),
+            "queue_receive" => Some(Kind::Call(CallKind::QueueReceive)),
+            "isr_send" => Some(Kind::QueueInterrupt(Direction::Send)),
+            "isr_receive" => Some(Kind::QueueInterrupt(Direction::Receive)),
+            _ => None,
+        }
+    }
 }
 
 /// The members that a step like this one has.
@@ -94,6 +135,7 @@ fn known_members(format: Format, step: &Step) -> &'static [&'static str]
         Step::Switch { .. } => &["core", "do"],
         Step::Call { call, .. } => call_members(format, *call),
         Step::Interrupt { note, .. } => interrupt_members(format, *note),
+        Step::QueueInterrupt { .. } => &["core", "do", "queue"],
     }
 }
 
@@ -124,6 +166,9 @@ fn has_only_of_call(call: Call, members: &Object<'_, '_, '_>) -> bool
         Call::ValueClear { .. } => members.has_only(&["core", "by", "do", "to", "bits"]),
         Call::MutexTake { .. } => members.has_only(&["core", "by", "do", "mutex", "ticks"]),
         Call::MutexGive(_) => members.has_only(&["core", "by", "do", "mutex"]),
+        Call::QueueSend { .. } | Call::QueueReceive { .. } => {
+            members.has_only(&["core", "by", "do", "queue", "ticks"])
+        }
     }
 }
 
@@ -140,6 +185,7 @@ fn has_only_in_format_1(step: &Step, members: &Object<'_, '_, '_>) -> bool
             None => members.has_only(&["core", "do", "to", "action"]),
             Some(_) => members.has_only(&["core", "do", "to", "action", "value"]),
         },
+        Step::QueueInterrupt { .. } => members.has_only(&["core", "do", "queue"]),
     }
 }
 
@@ -210,11 +256,12 @@ fn only_known(
 }
 
 #[tactic(auto, unfolding(crate::specs::Step::kind_at))]
-pub(crate) fn kind_at(node: &Node<'_, '_, '_>) -> Result<Kind, ReadFault>
-    ensures { Gives (λ kind. kind) result (kind_at (location_of node.now) (data_of node.now)) }
+pub(crate) fn kind_at(format: Format, node: &Node<'_, '_, '_>) -> Result<Kind, ReadFault>
+    ensures { Gives (λ kind. kind) result
+        (kind_at format (location_of node.now) (data_of node.now)) }
 {
     let word = node.text("do")?;
-    node.meant("do", word, Kind::words(), Kind::of(word))
+    node.meant("do", word, Kind::words(format), Kind::of(format, word))
 }
 
 #[tactic(auto, unfolding(crate::specs::Step::step_of_kind_at))]
@@ -241,6 +288,11 @@ fn step_of_kind_at(
             core: node.number("core")?,
             note: note_at(format, names, node)?,
         }),
+        Kind::QueueInterrupt(direction) => Ok(Step::QueueInterrupt {
+            core: node.number("core")?,
+            queue: node.number("queue")?,
+            direction,
+        }),
     }
 }
 
@@ -259,7 +311,7 @@ impl<'v> ReadItem<'v> for StepReader<'_, '_> {
     #[tactic(auto, unfolding(crate::specs::Step::step_at))]
     fn read(&self, node: &Node<'_, '_, 'v>) -> Result<Step, ReadFault> {
         let members = node.object()?;
-        let kind = kind_at(node)?;
+        let kind = kind_at(self.format, node)?;
         let step = step_of_kind_at(self.format, self.names, kind, node)?;
         only_known(self.format, node, &step, &members)?;
         Ok(step)

@@ -1,13 +1,16 @@
 -- What a checked step says of its numbers.
-use Rattle.std.proofs.Common.{◌≡◌, ℕ, ◌+◌, ◌<◌, ◌≤◌, length, Ok}
+use Rattle.std.proofs.Common.{◌≡◌, ℕ, ◌+◌, ◌<◌, ◌≤◌, List, length, Option, Some, None, Ok, arith, refl}
 use Rattle.std.specs.Prelude.{⊤}
+use Rattle.bench_types.specs.declared.header.QueueArgs.{QueueArgs}
 use Rattle.bench_types.specs.declared.header.Header.{Header}
 use Rattle.bench_types.specs.declared.step.Step.{Step}
 use Rattle.bench_types.specs.declared.step.Step.TheVariants as step
 use Rattle.bench_types.specs.declared.step.Call.{Call}
 use Rattle.bench_types.specs.declared.step.Call.TheVariants as call
-use Rattle.bench_types.proofs.Passes.{both_pass, checked_core, checked_index, checked_mutex, checked_task}
-use Rattle.bench_types.specs.Step.{settings_of, core_check, index_check, task_check, mask_check, note_check, call_check, step_check, ◌>>◌}
+use Rattle.bench_types.proofs.Passes.{both_pass, checked_core, checked_index, checked_mutex, checked_queue, checked_task, few_queues}
+use Rattle.bench_types.specs.Header.{header_check}
+use Rattle.bench_types.specs.Limits.{max_queues}
+use Rattle.bench_types.specs.Step.{settings_of, queue_total, core_check, index_check, task_check, mask_check, note_check, queue_check, call_check, step_check, ◌>>◌}
 
 -- the number of a user task
 abbrev pub IsUserTask : Header → ℕ → Type 0
@@ -18,7 +21,12 @@ pub record IsNoteThere (header : Header) (task index : ℕ) : Type 0 where
   pub owner : IsUserTask header task
   pub index_there : index < header.config.notes
 
--- the task, the mutex or the notification that a call is for is there
+-- the queue is there, and there are few
+pub record IsQueueThere (header : Header) (queue : ℕ) : Type 0 where
+  pub within : queue < queue_total (settings_of header)
+  pub few : queue < max_queues
+
+-- the task, the mutex, the queue or the notification that a call is for is there
 abbrev pub HasTarget : Header → Call → Type 0
 HasTarget header call.Yield = ⊤
 HasTarget header (call.Delay ticks) = ⊤
@@ -34,6 +42,8 @@ HasTarget header (call.StateClear task index) = IsNoteThere header task index
 HasTarget header (call.ValueClear task bits index) = IsNoteThere header task index
 HasTarget header (call.MutexTake mutex ticks) = mutex < header.config.mutexes
 HasTarget header (call.MutexGive mutex) = mutex < header.config.mutexes
+HasTarget header (call.QueueSend queue ticks) = IsQueueThere header queue
+HasTarget header (call.QueueReceive queue ticks) = IsQueueThere header queue
 HasTarget header call.Finish = ⊤
 HasTarget header call.HoldOpen = ⊤
 HasTarget header call.HoldClose = ⊤
@@ -49,12 +59,31 @@ pub record IsInterruptInPlace (header : Header) (core task index : ℕ) : Type 0
   pub core_there : core < header.config.cores
   pub target : IsNoteThere header task index
 
+-- the core of an interrupt is there, and the queue that it is for
+pub record IsQueueInterruptInPlace (header : Header) (core queue : ℕ) : Type 0 where
+  pub core_there : core < header.config.cores
+  pub target : IsQueueThere header queue
+
 -- the same of a step
 abbrev pub StepFits : Header → Step → Type 0
 StepFits header step.Tick = ⊤
 StepFits header (step.Switch core) = core < header.config.cores
 StepFits header (step.Call core task made) = IsCallInPlace header core task made
 StepFits header (step.Interrupt core note) = IsInterruptInPlace header core note.task note.index
+StepFits header (step.QueueInterrupt core queue direction) = IsQueueInterruptInPlace header core queue
+
+-- a header that was checked has few queues
+few_total : (header : Header) → header_check header ≡ Ok tt → queue_total (settings_of header) ≤ max_queues
+few_total header passes = from header.queues refl
+  where
+    from : (queues : Option (List QueueArgs)) → header.queues ≡ queues → queue_total (settings_of header) ≤ max_queues
+    from None is = rw is (omega arith)
+    from (Some queues) is = rw is (few_queues header queues passes is)
+
+queue_there : (header : Header) (queue : ℕ) → header_check header ≡ Ok tt → queue_check (settings_of header) queue ≡ Ok tt → IsQueueThere header queue
+queue_there header queue checked passes =
+    let there = checked_queue (settings_of header) queue passes in
+    record { within = there; few = omega (arith, there, few_total header checked) }
 
 note_there : (header : Header) (task index : ℕ) → (task_check (settings_of header) task >> index_check (settings_of header) index) ≡ Ok tt → IsNoteThere header
     task index
@@ -63,43 +92,49 @@ note_there header task index passes =
     let both = both_pass (task_check settings task) (index_check settings index) passes in
     record { owner = checked_task settings task both.0; index_there = checked_index settings index both.1 }
 
-has_target : (header : Header) (made : Call) → call_check (settings_of header) made ≡ Ok tt → HasTarget header made
-has_target header call.Yield passes = tt
-has_target header (call.Delay ticks) passes = tt
-has_target header (call.DelayUntil prev inc) passes = tt
-has_target header (call.PrioritySet task priority) passes = checked_task (settings_of header) task passes
-has_target header (call.AffinitySet task mask) passes =
+has_target : (header : Header) (made : Call) → header_check header ≡ Ok tt → call_check (settings_of header) made ≡ Ok tt → HasTarget header made
+has_target header call.Yield checked passes = tt
+has_target header (call.Delay ticks) checked passes = tt
+has_target header (call.DelayUntil prev inc) checked passes = tt
+has_target header (call.PrioritySet task priority) checked passes = checked_task (settings_of header) task passes
+has_target header (call.AffinitySet task mask) checked passes =
     let settings = settings_of header in
     checked_task settings task (both_pass (task_check settings task) (mask_check settings mask) passes).0
-has_target header (call.PreemptOff task) passes = checked_task (settings_of header) task passes
-has_target header (call.PreemptOn task) passes = checked_task (settings_of header) task passes
-has_target header (call.Notify note) passes = note_there header note.task note.index passes
-has_target header (call.NotifyWait entry exit ticks index) passes = checked_index (settings_of header) index passes
-has_target header (call.NotifyTake clear ticks index) passes = checked_index (settings_of header) index passes
-has_target header (call.StateClear task index) passes = note_there header task index passes
-has_target header (call.ValueClear task bits index) passes = note_there header task index passes
-has_target header (call.MutexTake mutex ticks) passes = checked_mutex (settings_of header) mutex passes
-has_target header (call.MutexGive mutex) passes = checked_mutex (settings_of header) mutex passes
-has_target header call.Finish passes = tt
-has_target header call.HoldOpen passes = tt
-has_target header call.HoldClose passes = tt
+has_target header (call.PreemptOff task) checked passes = checked_task (settings_of header) task passes
+has_target header (call.PreemptOn task) checked passes = checked_task (settings_of header) task passes
+has_target header (call.Notify note) checked passes = note_there header note.task note.index passes
+has_target header (call.NotifyWait entry exit ticks index) checked passes = checked_index (settings_of header) index passes
+has_target header (call.NotifyTake clear ticks index) checked passes = checked_index (settings_of header) index passes
+has_target header (call.StateClear task index) checked passes = note_there header task index passes
+has_target header (call.ValueClear task bits index) checked passes = note_there header task index passes
+has_target header (call.MutexTake mutex ticks) checked passes = checked_mutex (settings_of header) mutex passes
+has_target header (call.MutexGive mutex) checked passes = checked_mutex (settings_of header) mutex passes
+has_target header (call.QueueSend queue ticks) checked passes = queue_there header queue checked passes
+has_target header (call.QueueReceive queue ticks) checked passes = queue_there header queue checked passes
+has_target header call.Finish checked passes = tt
+has_target header call.HoldOpen checked passes = tt
+has_target header call.HoldClose checked passes = tt
 
-pub in_place : (header : Header) (made : Step) → step_check (settings_of header) made ≡ Ok tt → StepFits header made
-in_place header step.Tick passes = tt
-in_place header (step.Switch core) passes = checked_core (settings_of header) core passes
-in_place header (step.Call core task made) passes =
+pub in_place : (header : Header) (made : Step) → header_check header ≡ Ok tt → step_check (settings_of header) made ≡ Ok tt → StepFits header made
+in_place header step.Tick checked passes = tt
+in_place header (step.Switch core) checked passes = checked_core (settings_of header) core passes
+in_place header (step.Call core task made) checked passes =
     let settings = settings_of header in
     let two = both_pass (core_check settings core >> task_check settings task) (call_check settings made) passes in
     let one = both_pass (core_check settings core) (task_check settings task) two.0 in
     record {
       core_there = checked_core settings core one.0;
       caller = checked_task settings task one.1;
-      target = has_target header made two.1;
+      target = has_target header made checked two.1;
     }
-in_place header (step.Interrupt core note) passes =
+in_place header (step.Interrupt core note) checked passes =
     let settings = settings_of header in
     let both = both_pass (core_check settings core) (note_check settings note) passes in
     record {
       core_there = checked_core settings core both.0;
       target = note_there header note.task note.index both.1;
     }
+in_place header (step.QueueInterrupt core queue direction) checked passes =
+    let settings = settings_of header in
+    let both = both_pass (core_check settings core) (queue_check settings queue) passes in
+    record { core_there = checked_core settings core both.0; target = queue_there header queue checked both.1 }

@@ -18,15 +18,17 @@ use Rattle.bench_types.specs.declared.step.Step.{Step}
 use Rattle.bench_types.specs.declared.step.Step.TheVariants as step
 use Rattle.bench_types.specs.declared.step.Call.{Call}
 use Rattle.bench_types.specs.declared.step.Call.TheVariants as call
+use Rattle.bench_types.specs.declared.step.Direction.{Direction}
+use Rattle.bench_types.specs.declared.step.Direction.TheVariants.{Send, Receive}
 use Rattle.bench_types.specs.Name.{is_name, is_name_byte, is_within}
 use Rattle.bench_types.specs.Step.{IsNotifyActionOfWord, IsOfWords, IsStepOfWords}
 use Rattle.bench_types.specs.Limits.{max_name, max_priorities}
 use Rattle.session_text.specs.declared.format.Format.{Format}
 use Rattle.session_text.specs.declared.format.Format.TheVariants.{One, Two, Three}
 use Rattle.session_write.specs.Written.{queue_data, task_data, task_name, bare_call, call_for, notify_data, interrupt_data, wait_data, take_data, state_clear_data}
-use Rattle.session_write.specs.Written.{value_clear_data, call_data, step_data, format_for, data_in, session_data}
+use Rattle.session_write.specs.Written.{value_clear_data, transfer_data, queue_interrupt_data, call_data, step_data, format_for, data_in, session_data}
 use Rattle.bench_types.proofs.Passes.{has_valid_args, IsQueueOfWords, IsWithinLimits}
-use Rattle.session_write.proofs.Limits.{StepFits, HasTarget}
+use Rattle.session_write.proofs.Limits.{StepFits, HasTarget, IsQueueThere}
 use Rattle.session_write.proofs.ReadBack.{IsPlain, ArePlain}
 
 ascii_bytes : (bytes : List ℕ) → list_all is_name_byte bytes ≡ true → are_ascii bytes ≡ true
@@ -280,6 +282,17 @@ value_clear_plain later by core to bits index utf8 small to_utf8 few word = (
   ),
 )
 
+transfer_plain : (header : Header) (by : List ℕ) (core : ℕ) (word : List ℕ) (queue ticks : ℕ) → IsQueueThere header queue → IsUtf8 by → core < 2 ^ 64 →
+    IsUtf8 word → ticks < 2 ^ 32 → IsPlain (transfer_data by core word queue ticks)
+transfer_plain header by core word queue ticks there utf8 small word_utf8 ticks_word =
+    (refl, refl, utf8, (refl, refl, small, (refl, refl, word_utf8, (refl, refl, omega (arith, there.few), (refl, refl, omega (arith, ticks_word), tt)))))
+
+queue_interrupt_plain : (header : Header) (core queue : ℕ) (direction : Direction) → IsQueueThere header queue → core < 2 ^ 64 → IsPlain
+    (queue_interrupt_data core queue direction)
+queue_interrupt_plain header core queue Send there small = (refl, refl, small, (refl, refl, IsUtf8-are_ascii _ refl, (refl, refl, omega (arith, there.few), tt)))
+queue_interrupt_plain header core queue Receive there small =
+    (refl, refl, small, (refl, refl, IsUtf8-are_ascii _ refl, (refl, refl, omega (arith, there.few), tt)))
+
 -- an index is a small number
 few_index : (header : Header) (index : ℕ) → IsWithinLimits header → index < header.config.notes → index < 2 ^ 64
 few_index header index h there = omega (arith, h.few_notes, there)
@@ -327,6 +340,10 @@ call_plain format header by core (call.MutexTake mutex ticks) h names target utf
     (refl, refl, utf8, (refl, refl, small, (refl, refl, IsUtf8-are_ascii _ refl, (refl, refl, omega (arith, h.few_mutexes), (refl, refl, omega arith, tt)))))
 call_plain format header by core (call.MutexGive mutex) h names target utf8 small words =
     (refl, refl, utf8, (refl, refl, small, (refl, refl, IsUtf8-are_ascii _ refl, (refl, refl, omega (arith, h.few_mutexes), tt))))
+call_plain format header by core (call.QueueSend queue ticks) h names target utf8 small words = transfer_plain header by core _ queue ticks target utf8 small
+    (IsUtf8-are_ascii _ refl) words
+call_plain format header by core (call.QueueReceive queue ticks) h names target utf8 small words = transfer_plain header by core _ queue ticks target utf8
+    small (IsUtf8-are_ascii _ refl) words
 call_plain format header by core call.Finish h names target utf8 small words = bare_plain by core _ utf8 small (IsUtf8-are_ascii _ refl)
 call_plain format header by core call.HoldOpen h names target utf8 small words = bare_plain by core _ utf8 small (IsUtf8-are_ascii _ refl)
 call_plain format header by core call.HoldClose h names target utf8 small words = bare_plain by core _ utf8 small (IsUtf8-are_ascii _ refl)
@@ -340,6 +357,8 @@ step_plain format header (step.Call core task made) h names place words = call_p
 step_plain format header (step.Interrupt core note) h names place words = interrupt_plain format core _ note.action note.index
     (omega (arith, h.few_cores, place.core_there)) (names note.task place.target.owner.1 place.target.owner.0)
     (few_index header note.index h place.target.index_there) words
+step_plain format header (step.QueueInterrupt core queue direction) h names place words = queue_interrupt_plain header core queue direction place.target
+    (omega (arith, h.few_cores, place.core_there))
 
 steps_plain : (format : Format) (header : Header) (steps : List Step) → IsWithinLimits header → AreNames header → AllByRecursion
     (λ made. StepFits header made × IsStepOfWords made) steps → ArePlain (items_of (map (step_data format header) steps))
@@ -541,6 +560,8 @@ call_depth One header by core (call.ValueClear task bits index) = omega arith
 call_depth later header by core (call.ValueClear task bits index) = omega arith
 call_depth format header by core (call.MutexTake mutex ticks) = omega arith
 call_depth format header by core (call.MutexGive mutex) = omega arith
+call_depth format header by core (call.QueueSend queue ticks) = omega arith
+call_depth format header by core (call.QueueReceive queue ticks) = omega arith
 call_depth format header by core call.Finish = omega arith
 call_depth format header by core call.HoldOpen = omega arith
 call_depth format header by core call.HoldClose = omega arith
@@ -550,6 +571,7 @@ step_depth format header step.Tick = omega arith
 step_depth format header (step.Switch core) = omega arith
 step_depth format header (step.Call core task made) = call_depth format header (task_name header task) core made
 step_depth format header (step.Interrupt core note) = interrupt_depth format core (task_name header note.task) note.action note.index
+step_depth format header (step.QueueInterrupt core queue direction) = omega arith
 
 data_depth : (format : Format) (header : Header) (steps : List Step) → depth (data_in format header steps) ≤ max_depth
 unfolding data_in

@@ -19,6 +19,8 @@ use Rattle.bench_types.specs.declared.step.Step.{Step}
 use Rattle.bench_types.specs.declared.step.Step.TheVariants as step
 use Rattle.bench_types.specs.declared.step.Call.{Call}
 use Rattle.bench_types.specs.declared.step.Call.TheVariants as call
+use Rattle.bench_types.specs.declared.step.Direction.{Direction}
+use Rattle.bench_types.specs.declared.step.Direction.TheVariants.{Send, Receive}
 use Rattle.bench_types.specs.declared.step_flaw.StepFlaw.{StepFlaw}
 use Rattle.bench_types.specs.Flaw.{header_flaw}
 use Rattle.bench_types.specs.Name.{is_name}
@@ -38,9 +40,9 @@ use Rattle.bench_types.proofs.Passes.{has_valid_args, checked_flaw, checked_head
 use Rattle.bench_types.proofs.StepFlaws.{step_unflawed}
 use Rattle.session_text.specs.Names.{names_of, number_of, user_names}
 use Rattle.session_text.specs.Session.{session_at, session_accepted, steps_accepted, session}
-use Rattle.session_text.specs.Step.{step_at, kind_at, step_of_kind_at, task_named_at, note_at, wait_at, call_at}
+use Rattle.session_text.specs.Step.{step_at, kind_at, step_of_kind_at, task_named_at, note_at, wait_at, transfer_at, call_at}
 use Rattle.session_write.specs.Written.{queue_data, task_data, task_name, step_data, format_for, data_in, session_data, WrittenReadsBack}
-use Rattle.session_write.proofs.Limits.{StepFits, IsCallInPlace, IsNoteThere, IsUserTask, in_place}
+use Rattle.session_write.proofs.Limits.{StepFits, IsCallInPlace, IsNoteThere, IsQueueInterruptInPlace, IsQueueThere, IsUserTask, in_place}
 use Rattle.session_write.proofs.Plain.{IsTask, IsWritable, session_plain, session_depth, utf8_name}
 use Rattle.session_write.proofs.ReadBack.{document-compact_text}
 use Rattle.session_write.proofs.TaskNames.{number_of_name}
@@ -190,9 +192,28 @@ interrupt_read later header at core to (action.Set value) index fits h there tar
 interrupt_read later header at core to (action.SetNew value) index fits h there target word = rw
     (index_number header index h target.index_there, core_number header core h there, lt-ltb _ _ word, target_named header to h target.owner) refl
 
+queue_number : (header : Header) (queue : ℕ) → IsQueueThere header queue → ltb queue (2 ^ 32) ≡ true
+queue_number header queue there = lt-ltb _ _ (omega (arith, there.few))
+
+-- a session that doesn't say which queues there are has none
+no_queue : (header : Header) (queue : ℕ) → header.queues ≡ None → IsQueueThere header queue → ⊥
+no_queue header queue none there =
+    let few : queue < 0 = rw none at there.within in
+    omega arith
+
+queue_interrupt_read : (format : Format) (header : Header) (at : List ℕ) (core queue : ℕ) (direction : Direction) → Fits format header → IsWithinLimits header
+    → IsQueueInterruptInPlace header core queue → step_at format (names_of header) at (step_data format header (step.QueueInterrupt core queue direction)) ≡ Ok
+    (step.QueueInterrupt core queue direction)
+unfolding step_at kind_at text_at step_of_kind_at number_at
+queue_interrupt_read One header at core queue direction fits h place = absurd (no_queue header queue fits.1 place.target)
+queue_interrupt_read Two header at core queue direction fits h place = absurd (no_queue header queue fits place.target)
+queue_interrupt_read Three header at core queue Send fits h place = rw (core_number header core h place.core_there, queue_number header queue place.target) refl
+queue_interrupt_read Three header at core queue Receive fits h place = rw
+    (core_number header core h place.core_there, queue_number header queue place.target) refl
+
 call_read : (format : Format) (header : Header) (at : List ℕ) (core task : ℕ) (made : Call) → Fits format header → IsWithinLimits header → IsCallInPlace header
     core task made → IsOfWords made → step_at format (names_of header) at (step_data format header (step.Call core task made)) ≡ Ok (step.Call core task made)
-unfolding step_at kind_at text_at step_of_kind_at number_at flag_at task_named_at call_at wait_at index_at number_or_at
+unfolding step_at kind_at text_at step_of_kind_at number_at flag_at task_named_at call_at wait_at transfer_at index_at number_or_at
 call_read format header at core task call.Yield fits h place words = rw (core_number header core h place.core_there, target_named header task h place.caller)
     refl
 call_read format header at core task (call.Delay ticks) fits h place words = rw
@@ -263,6 +284,14 @@ call_read format header at core task (call.MutexTake mutex ticks) fits h place w
     (core_number header core h place.core_there, mutex_number header mutex h place.target, lt-ltb _ _ words, target_named header task h place.caller) refl
 call_read format header at core task (call.MutexGive mutex) fits h place words = rw
     (core_number header core h place.core_there, mutex_number header mutex h place.target, target_named header task h place.caller) refl
+call_read One header at core task (call.QueueSend queue ticks) fits h place words = absurd (no_queue header queue fits.1 place.target)
+call_read Two header at core task (call.QueueSend queue ticks) fits h place words = absurd (no_queue header queue fits place.target)
+call_read Three header at core task (call.QueueSend queue ticks) fits h place words = rw
+    (core_number header core h place.core_there, queue_number header queue place.target, lt-ltb _ _ words, target_named header task h place.caller) refl
+call_read One header at core task (call.QueueReceive queue ticks) fits h place words = absurd (no_queue header queue fits.1 place.target)
+call_read Two header at core task (call.QueueReceive queue ticks) fits h place words = absurd (no_queue header queue fits place.target)
+call_read Three header at core task (call.QueueReceive queue ticks) fits h place words = rw
+    (core_number header core h place.core_there, queue_number header queue place.target, lt-ltb _ _ words, target_named header task h place.caller) refl
 call_read format header at core task call.Finish fits h place words = rw (core_number header core h place.core_there, target_named header task h place.caller)
     refl
 call_read format header at core task call.HoldOpen fits h place words = rw (core_number header core h place.core_there, target_named header task h place.caller)
@@ -278,6 +307,8 @@ step_read format header at (step.Switch core) fits h place words = rw (core_numb
 step_read format header at (step.Call core task made) fits h place words = call_read format header at core task made fits h place words
 step_read format header at (step.Interrupt core note) fits h place words = interrupt_read format header at core note.task note.action note.index fits h
     place.core_there place.target words
+step_read format header at (step.QueueInterrupt core queue direction) fits h place words = queue_interrupt_read format header at core queue direction fits h
+    place
 
 steps_read : (format : Format) (header : Header) (at : List ℕ) (index : ℕ) (steps : List Step) → Fits format header → IsWithinLimits header → AllByRecursion
     (λ made. StepFits header made × IsStepOfWords made) steps → each_at (step_at format (names_of header)) at index
@@ -412,7 +443,7 @@ writable header steps h =
       names = λ task high low. utf8_name (task_name header task) (h.header.names (task - header.config.cores) _ (omega arith));
       each_queue = queue_words header h.header.passes;
       each_step = recursion_from_All (λ made. StepFits header made × IsStepOfWords made) steps
-          (λ k d short. (in_place header _ (h.steps k d short).passes, (h.steps k d short).words));
+          (λ k d short. (in_place header _ h.header.passes (h.steps k d short).passes, (h.steps k d short).words));
     }
 
 -- items of which none is at fault pass their checks

@@ -14,6 +14,8 @@ use Rattle.bench_types.specs.declared.step.Step.{Step}
 use Rattle.bench_types.specs.declared.step.Step.TheVariants as step
 use Rattle.bench_types.specs.declared.step.Call.{Call}
 use Rattle.bench_types.specs.declared.step.Call.TheVariants as call
+use Rattle.bench_types.specs.declared.step.Direction.{Direction}
+use Rattle.bench_types.specs.declared.step.Direction.TheVariants.{Send, Receive}
 use Rattle.bench_types.specs.Session.{IsSession}
 use Rattle.session_text.specs.declared.format.Format.{Format}
 use Rattle.session_text.specs.declared.format.Format.TheVariants.{One, Two, Three}
@@ -162,6 +164,22 @@ mutex_give_data by core mutex =
     object_with ((codes "by", string by) ∷ (codes "core", whole core)
     ∷ (codes "do", string (codes "mutex_give")) ∷ (codes "mutex", whole mutex) ∷ [])
 
+-- the same, by which a message goes into a queue or out of it
+abbrev pub transfer_data : List ℕ → ℕ → List ℕ → ℕ → ℕ → Data
+transfer_data by core word queue ticks =
+    object_with ((codes "by", string by) ∷ (codes "core", whole core) ∷ (codes "do", string word)
+    ∷ (codes "queue", whole queue) ∷ (codes "ticks", whole ticks) ∷ [])
+
+-- the word of an interrupt whose handler sends or receives
+abbrev pub queue_interrupt_word : Direction → List ℕ
+queue_interrupt_word Send = codes "isr_send"
+queue_interrupt_word Receive = codes "isr_receive"
+
+abbrev pub queue_interrupt_data : ℕ → ℕ → Direction → Data
+queue_interrupt_data core queue direction =
+    object_with ((codes "core", whole core)
+    ∷ (codes "do", string (queue_interrupt_word direction)) ∷ (codes "queue", whole queue) ∷ [])
+
 abbrev pub call_data : Format → Header → List ℕ → ℕ → Call → Data
 call_data format header by core call.Yield = bare_call by core (codes "yield")
 call_data format header by core (call.Delay ticks) = delay_data by core ticks
@@ -186,6 +204,10 @@ call_data format header by core (call.ValueClear task bits index) =
     value_clear_data format by core (task_name header task) bits index
 call_data format header by core (call.MutexTake mutex ticks) = mutex_take_data by core mutex ticks
 call_data format header by core (call.MutexGive mutex) = mutex_give_data by core mutex
+call_data format header by core (call.QueueSend queue ticks) =
+    transfer_data by core (codes "queue_send") queue ticks
+call_data format header by core (call.QueueReceive queue ticks) =
+    transfer_data by core (codes "queue_receive") queue ticks
 call_data format header by core call.Finish = bare_call by core (codes "finish")
 call_data format header by core call.HoldOpen = bare_call by core (codes "hold_open")
 call_data format header by core call.HoldClose = bare_call by core (codes "hold_close")
@@ -198,6 +220,8 @@ step_data format header (step.Call core task made) =
     call_data format header (task_name header task) core made
 step_data format header (step.Interrupt core note) =
     interrupt_data format core (task_name header note.task) note.action note.index
+step_data format header (step.QueueInterrupt core queue direction) =
+    queue_interrupt_data core queue direction
 
 abbrev pub tasks_data : List TaskArgs → Data
 tasks_data tasks = array (items_of (map task_data tasks))

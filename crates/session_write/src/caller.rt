@@ -2,7 +2,7 @@
 ghost use Rattle.std.specs.Prelude.{◌≡◌, [], ◌∷◌, codes, IfOk};
 ghost use Rattle.serde_json.specs.Data.{string};
 ghost use Rattle.serde_json.specs.View.{view, members_view};
-ghost use Rattle.session_write.specs.Written.{affinity_data, bare_call, call_for, delay_data, delay_until_data, members, mutex_give_data, mutex_take_data, priority_data, whole};
+ghost use Rattle.session_write.specs.Written.{affinity_data, bare_call, call_for, delay_data, delay_until_data, members, mutex_give_data, mutex_take_data, priority_data, transfer_data, whole};
 
 use crate::object::{put_text, put_whole};
 use serde_json::{Map, Value};
@@ -108,5 +108,17 @@ impl Caller<'_> {
         let mut object = self.members("mutex_give")?;
         put_whole(&mut object, self.alloc, "mutex", mutex)?;
         Ok(Value::Object(object))
+    }
+
+    /// A call by which a message goes into a queue or out of it.
+    pub(crate) fn transfer(&self, word: &str, queue: u32, ticks: u32) -> Result<Value, AllocError>
+        ensures { IfOk result
+            (λ value. view value
+            ≡ transfer_data self.now.by.now self.now.core word.now queue ticks) }
+    {
+        let mut members = self.members(word)?;
+        put_whole(&mut members, self.alloc, "queue", queue)?;
+        put_whole(&mut members, self.alloc, "ticks", ticks)?;
+        Ok(Value::Object(members))
     }
 }

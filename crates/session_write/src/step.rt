@@ -2,11 +2,11 @@
 ghost use Rattle.std.specs.Prelude.{◌≡◌, ◌+◌, ◌<◌, ◌≤◌, All, IfOk, Ok, length};
 ghost use Rattle.serde_json.specs.View.{view};
 ghost use Rattle.bench_types.specs.Step.{IsCheckedStep, call_check, settings_of, step_check};
-ghost use Rattle.session_write.specs.Written.{call_data, step_data, steps_data, task_name};
+ghost use Rattle.session_write.specs.Written.{call_data, queue_interrupt_data, queue_interrupt_word, step_data, steps_data, task_name};
 
 use crate::caller::Caller;
 use crate::notes::interrupt_value;
-use bench_types::{Call, Header, Step};
+use bench_types::{Call, Direction, Header, Step};
 use serde_json::{Value, json};
 use session_text::Format;
 use std::alloc::{AllocError, Global};
@@ -51,7 +51,32 @@ fn step_value(
         Step::Interrupt { core, note } => {
             interrupt_value(alloc, format, *core, task_name(header, note.task), *note)
         }
+        Step::QueueInterrupt {
+            core,
+            queue,
+            direction,
+        } => queue_interrupt_value(alloc, *core, *queue, *direction),
     }
+}
+
+fn queue_interrupt_word(direction: Direction) -> &'static str
+    ensures { result.now ≡ queue_interrupt_word direction }
+{
+    match direction {
+        Direction::Send => "isr_send",
+        Direction::Receive => "isr_receive",
+    }
+}
+
+fn queue_interrupt_value(
+    alloc: Global,
+    core: u32,
+    queue: u32,
+    direction: Direction,
+) -> Result<Value, AllocError>
+    ensures { IfOk result (λ value. view value ≡ queue_interrupt_data core queue direction) }
+{
+    json!(in alloc; {"core": core, "do": queue_interrupt_word(direction), "queue": queue})
 }
 
 fn call_value(header: &Header, caller: &Caller<'_>, call: Call) -> Result<Value, AllocError>
@@ -88,6 +113,8 @@ fn call_value(header: &Header, caller: &Caller<'_>, call: Call) -> Result<Value,
         }
         Call::MutexTake { mutex, ticks } => caller.mutex_take(mutex, ticks),
         Call::MutexGive(mutex) => caller.mutex_give(mutex),
+        Call::QueueSend { queue, ticks } => caller.transfer("queue_send", queue, ticks),
+        Call::QueueReceive { queue, ticks } => caller.transfer("queue_receive", queue, ticks),
         Call::Finish => caller.bare("finish"),
         Call::HoldOpen => caller.bare("hold_open"),
         Call::HoldClose => caller.bare("hold_close"),

@@ -1,5 +1,6 @@
 -- Each subject of a header is one that a run of it is measured by.
-use Rattle.std.proofs.Common.{ℕ, ◌+◌, ◌<◌, All, List, [], ◌∷◌, ◌++◌, length, map, flat_map, arith}
+use Rattle.std.proofs.Common.{ℕ, ◌+◌, ◌<◌, Bool, true, false, ◌==◌, All, List, [], ◌∷◌, ◌++◌, length, map, flat_map, arith}
+use Rattle.std.specs.Prelude.{if◌then◌else◌}
 use Rattle.std.specs.List.{AllByRecursion}
 use Rattle.std.proofs.lemmas.List.Elements.{All-from_recursion}
 use Rattle.list_orders.specs.Search.{numbers}
@@ -7,12 +8,12 @@ use Rattle.list_orders.proofs.Filters.{All-append, All-weaker, All_each}
 use Rattle.list_orders.proofs.Stamped.{numbers_below}
 use Rattle.bench_types.specs.declared.header.Header.{Header}
 use Rattle.bench_types.specs.Step.{settings_of}
-use Rattle.run_numbers.specs.declared.subject.Cause.TheVariants.{Mutex}
+use Rattle.run_numbers.specs.declared.subject.Cause.TheVariants.{Mutex, AnyQueue}
 use Rattle.run_numbers.specs.declared.subject.Condition.TheVariants.{RunningOn, Blocked}
 use Rattle.run_numbers.specs.declared.subject.Subject.{Subject}
 use Rattle.run_numbers.specs.declared.subject.Subject.TheVariants.{Ticks, NotMade}
 use Rattle.run_numbers.specs.Readings.{IsSubjectOf}
-use Rattle.report_figures.specs.Subjects.{on_core, off_core, blocked_on, steps_of, refusals_of, task_subjects, user_subjects, core_subjects, mutex_subjects}
+use Rattle.report_figures.specs.Subjects.{on_core, off_core, blocked_at, blocked_on, blocked_ways, steps_of, refusals_of, task_subjects, user_subjects, core_subjects, mutex_subjects, queue_subjects, queues_of, waits_of}
 use Rattle.report_figures.specs.Subjects.{subjects_of}
 
 all_map : {X : Type 0} (P : X → Type 0) (f : ℕ → X) (ns : List ℕ) → AllByRecursion (λ n. P (f n)) ns → AllByRecursion P (map f ns)
@@ -27,34 +28,53 @@ module _ (header : Header) where
   abbrev Fits : Subject → Type 0
   Fits = IsSubjectOf (settings_of header)
 
-  task_fits : (task : ℕ) → task < header.config.cores + length header.tasks → AllByRecursion Fits (task_subjects header.config task)
+  queues_wait : (task : ℕ) → task < header.config.cores + length header.tasks → AllByRecursion Fits (blocked_at (queues_of header) task)
+  queues_wait task below = at (queues_of header == 0)
+    where
+      ways : AllByRecursion Fits (flat_map (blocked_ways task) (numbers (queues_of header)))
+      ways =
+          all_flat_map Fits (blocked_ways task) (numbers (queues_of header))
+          (All_each (λ (queue : ℕ). AllByRecursion Fits (blocked_ways task queue)) (λ queue. (below, (below, tt))) (numbers (queues_of header)))
+
+      at : (none : Bool)
+          → AllByRecursion Fits (if none then [] else Ticks (Blocked task AnyQueue) ∷ flat_map (blocked_ways task) (numbers (queues_of header)))
+      at true = tt
+      at false = (below, ways)
+
+  waits_fit : (task : ℕ) → task < header.config.cores + length header.tasks
+      → AllByRecursion Fits (waits_of header.config.mutexes (queues_of header) task)
+  unfolding waits_of
+  waits_fit task below =
+      let blocked : AllByRecursion Fits (blocked_on header.config.mutexes task) =
+      all_map Fits (λ mutex. Ticks (Blocked task (Mutex mutex))) (numbers header.config.mutexes)
+      (All_each (λ (mutex : ℕ). task < header.config.cores + length header.tasks) (λ mutex. below) (numbers header.config.mutexes)) in
+      All-append Fits (blocked_on header.config.mutexes task) (blocked_at (queues_of header) task) blocked (queues_wait task below)
+
+  task_fits : (task : ℕ) → task < header.config.cores + length header.tasks → AllByRecursion Fits (task_subjects header.config (queues_of header) task)
   unfolding task_subjects
   task_fits task below =
       let on : AllByRecursion Fits (on_core header.config.cores task) =
       (below, all_map Fits (λ core. Ticks (RunningOn task core)) (numbers header.config.cores) (numbers_below header.config.cores)) in
       let off : AllByRecursion Fits (off_core task) = (below, (below, (below, (below, (below, (below, tt)))))) in
-      let blocked : AllByRecursion Fits (blocked_on header.config.mutexes task) =
-      all_map Fits (λ mutex. Ticks (Blocked task (Mutex mutex))) (numbers header.config.mutexes)
-      (All_each (λ (mutex : ℕ). task < header.config.cores + length header.tasks) (λ mutex. below) (numbers header.config.mutexes)) in
       let steps : AllByRecursion Fits (steps_of task) = (tt, (below, (below, (tt, tt)))) in
       let refused : AllByRecursion Fits (refusals_of task) = (tt, (tt, (tt, (tt, (tt, (tt, (tt, (tt, (tt, tt))))))))) in
       let last : AllByRecursion Fits (NotMade task ∷ []) = (tt, tt) in
       let on_cores = on_core header.config.cores task in
-      let on_mutexes = blocked_on header.config.mutexes task in
+      let waits = waits_of header.config.mutexes (queues_of header) task in
       let two = on_cores ++ off_core task in
-      let three = two ++ on_mutexes in
+      let three = two ++ waits in
       let four = three ++ steps_of task in
       let five = four ++ refusals_of task in
       All-append Fits five (NotMade task ∷ [])
       (All-append Fits four (refusals_of task)
-      (All-append Fits three (steps_of task) (All-append Fits two on_mutexes (All-append Fits on_cores (off_core task) on off) blocked) steps)
+      (All-append Fits three (steps_of task) (All-append Fits two waits (All-append Fits on_cores (off_core task) on off) (waits_fit task below)) steps)
       refused)
       last
 
-  users_fit : AllByRecursion Fits (user_subjects header.config (length header.tasks))
+  users_fit : AllByRecursion Fits (user_subjects header.config (queues_of header) (length header.tasks))
   users_fit =
-      all_flat_map Fits (λ user. task_subjects header.config (header.config.cores + user)) (numbers (length header.tasks))
-      (All-weaker (λ user. user < length header.tasks) (λ user. AllByRecursion Fits (task_subjects header.config (header.config.cores + user)))
+      all_flat_map Fits (λ user. task_subjects header.config (queues_of header) (header.config.cores + user)) (numbers (length header.tasks))
+      (All-weaker (λ user. user < length header.tasks) (λ user. AllByRecursion Fits (task_subjects header.config (queues_of header) (header.config.cores + user)))
       (λ user below. task_fits (header.config.cores + user) (omega arith)) (numbers (length header.tasks)) (numbers_below (length header.tasks)))
 
   cores_fit : AllByRecursion Fits (flat_map core_subjects (numbers header.config.cores))
@@ -69,10 +89,17 @@ module _ (header : Header) where
       (All-weaker (λ mutex. mutex < header.config.mutexes) (λ mutex. AllByRecursion Fits (mutex_subjects mutex)) (λ mutex below. (below, (tt, tt)))
       (numbers header.config.mutexes) (numbers_below header.config.mutexes))
 
+  queues_fit : AllByRecursion Fits (flat_map queue_subjects (numbers (queues_of header)))
+  queues_fit =
+      all_flat_map Fits queue_subjects (numbers (queues_of header))
+      (All-weaker (λ queue. queue < queues_of header) (λ queue. AllByRecursion Fits (queue_subjects queue)) (λ queue below. (below, (below, (below, (tt, tt)))))
+      (numbers (queues_of header)) (numbers_below (queues_of header)))
+
   pub subjects_fit : All (IsSubjectOf (settings_of header)) (subjects_of header)
   subjects_fit =
-      let users = user_subjects header.config (length header.tasks) in
+      let users = user_subjects header.config (queues_of header) (length header.tasks) in
       let cores = flat_map core_subjects (numbers header.config.cores) in
       let mutexes = flat_map mutex_subjects (numbers header.config.mutexes) in
-      All-from_recursion Fits (subjects_of header)
-      (All-append Fits (users ++ cores) mutexes (All-append Fits users cores users_fit cores_fit) mutexes_fit)
+      let queues = flat_map queue_subjects (numbers (queues_of header)) in
+      let others = All-append Fits (users ++ cores) mutexes (All-append Fits users cores users_fit cores_fit) mutexes_fit in
+      All-from_recursion Fits (subjects_of header) (All-append Fits ((users ++ cores) ++ mutexes) queues others queues_fit)

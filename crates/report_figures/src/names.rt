@@ -1,10 +1,10 @@
 //! The names of figures.
 ghost use Rattle.std.specs.Prelude.{◌≡◌, ◌++◌, OnOk, decimal, string_bytes};
 ghost use Rattle.bench_types.specs.Header.{name_of};
-ghost use Rattle.report_figures.specs.Names.{cause_name, condition_name, event_name, figure_name, part_name, subject_name};
+ghost use Rattle.report_figures.specs.Names.{cause_name, condition_name, direction_name, event_name, figure_name, part_name, subject_name};
 
 use crate::figures::Part;
-use bench_types::Header;
+use bench_types::{Direction, Header};
 use run_numbers::{Cause, Condition, Event, Subject};
 use std::alloc::AllocError;
 
@@ -41,6 +41,7 @@ fn push_subject(text: &mut String, header: &Header, subject: Subject) -> Result<
         Subject::Ticks(condition) => push_condition(text, header, condition),
         Subject::Steps(event) => push_event(text, header, event),
         Subject::TopPriority { task } => push_of_task(text, header, task, ".top_priority"),
+        Subject::MostMessages { queue } => push_numbered(text, "queue.", queue, ".messages"),
         Subject::NotMade { task } => push_of_task(text, header, task, ".not_made"),
     }
 }
@@ -71,6 +72,8 @@ fn push_condition(
         Condition::Idle { core } => push_numbered(text, "core.", core, ".idle"),
         Condition::Due { core } => push_numbered(text, "core.", core, ".due"),
         Condition::Held { mutex } => push_numbered(text, "mutex.", mutex, ".held"),
+        Condition::Empty { queue } => push_numbered(text, "queue.", queue, ".empty"),
+        Condition::Full { queue } => push_numbered(text, "queue.", queue, ".full"),
     }
 }
 
@@ -82,6 +85,20 @@ fn push_cause(text: &mut String, cause: Cause) -> Result<(), AllocError>
         Cause::Notification => text.push_str("notification"),
         Cause::AnyMutex => text.push_str("mutex"),
         Cause::Mutex(mutex) => push_numbered(text, "mutex.", mutex, ""),
+        Cause::AnyQueue => text.push_str("queue"),
+        Cause::Queue { queue, direction } => {
+            push_numbered(text, "queue.", queue, ".")?;
+            text.push_str(direction_name(direction))
+        }
+    }
+}
+
+fn direction_name(direction: Direction) -> &'static str
+    ensures { result.now ≡ direction_name direction }
+{
+    match direction {
+        Direction::Send => "send",
+        Direction::Receive => "receive",
     }
 }
 
@@ -99,6 +116,7 @@ fn push_event(text: &mut String, header: &Header, event: Event) -> Result<(), Al
             text.push_str(why.code())
         }
         Event::Awaited { mutex } => push_numbered(text, "mutex.", mutex, ".waits"),
+        Event::QueueAwaited { queue } => push_numbered(text, "queue.", queue, ".waits"),
     }
 }
 

@@ -4,14 +4,14 @@ ghost use Rattle.list_orders.specs.Search.{numbers};
 ghost use Rattle.bench_types.specs.Header.{header_check};
 ghost use Rattle.bench_types.specs.Step.{settings_of};
 ghost use Rattle.run_numbers.specs.Readings.{IsSubjectOf};
-ghost use Rattle.report_figures.specs.Subjects.{blocked_on, core_subjects, mutex_subjects, off_core, on_core, refusals_of, steps_of, subjects_of, task_subjects, user_subjects};
+ghost use Rattle.report_figures.specs.Subjects.{blocked_at, blocked_on, blocked_ways, core_subjects, mutex_subjects, off_core, on_core, queue_subjects, queues_of, refusals_of, steps_of, subjects_of, task_subjects, user_subjects, waits_of};
 
-use bench_types::{Config, Header, Refusal};
+use bench_types::{Config, Direction, Header, Refusal};
 use run_numbers::{Cause, Condition, Event, Subject};
 use std::alloc::{AllocError, Global};
 
 /// All that a run of a session with this header is measured by: task by task, then core by core,
-/// then mutex by mutex. Idle tasks are left out.
+/// then mutex by mutex, then queue by queue. Idle tasks are left out.
 #[tactic(auto, using(bench_types::proofs::Passes::checked_header))]
 pub fn subjects_of(alloc: Global, header: &Header) -> Result<Vec<Subject>, AllocError>
     requires { header_check header.now ≡ Ok tt }
@@ -21,32 +21,52 @@ pub fn subjects_of(alloc: Global, header: &Header) -> Result<Vec<Subject>, Alloc
         (λ subjects. All (IsSubjectOf (settings_of header.now)) subjects.items) }
 {
     let config = header.config;
+    let queues = queues_of(header);
     let mut subjects = Vec::new(alloc);
-    push_tasks(&mut subjects, config, header.tasks.as_slice().len())?;
+    push_tasks(&mut subjects, config, queues, header.tasks.as_slice().len())?;
     push_cores(&mut subjects, config.cores)?;
     push_mutexes(&mut subjects, config.mutexes)?;
+    push_queues(&mut subjects, queues)?;
     Ok(subjects)
 }
 
-fn push_tasks(subjects: &mut Vec<Subject>, config: Config, count: usize) -> Result<(), AllocError>
+// How many queues the session has.
+fn queues_of(header: &Header) -> u32
+    requires { header_check header.now ≡ Ok tt }
+    ensures { result ≡ queues_of header.now }
+{
+    header.queue_count().unwrap_or(0)
+}
+
+fn push_tasks(
+    subjects: &mut Vec<Subject>,
+    config: Config,
+    queues: u32,
+    count: usize,
+) -> Result<(), AllocError>
     requires { config.cores + count < 2 ^ 32 }
     ensures { OnOk result
-        (subjects.new.items ≡ subjects.old.items ++ user_subjects config count) }
+        (subjects.new.items ≡ subjects.old.items ++ user_subjects config queues count) }
 {
     for user in 0..count {
-        push_task(subjects, config, config.cores + user as u32)?;
+        push_task(subjects, config, queues, config.cores + user as u32)?;
     }
     Ok(())
 }
 
 #[tactic(auto, unfolding(crate::specs::Subjects::task_subjects))]
-fn push_task(subjects: &mut Vec<Subject>, config: Config, task: u32) -> Result<(), AllocError>
+fn push_task(
+    subjects: &mut Vec<Subject>,
+    config: Config,
+    queues: u32,
+    task: u32,
+) -> Result<(), AllocError>
     ensures { OnOk result
-        (subjects.new.items ≡ subjects.old.items ++ task_subjects config task) }
+        (subjects.new.items ≡ subjects.old.items ++ task_subjects config queues task) }
 {
     push_running(subjects, config.cores, task)?;
     push_all(subjects, &off_core(task))?;
-    push_blocked(subjects, config.mutexes, task)?;
+    push_waits(subjects, config.mutexes, queues, task)?;
     push_all(subjects, &steps_of(task))?;
     push_refusals(subjects, task)?;
     subjects.push(Subject::NotMade { task })?;
@@ -91,6 +111,20 @@ fn blocked(task: u32, cause: Cause) -> Condition
     Condition::Blocked { task, cause }
 }
 
+#[tactic(auto, unfolding(crate::specs::Subjects::waits_of))]
+fn push_waits(
+    subjects: &mut Vec<Subject>,
+    mutexes: u32,
+    queues: u32,
+    task: u32,
+) -> Result<(), AllocError>
+    ensures { OnOk result
+        (subjects.new.items ≡ subjects.old.items ++ waits_of mutexes queues task) }
+{
+    push_blocked(subjects, mutexes, task)?;
+    push_blocked_at(subjects, queues, task)
+}
+
 fn push_blocked(subjects: &mut Vec<Subject>, mutexes: u32, task: u32) -> Result<(), AllocError>
     ensures { OnOk result (subjects.new.items ≡ subjects.old.items ++ blocked_on mutexes task) }
 {
@@ -98,6 +132,42 @@ fn push_blocked(subjects: &mut Vec<Subject>, mutexes: u32, task: u32) -> Result<
         subjects.push(Subject::Ticks(blocked(task, Cause::Mutex(mutex))))?;
     }
     Ok(())
+}
+
+fn push_blocked_at(subjects: &mut Vec<Subject>, queues: u32, task: u32) -> Result<(), AllocError>
+    ensures { OnOk result (subjects.new.items ≡ subjects.old.items ++ blocked_at queues task) }
+{
+    if queues == 0 {
+        return Ok(());
+    }
+    subjects.push(Subject::Ticks(blocked(task, Cause::AnyQueue)))?;
+    push_all_ways(subjects, queues, task)
+}
+
+fn push_all_ways(subjects: &mut Vec<Subject>, queues: u32, task: u32) -> Result<(), AllocError>
+    ensures { OnOk result
+        (subjects.new.items
+        ≡ subjects.old.items ++ flat_map (blocked_ways task) (numbers queues)) }
+{
+    for queue in 0..queues {
+        push_all(subjects, &blocked_ways(task, queue))?;
+    }
+    Ok(())
+}
+
+fn blocked_way(task: u32, queue: u32, direction: Direction) -> Condition
+    ensures { result ≡ Condition.Blocked task (Cause.Queue queue direction) }
+{
+    blocked(task, Cause::Queue { queue, direction })
+}
+
+fn blocked_ways(task: u32, queue: u32) -> [Subject; 2]
+    ensures { result ≡ blocked_ways task queue }
+{
+    [
+        Subject::Ticks(blocked_way(task, queue, Direction::Send)),
+        Subject::Ticks(blocked_way(task, queue, Direction::Receive)),
+    ]
 }
 
 fn steps_of(task: u32) -> [Subject; 4]
@@ -166,4 +236,25 @@ fn push_mutex(subjects: &mut Vec<Subject>, mutex: u32) -> Result<(), AllocError>
     subjects.push(Subject::Ticks(Condition::Held { mutex }))?;
     subjects.push(Subject::Steps(Event::Awaited { mutex }))?;
     Ok(())
+}
+
+fn push_queues(subjects: &mut Vec<Subject>, queues: u32) -> Result<(), AllocError>
+    ensures { OnOk result
+        (subjects.new.items ≡ subjects.old.items ++ flat_map queue_subjects (numbers queues)) }
+{
+    for queue in 0..queues {
+        push_all(subjects, &queue_subjects(queue))?;
+    }
+    Ok(())
+}
+
+fn queue_subjects(queue: u32) -> [Subject; 4]
+    ensures { result ≡ queue_subjects queue }
+{
+    [
+        Subject::MostMessages { queue },
+        Subject::Ticks(Condition::Empty { queue }),
+        Subject::Ticks(Condition::Full { queue }),
+        Subject::Steps(Event::QueueAwaited { queue }),
+    ]
 }

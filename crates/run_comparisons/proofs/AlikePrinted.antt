@@ -1,5 +1,5 @@
 -- Equal steps of two runs that led to the same are told in the same words.
-use Rattle.std.proofs.Common.{◌≡◌, ℕ, List, [], ◌∷◌, ◌++◌, Option, Some, refl, sym, ap, ap₂, ◌∙◌}
+use Rattle.std.proofs.Common.{◌≡◌, ℕ, Bool, List, [], ◌∷◌, ◌++◌, Option, Some, refl, sym, ap, ap₂, ◌∙◌}
 use Rattle.std.specs.Prelude.{◌==◌, codes, if◌then◌else◌}
 use Rattle.bench_types.specs.declared.header.Header.{Header}
 use Rattle.bench_types.specs.declared.note.Note.{Note}
@@ -12,7 +12,8 @@ use Rattle.bench_types.specs.declared.step.Call.TheVariants as calls
 use Rattle.bench_types.specs.declared.step.Step.{Step}
 use Rattle.bench_types.specs.declared.step.Step.TheVariants as steps
 use Rattle.bench_types.specs.Step.{core_of}
-use Rattle.run_views.specs.ReplyWords.{caller_of, predicate, refusal_meaning, reply_words, subject_of, subject_text}
+use Rattle.run_views.specs.ReplyWords.{caller_of, finish_meaning, flag_meaning, flag_text, predicate, refusal_meaning, reply_words, step_flag_meaning, subject_of}
+use Rattle.run_views.specs.ReplyWords.{subject_text}
 use Rattle.run_views.specs.StepWords.{action_text, call_members, call_word, core_text, clear_text, index_text, note_text, number_text, step_text, task_text}
 use Rattle.bench_types.specs.Codes.{refusal_code}
 use Rattle.run_comparisons.specs.declared.made.MadeStep.{MadeStep}
@@ -52,6 +53,7 @@ module _ (header other : Header) (alike : AreNamedAlike header other) where
   same_step (steps.Call core task call) =
       ap₂ (λ (by members : List ℕ). call_word call ++ core_text core ++ by ++ members) (same_task (codes "by") task) (same_members call)
   same_step (steps.Interrupt core note) = ap (λ (text : List ℕ). codes "isr_notify" ++ core_text core ++ text) (same_note note)
+  same_step (steps.QueueInterrupt core queue direction) = refl
 
   same_subject : (core caller : ℕ) (why : Refusal) → subject_text header core caller (subject_of why) ≡ subject_text other core caller (subject_of why)
   same_subject core caller Displaced = alike.names caller
@@ -64,11 +66,25 @@ module _ (header other : Header) (alike : AreNamedAlike header other) where
   unfolding refusal_meaning
   same_refusal core caller why = ap (λ (text : List ℕ). text ++ predicate why) (same_subject core caller why)
 
+  same_finish : (flag : Bool) → finish_meaning header flag ≡ finish_meaning other flag
+  same_finish flag =
+      let queued : List ℕ = if flag then codes "the call succeeded" else codes "the call timed out" in
+      let plain : List ℕ = if flag then codes "the mutex was taken" else codes "the mutex was not taken in time" in
+      ap (λ (some : Bool). if some then queued else plain) alike.queues
+
+  same_flag : (call : Call) (flag : Bool) → flag_meaning header call flag ≡ flag_meaning other call flag
+  same_flag calls.Finish flag = same_finish flag
+  same_flag call flag = refl
+
+  same_step_flag : (step : Step) (flag : Bool) → step_flag_meaning header step flag ≡ step_flag_meaning other step flag
+  same_step_flag (steps.Call core task call) flag = same_flag call flag
+  same_step_flag step flag = refl
+
   same_words : (step : Step) (reply : Reply) → reply_words header step reply ≡ reply_words other step reply
   unfolding reply_words
   same_words step Done = refl
   same_words step Blocked = refl
-  same_words step (Flag flag) = refl
+  same_words step (Flag flag) = ap (λ (text : List ℕ). flag_text flag ++ codes ": " ++ text) (same_step_flag step flag)
   same_words step (Value value) = refl
   same_words step (Waited ok value) = refl
   same_words step (Until delayed wake) = refl

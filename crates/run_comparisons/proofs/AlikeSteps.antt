@@ -1,12 +1,12 @@
 -- Steps that the test finds alike may share a row, and only those.
-use Rattle.std.proofs.Common.{◌≡◌, true, refl, ap, ap₂, sym, ◌∙◌}
+use Rattle.std.proofs.Common.{◌&&◌, ◌≡◌, true, refl, ap, ap₂, sym, ◌∙◌}
 use Rattle.std.specs.Prelude.{◌==◌}
 use Rattle.std.proofs.lemmas.Bool.{and_from, and_parts}
 use Rattle.bench_types.specs.declared.step.Step.{Step}
-use Rattle.bench_types.specs.declared.step.Step.TheVariants.{Tick, Switch, Call, Interrupt}
-use Rattle.bench_model.specs.SameTest.{are_same_calls, are_same_notes}
+use Rattle.bench_types.specs.declared.step.Step.TheVariants.{Tick, Switch, Call, Interrupt, QueueInterrupt}
+use Rattle.bench_model.specs.SameTest.{are_same_calls, are_same_directions, are_same_notes}
 use Rattle.run_comparisons.specs.Alike.{are_alike, MayShareRow}
-use Rattle.run_comparisons.proofs.SameCalls.{call_itself, note_itself, number_itself, one_call, one_note, one_number}
+use Rattle.run_comparisons.proofs.SameCalls.{call_itself, direction_itself, note_itself, number_itself, one_call, one_direction, one_note, one_number}
 
 pub may_share : (step other : Step) → are_alike step other ≡ true → MayShareRow step other
 may_share Tick Tick is = refl
@@ -17,6 +17,13 @@ may_share (Call core task call) (Call other caller made) is =
 may_share (Interrupt core note) (Interrupt other sent) is =
     let parts = and_parts (core == other) (are_same_notes note sent) is in
     ap₂ Interrupt (one_number core other parts.0) (one_note note sent parts.1)
+may_share (QueueInterrupt core queue direction) (QueueInterrupt other others way) is =
+    let parts = and_parts (core == other && queue == others) (are_same_directions direction way) is in
+    let front = and_parts (core == other) (queue == others) parts.0 in
+    let core_is = one_number core other front.0 in
+    let queue_is = one_number queue others front.1 in
+    let way_is = one_direction direction way parts.1 in
+    λ i. QueueInterrupt (core_is i) (queue_is i) (way_is i)
 may_share step other is = absurd (cc is)
 
 step_itself : (step : Step) → are_alike step step ≡ true
@@ -24,6 +31,8 @@ step_itself Tick = refl
 step_itself (Switch core) = number_itself core
 step_itself (Call core task call) = and_from (task == task) (are_same_calls call call) (number_itself task) (call_itself call)
 step_itself (Interrupt core note) = and_from (core == core) (are_same_notes note note) (number_itself core) (note_itself note)
+step_itself (QueueInterrupt core queue direction) = and_from (core == core && queue == queue) (are_same_directions direction direction)
+    (and_from (core == core) (queue == queue) (number_itself core) (number_itself queue)) (direction_itself direction)
 
 one_step : (step other : Step) → step ≡ other → are_alike step other ≡ true
 one_step step other same = ap (are_alike step) (sym same) ∙ step_itself step

@@ -8,8 +8,10 @@ use Rattle.bench_types.specs.declared.note.NotifyAction.TheVariants.{Nothing, Se
 use Rattle.bench_types.specs.declared.note.Note.{Note}
 use Rattle.bench_types.specs.declared.step.Call.{Call}
 use Rattle.bench_types.specs.declared.step.Call.TheVariants.{Yield, Delay, DelayUntil, PrioritySet, AffinitySet, PreemptOff, PreemptOn, Notify, NotifyWait}
-use Rattle.bench_types.specs.declared.step.Call.TheVariants.{NotifyTake, StateClear, ValueClear, MutexTake, MutexGive, Finish, HoldOpen, HoldClose}
-use Rattle.bench_model.specs.SameTest.{are_same_actions, are_same_bools, are_same_calls, are_same_notes}
+use Rattle.bench_types.specs.declared.step.Call.TheVariants.{NotifyTake, StateClear, ValueClear, MutexTake, MutexGive, QueueSend, QueueReceive, Finish, HoldOpen, HoldClose}
+use Rattle.bench_types.specs.declared.step.Direction.{Direction}
+use Rattle.bench_types.specs.declared.step.Direction.TheVariants.{Send, Receive}
+use Rattle.bench_model.specs.SameTest.{are_same_actions, are_same_bools, are_same_calls, are_same_directions, are_same_notes}
 
 -- ---- what is found the same is one
 
@@ -38,6 +40,15 @@ one_note a b is =
     let action = one_action a.action b.action front.1 in
     let index = one_number a.index b.index all.1 in
     λ i. record { task = task i; action = action i; index = index i }
+
+pub one_direction : (a b : Direction) → are_same_directions a b ≡ true → a ≡ b
+one_direction Send Send is = refl
+one_direction Receive Receive is = refl
+one_direction a b is = absurd (cc is)
+
+pub direction_itself : (direction : Direction) → are_same_directions direction direction ≡ true
+direction_itself Send = refl
+direction_itself Receive = refl
 
 two : (a b c d : ℕ) → (a == c && b == d) ≡ true → (a ≡ c) × (b ≡ d)
 two a b c d is = let parts = and_parts (a == c) (b == d) is in (one_number a c parts.0, one_number b d parts.1)
@@ -75,6 +86,8 @@ one_call (ValueClear a b c) (ValueClear d e f) is =
     λ i. ValueClear (all.0 i) (all.1 i) (all.2 i)
 one_call (MutexTake a b) (MutexTake c d) is = let e = two a b c d is in ap₂ MutexTake e.0 e.1
 one_call (MutexGive a) (MutexGive b) is = ap MutexGive (one_number a b is)
+one_call (QueueSend a b) (QueueSend c d) is = let e = two a b c d is in ap₂ QueueSend e.0 e.1
+one_call (QueueReceive a b) (QueueReceive c d) is = let e = two a b c d is in ap₂ QueueReceive e.0 e.1
 one_call Finish Finish is = refl
 one_call HoldOpen HoldOpen is = refl
 one_call HoldClose HoldClose is = refl
@@ -126,6 +139,8 @@ call_itself (StateClear a b) = two_themselves a b
 call_itself (ValueClear a b c) = three_themselves a b c
 call_itself (MutexTake a b) = two_themselves a b
 call_itself (MutexGive a) = number_itself a
+call_itself (QueueSend a b) = two_themselves a b
+call_itself (QueueReceive a b) = two_themselves a b
 call_itself Finish = refl
 call_itself HoldOpen = refl
 call_itself HoldClose = refl

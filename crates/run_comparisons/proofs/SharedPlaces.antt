@@ -11,7 +11,7 @@ use Rattle.bench_types.specs.declared.note.NotifyAction.{NotifyAction}
 use Rattle.bench_types.specs.declared.note.NotifyAction.TheVariants.{Nothing, SetBits, Increment, Set, SetNew}
 use Rattle.bench_types.specs.declared.note.Note.{Note}
 use Rattle.bench_types.specs.declared.step.Step.{Step}
-use Rattle.bench_types.specs.declared.step.Step.TheVariants.{Tick, Interrupt}
+use Rattle.bench_types.specs.declared.step.Step.TheVariants.{Tick, Interrupt, QueueInterrupt}
 use Rattle.bench_model.specs.SameTest.{are_same_actions, are_same_notes}
 use Rattle.settled_runs.specs.SettleLaws.{comes_from_outside}
 use Rattle.run_comparisons.specs.declared.place_pair.PlacePair.{PlacePair}
@@ -23,6 +23,7 @@ use Rattle.run_comparisons.specs.Shared.{is_same_event, place_in, places_in, sha
 use Rattle.run_comparisons.specs.SideBySide.{IsWithin}
 use Rattle.run_comparisons.specs.SettledRowLaws.{AreAlikeAt}
 use Rattle.run_comparisons.proofs.AlikeSteps.{may_share}
+use Rattle.run_comparisons.proofs.SameCalls.{direction_itself}
 use Rattle.run_comparisons.proofs.EventPlaces.{place_listed, stands_behind, stands_there, stands_within}
 
 -- ---- events that are alike
@@ -30,6 +31,7 @@ use Rattle.run_comparisons.proofs.EventPlaces.{place_listed, stands_behind, stan
 alike_outside : (step other : Step) → comes_from_outside step ≡ true → are_alike step other ≡ true → comes_from_outside other ≡ true
 alike_outside Tick Tick is alike = refl
 alike_outside (Interrupt core note) (Interrupt other sent) is alike = refl
+alike_outside (QueueInterrupt core queue direction) (QueueInterrupt other others way) is alike = refl
 alike_outside step other is alike = absurd (cc (is, alike))
 
 action_itself : (action : NotifyAction) → are_same_actions action action ≡ true
@@ -45,6 +47,7 @@ note_itself note = grind (arith, nat_tests, action_itself note.action)
 pub alike_itself : (event : Step) → comes_from_outside event ≡ true → are_alike event event ≡ true
 alike_itself Tick is = refl
 alike_itself (Interrupt core note) is = grind (arith, nat_tests, note_itself note)
+alike_itself (QueueInterrupt core queue direction) is = grind (arith, nat_tests, direction_itself direction)
 alike_itself step is = absurd (cc is)
 
 -- ---- the row of a shared event

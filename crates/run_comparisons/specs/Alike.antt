@@ -1,8 +1,8 @@
 -- Steps of two runs that stand beside one another.
 use Rattle.std.specs.Prelude.{◌≡◌, Bool, true, false, ◌&&◌, ◌==◌}
 use Rattle.bench_types.specs.declared.step.Step.{Step}
-use Rattle.bench_types.specs.declared.step.Step.TheVariants.{Tick, Switch, Call, Interrupt}
-use Rattle.bench_model.specs.SameTest.{are_same_calls, are_same_notes}
+use Rattle.bench_types.specs.declared.step.Step.TheVariants.{Tick, Switch, Call, Interrupt, QueueInterrupt}
+use Rattle.bench_model.specs.SameTest.{are_same_calls, are_same_directions, are_same_notes}
 
 -- they are equal, or one call of one task, on whatever cores
 abbrev pub are_alike : Step → Step → Bool
@@ -11,6 +11,8 @@ are_alike (Switch core) (Switch other) = core == other
 are_alike (Call core task call) (Call other caller made) =
     task == caller && are_same_calls call made
 are_alike (Interrupt core note) (Interrupt other sent) = core == other && are_same_notes note sent
+are_alike (QueueInterrupt core queue direction) (QueueInterrupt other others way) =
+    core == other && queue == others && are_same_directions direction way
 are_alike step other = false
 
 -- they are one step, or one call of one task, on whatever cores: the same in words of equality

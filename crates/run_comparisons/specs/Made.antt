@@ -1,5 +1,5 @@
 -- Steps that runs made, as data: equal ones are told in the same words.
-use Rattle.std.specs.Prelude.{◌≡◌, ℕ, List, [], slice_index_or, Option, Some, None}
+use Rattle.std.specs.Prelude.{◌≡◌, ℕ, List, [], slice_index_or, is_some, Option, Some, None}
 use Rattle.bench_types.specs.declared.header.Header.{Header}
 use Rattle.bench_types.specs.declared.header.TaskArgs.{TaskArgs}
 use Rattle.bench_types.specs.Header.{name_of}
@@ -22,7 +22,9 @@ abbrev pub name_at : List TaskArgs → ℕ → List ℕ
 name_at tasks place =
     (slice_index_or tasks place (record { name = []; priority = 0; mask = 0 })).name
 
--- each task has one name in both, and as many notifications
+-- each task has one name in both, and as many notifications, and both say which queues there are or
+-- neither does
 pub record AreNamedAlike (header other : Header) : Type 0 where
   pub names : (task : ℕ) → name_of header task ≡ name_of other task
   pub notes : header.config.notes ≡ other.config.notes
+  pub queues : is_some header.queues ≡ is_some other.queues

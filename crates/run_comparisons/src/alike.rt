@@ -1,10 +1,10 @@
 //! Steps of two runs that stand beside one another.
 ghost use Rattle.std.specs.Prelude.{◌≡◌};
-ghost use Rattle.bench_model.specs.SameTest.{are_same_calls, are_same_notes};
+ghost use Rattle.bench_model.specs.SameTest.{are_same_calls, are_same_directions, are_same_notes};
 ghost use Rattle.settled_runs.specs.SettleLaws.{comes_from_outside};
 ghost use Rattle.run_comparisons.specs.Alike.{are_alike};
 
-use bench_types::{Call, Note, Step};
+use bench_types::{Call, Direction, Note, Step};
 
 fn are_same_calls(call: Call, other: Call) -> bool
     ensures { result ≡ are_same_calls call other }
@@ -16,6 +16,12 @@ fn are_same_notes(note: Note, other: Note) -> bool
     ensures { result ≡ are_same_notes note other }
 {
     note == other
+}
+
+fn are_same_directions(direction: Direction, other: Direction) -> bool
+    ensures { result ≡ are_same_directions direction other }
+{
+    direction == other
 }
 
 /// Whether the steps are equal, or one call of one task, on whatever cores.
@@ -40,6 +46,18 @@ pub(crate) fn are_alike(step: &Step, other: &Step) -> bool
                 note: sent,
             },
         ) => core == other && are_same_notes(note, sent),
+        (
+            Step::QueueInterrupt {
+                core,
+                queue,
+                direction,
+            },
+            Step::QueueInterrupt {
+                core: other,
+                queue: others,
+                direction: way,
+            },
+        ) => core == other && queue == others && are_same_directions(direction, way),
         _ => false,
     }
 }
@@ -48,5 +66,8 @@ pub(crate) fn are_alike(step: &Step, other: &Step) -> bool
 pub(crate) fn comes_from_outside(step: &Step) -> bool
     ensures { result ≡ comes_from_outside step.now }
 {
-    matches!(step, Step::Tick | Step::Interrupt { .. })
+    matches!(
+        step,
+        Step::Tick | Step::Interrupt { .. } | Step::QueueInterrupt { .. }
+    )
 }

@@ -54,11 +54,13 @@ fn have_same_names(tasks: &[TaskArgs], others: &[TaskArgs]) -> bool
             .all(|(task, other)| task.name == other.name)
 }
 
-/// Whether each task has one name in both, and as many notifications.
+/// Whether each task has one name in both, and as many notifications, and both say which queues
+/// there are or neither does.
 pub(crate) fn are_named_alike(header: &Header, other: &Header) -> bool
     ensures { result ≡ true → AreNamedAlike header.now other.now }
 {
     header.config.cores == other.config.cores
         && header.config.notes == other.config.notes
+        && header.queues.is_some() == other.queues.is_some()
         && have_same_names(header.tasks.as_slice(), other.tasks.as_slice())
 }

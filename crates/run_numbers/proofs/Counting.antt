@@ -14,7 +14,7 @@ use Rattle.run_numbers.specs.declared.counter.Counter.{Counter}
 use Rattle.run_numbers.specs.declared.event.BeforeStep.{BeforeStep}
 use Rattle.run_numbers.specs.declared.subject.Reading.{Reading}
 use Rattle.run_numbers.specs.declared.subject.Subject.{Subject}
-use Rattle.run_numbers.specs.declared.subject.Subject.TheVariants.{Ticks, Steps, TopPriority, NotMade}
+use Rattle.run_numbers.specs.declared.subject.Subject.TheVariants.{Ticks, Steps, TopPriority, MostMessages, NotMade}
 use Rattle.run_numbers.specs.Conditions.{holds}
 use Rattle.run_numbers.specs.Counted.{holds_of, IsOpen, Tells}
 use Rattle.run_numbers.specs.Counters.{seen, took, with_stretch}
@@ -148,6 +148,8 @@ module _ (view : View) (step : Step) (place : ℕ) (ticks : List ℕ) where
       other_found counter.reading counter.since (gauge_at header steps place (Steps event)) (Steps event) refl refl tells
   is_found header steps (TopPriority task) counter tells =
       other_found counter.reading counter.since (gauge_at header steps place (TopPriority task)) (TopPriority task) refl refl tells
+  is_found header steps (MostMessages queue) counter tells =
+      other_found counter.reading counter.since (gauge_at header steps place (MostMessages queue)) (MostMessages queue) refl refl tells
   is_found header steps (NotMade task) counter tells =
       other_found counter.reading counter.since (gauge_at header steps place (NotMade task)) (NotMade task) refl refl tells
 
@@ -189,12 +191,14 @@ module _ (view after : View) (ticks : List ℕ) (subject : Subject) (gauge : Gau
 module _ (before : BeforeStep) (step : Step) (reply : Reply) (view after : View) (ticks : List ℕ) where
   -- what the step was, and what holds after it, is told
   pub is_taken : (subject : Subject) (gauge : Gauge) (counter : Counter) → IsFound view ticks subject gauge counter
-      → Tells after ticks subject (left before step reply after.control subject gauge) (took before step reply after ticks subject counter)
+      → Tells after ticks subject (left before step reply after subject gauge) (took before step reply after ticks subject counter)
   is_taken (Ticks condition) gauge counter it =
       seen_at after ticks gauge (Ticks condition) (holds list_queues condition after) counter.reading counter.since refl it.tells.numbers it.tells.since it.none
   is_taken (Steps event) gauge counter it =
       total_at view after ticks (Steps event) gauge refl _ _ counter.reading counter.since it.tells.opened it.tells.numbers (λ same. cc same)
   is_taken (TopPriority task) gauge counter it =
       total_at view after ticks (TopPriority task) gauge refl _ _ counter.reading counter.since it.tells.opened it.tells.numbers (λ same. cc same)
+  is_taken (MostMessages queue) gauge counter it =
+      total_at view after ticks (MostMessages queue) gauge refl _ _ counter.reading counter.since it.tells.opened it.tells.numbers (λ same. cc same)
   is_taken (NotMade task) gauge counter it =
       total_at view after ticks (NotMade task) gauge refl _ _ counter.reading counter.since it.tells.opened it.tells.numbers (λ same. same)

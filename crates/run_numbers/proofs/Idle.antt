@@ -5,7 +5,7 @@ use Rattle.std.specs.Option.{option_map_or, ForSome}
 use Rattle.std.proofs.lemmas.Bool.Decides.{nat_tests}
 use Rattle.bench_types.specs.declared.reply.Reply.{Reply}
 use Rattle.bench_types.specs.declared.step.Step.{Step}
-use Rattle.bench_types.specs.declared.step.Step.TheVariants.{Tick, Switch, Interrupt}
+use Rattle.bench_types.specs.declared.step.Step.TheVariants.{Tick, Switch, Interrupt, QueueInterrupt}
 use Rattle.bench_types.specs.declared.step.Step.TheVariants as steps
 use Rattle.bench_types.specs.declared.step.Call.{Call}
 use Rattle.bench_types.specs.declared.step.Call.TheVariants as calls
@@ -16,12 +16,12 @@ use Rattle.bench_model.specs.Tally.{is_call_of, is_current, is_finish_of, says_r
 use Rattle.run_numbers.specs.declared.counter.Counter.{Counter}
 use Rattle.run_numbers.specs.declared.look.Look.{Look}
 use Rattle.run_numbers.specs.declared.subject.Condition.{Condition}
-use Rattle.run_numbers.specs.declared.subject.Condition.TheVariants.{Running, RunningOn, WantsCore, Inverted, Blocked, HeldUp, Busy, Idle, Due, Held}
+use Rattle.run_numbers.specs.declared.subject.Condition.TheVariants.{Running, RunningOn, WantsCore, Inverted, Blocked, HeldUp, Busy, Idle, Due, Held, Empty, Full}
 use Rattle.run_numbers.specs.declared.subject.Event.{Event}
-use Rattle.run_numbers.specs.declared.subject.Event.TheVariants.{SwitchedIn, Inherits, TimesOut, Refused, Awaited}
+use Rattle.run_numbers.specs.declared.subject.Event.TheVariants.{SwitchedIn, Inherits, TimesOut, Refused, Awaited, QueueAwaited}
 use Rattle.run_numbers.specs.declared.subject.Reading.{Reading}
 use Rattle.run_numbers.specs.declared.subject.Subject.{Subject}
-use Rattle.run_numbers.specs.declared.subject.Subject.TheVariants.{Ticks, Steps, TopPriority, NotMade}
+use Rattle.run_numbers.specs.declared.subject.Subject.TheVariants.{Ticks, Steps, TopPriority, MostMessages, NotMade}
 use Rattle.run_numbers.specs.AfterStep.{happens_after, inherited, known_before, left_by, risen, switched_in}
 use Rattle.run_numbers.specs.Conditions.{holds, is_cause}
 use Rattle.run_numbers.specs.Counted.{holds_of}
@@ -89,6 +89,8 @@ module _ (before after : View) (row : List ℕ) (step : Step) (reply : Reply) (t
     holds_kept (Idle core) is low = absurd (cc is)
     holds_kept (Due core) is low = absurd (cc is)
     holds_kept (Held mutex) is low = absurd (cc is)
+    holds_kept (Empty queue) is low = absurd (cc is)
+    holds_kept (Full queue) is low = absurd (cc is)
 
   -- it is not switched in
   not_switched : (step : Step) → ForSome (left_by before.control step) (λ left. left.0 < before.settings.cores)
@@ -98,6 +100,7 @@ module _ (before after : View) (row : List ℕ) (step : Step) (reply : Reply) (t
       both_fail (current after.control core == task) (current before.control core == task)
       (sym (seat_kept core (low (core, current before.control core) refl)))
   not_switched (Interrupt core note) low = refl
+  not_switched (QueueInterrupt core queue direction) low = refl
   not_switched (steps.Call core caller call) low = refl
 
   not_raised : (raised : Option (ℕ × ℕ)) → ForSome raised (λ raised. raised.0 ≢ task) → inherited raised after.control task ≡ false
@@ -110,6 +113,7 @@ module _ (before after : View) (row : List ℕ) (step : Step) (reply : Reply) (t
   not_finish Tick is = refl
   not_finish (Switch core) is = refl
   not_finish (Interrupt core note) is = refl
+  not_finish (QueueInterrupt core queue direction) is = refl
   not_finish (steps.Call core caller call) is = by call
     where
       by : (call : Call) → is_finish_of task (steps.Call core caller call) ≡ false
@@ -128,6 +132,8 @@ module _ (before after : View) (row : List ℕ) (step : Step) (reply : Reply) (t
       by (calls.ValueClear other index bits) = refl
       by (calls.MutexTake mutex ticks) = refl
       by (calls.MutexGive mutex) = refl
+      by (calls.QueueSend queue ticks) = refl
+      by (calls.QueueReceive queue ticks) = refl
       by calls.HoldOpen = refl
       by calls.HoldClose = refl
 
@@ -150,6 +156,7 @@ module _ (before after : View) (row : List ℕ) (step : Step) (reply : Reply) (t
       subst (λ other. (is_call_of other step && is_refusal why reply) ≡ false) own
       (fails_first (is_call_of task step) (is_refusal why reply) apart.caller)
   nothing_happens (Awaited mutex) is low = absurd (cc is)
+  nothing_happens (QueueAwaited queue) is low = absurd (cc is)
 
   -- none of its counters changes
   pub is_idle : (subject : Subject) (ticks : List ℕ) (counter : Counter) → task_of subject ≡ Some task → IsSubjectOf before.settings subject
@@ -164,4 +171,5 @@ module _ (before after : View) (row : List ℕ) (step : Step) (reply : Reply) (t
       let own : other ≡ task = cc is in
       let few = top (ap TopPriority own) in
       total_same counter _ (ap (λ other. max counter.reading.total (task_at after.control other).in_use) own ∙ omega (arith, few))
+  is_idle (MostMessages queue) ticks counter is known same low opened top = absurd (cc is)
   is_idle (NotMade other) ticks counter is known same low opened top = refl

@@ -19,6 +19,7 @@ use Rattle.list_orders.specs.Search.{numbers}
 use Rattle.bench_model.specs.Control.{task_at}
 use Rattle.bench_model.specs.Equal.{StandsFor}
 use Rattle.bench_model.specs.Lists.{View, view_of, list_queues}
+use Rattle.bench_model.specs.Queues.{queue_at}
 use Rattle.bench_model.specs.Session.{state_at, step_of}
 use Rattle.bench_model.specs.Start.{start}
 use Rattle.bench_model.specs.Table.{Stamps, Table}
@@ -29,7 +30,7 @@ use Rattle.run_numbers.specs.declared.counter.Counter.{Counter}
 use Rattle.run_numbers.specs.declared.look.Look.{Look}
 use Rattle.run_numbers.specs.declared.subject.Reading.{Reading}
 use Rattle.run_numbers.specs.declared.subject.Subject.{Subject}
-use Rattle.run_numbers.specs.declared.subject.Subject.TheVariants.{Ticks, Steps, TopPriority, NotMade}
+use Rattle.run_numbers.specs.declared.subject.Subject.TheVariants.{Ticks, Steps, TopPriority, MostMessages, NotMade}
 use Rattle.run_numbers.specs.declared.taking.Plan.{Plan}
 use Rattle.run_numbers.specs.AfterStep.{known_before, left_by}
 use Rattle.run_numbers.specs.Conditions.{holds}
@@ -110,6 +111,11 @@ first_tells header steps kernel (TopPriority task) shows = record {
   opened = refl;
   since = for_none _;
 }
+first_tells header steps kernel (MostMessages queue) shows = record {
+  numbers = ap only (sym (ap (λ (v : View). (queue_at v.queues queue).messages) shows) ∙ omega arith);
+  opened = refl;
+  since = for_none _;
+}
 first_tells header steps kernel (NotMade task) shows = record { numbers = refl; opened = refl; since = for_none _ }
 
 pub start_counted : (session : Session) (kernel : View) (plan : Plan) (counters : List Counter) (looks : List (Option Look)) (row ticks : List ℕ)
@@ -171,6 +177,7 @@ module _ (session : Session) (place : ℕ) (kernel : View) (plan : Plan) (counte
       let known = total_told (later_ticks step) counter _ it.tells.opened (ap (λ (reading : Reading). reading.total) it.tells.numbers) in
       omega (arith, known, few_passed session.header session.steps (happens event) place, low, few)
   room_for step (TopPriority task) counter it = tt
+  room_for step (MostMessages queue) counter it = tt
   room_for step (NotMade task) counter it = tt
 
   pub have_room : (step : Step) → HaveRoom (later_ticks step) plan.subjects.now counters
@@ -211,12 +218,12 @@ module _ (session : Session) (place : ℕ) (kernel : View) (plan : Plan) (counte
 
     -- the gauge after the step
     gauge_next : (subject : Subject) → IsSubjectOf kernel.settings subject
-        → stepped kernel step reply later.control place subject (gauge_at session.header session.steps place subject)
+        → stepped kernel step reply later place subject (gauge_at session.header session.steps place subject)
         ≡ gauge_at session.header session.steps (suc place) subject
     gauge_next subject known =
         let gauge = gauge_at session.header session.steps place subject in
-        ap (λ (v : View). stepped v step reply later.control place subject gauge) (sym counted.stands.shows)
-        ∙ ap (λ (v : View). stepped (view_of here) step reply v.control place subject gauge) (sym stood.shows)
+        ap (λ (v : View). stepped v step reply later place subject gauge) (sym counted.stands.shows)
+        ∙ ap (λ (v : View). stepped (view_of here) step reply v place subject gauge) (sym stood.shows)
         ∙ gauge_more session.header session.steps place step there counted.stands.sound.consistent next subject (of_table subject known)
 
     taken_tells : (k : ℕ) → k < length plan.subjects.now → let subject = subject_in plan.subjects.now k in
@@ -309,6 +316,7 @@ all_told session kernel plan counters looks row ticks few counted = record {
         (omega (arith, few)) (few_passed session.header session.steps (is_found condition) (length session.steps)) tells.numbers tells.since
     at (Steps event) counter tells = plain_room ticks counter (omega (arith, few, counted.few)) tells.opened
     at (TopPriority task) counter tells = plain_room ticks counter (omega (arith, few, counted.few)) tells.opened
+    at (MostMessages queue) counter tells = plain_room ticks counter (omega (arith, few, counted.few)) tells.opened
     at (NotMade task) counter tells = plain_room ticks counter (omega (arith, few, counted.few)) tells.opened
 
 -- the numbers of a subject after the last step
@@ -319,6 +327,7 @@ last_measured header steps ticks counter left (Ticks condition) is =
     (is ∙ rw (find_top (stretch_at header steps condition) (length steps)) refl)
 last_measured header steps ticks counter left (Steps event) is = ap (λ (reading : Reading). record { subject = Steps event; reading = reading }) is
 last_measured header steps ticks counter left (TopPriority task) is = ap (λ (reading : Reading). record { subject = TopPriority task; reading = reading }) is
+last_measured header steps ticks counter left (MostMessages queue) is = ap (λ (reading : Reading). record { subject = MostMessages queue; reading = reading }) is
 last_measured header steps ticks counter left (NotMade task) is = refl
 
 pub all_measured : (session : Session) (ticks : List ℕ) (counters : List Counter) (left : List WaitingCall) (subjects : List Subject)

@@ -6,7 +6,7 @@ use Rattle.std.proofs.lemmas.Bool.{cases_eq}
 use Rattle.std.proofs.lemmas.Bool.Decides.{nat_tests}
 use Rattle.bench_types.specs.declared.reply.Reply.{Reply}
 use Rattle.bench_types.specs.declared.step.Step.{Step}
-use Rattle.bench_types.specs.declared.step.Step.TheVariants.{Tick, Switch, Interrupt}
+use Rattle.bench_types.specs.declared.step.Step.TheVariants.{Tick, Switch, Interrupt, QueueInterrupt}
 use Rattle.bench_types.specs.declared.step.Step.TheVariants as steps
 use Rattle.bench_model.specs.Control.{Control, task_at}
 use Rattle.bench_model.specs.Lists.{list_queues, view_of}
@@ -16,9 +16,9 @@ use Rattle.bench_model.specs.Table.{Stamps, Table, stamp_queues}
 use Rattle.order_laws.proofs.SeenMoves.{is_ready_seen}
 use Rattle.smp_kernel.specs.Raised.{raised_by, KeepsOthers}
 use Rattle.run_numbers.specs.declared.subject.Condition.{Condition}
-use Rattle.run_numbers.specs.declared.subject.Condition.TheVariants.{Running, RunningOn, WantsCore, Inverted, Blocked, HeldUp, Busy, Idle, Due, Held}
+use Rattle.run_numbers.specs.declared.subject.Condition.TheVariants.{Running, RunningOn, WantsCore, Inverted, Blocked, HeldUp, Busy, Idle, Due, Held, Empty, Full}
 use Rattle.run_numbers.specs.declared.subject.Event.{Event}
-use Rattle.run_numbers.specs.declared.subject.Event.TheVariants.{SwitchedIn, Inherits, TimesOut, Refused, Awaited}
+use Rattle.run_numbers.specs.declared.subject.Event.TheVariants.{SwitchedIn, Inherits, TimesOut, Refused, Awaited, QueueAwaited}
 use Rattle.run_numbers.specs.AfterStep.{happens_after, inherited, risen, known_before}
 use Rattle.run_numbers.specs.Conditions.{holds}
 use Rattle.run_numbers.specs.Events.{happens, inherits}
@@ -41,6 +41,8 @@ holds_seen table (Busy core) sound low = refl
 holds_seen table (Idle core) sound low = refl
 holds_seen table (Due core) sound low = refl
 holds_seen table (Held mutex) sound low = refl
+holds_seen table (Empty queue) sound low = refl
+holds_seen table (Full queue) sound low = refl
 
 not_less : (n : ℕ) (b : Bool) → (nat_lt n n && b) ≡ false
 not_less n b = at (nat_lt n n) (grind (arith, nat_tests))
@@ -81,7 +83,9 @@ happens_seen (SwitchedIn task) table next (Switch core) reply kept = refl
 happens_seen (SwitchedIn task) table next Tick reply kept = refl
 happens_seen (SwitchedIn task) table next (steps.Call core caller call) reply kept = refl
 happens_seen (SwitchedIn task) table next (Interrupt core note) reply kept = refl
+happens_seen (SwitchedIn task) table next (QueueInterrupt core queue direction) reply kept = refl
 happens_seen (Inherits task) table next step reply kept = inherited_seen (raised_by (view_of table) step) table.control next.control task kept
 happens_seen (TimesOut task) table next step reply kept = refl
 happens_seen (Refused task why) table next step reply kept = refl
 happens_seen (Awaited mutex) table next step reply kept = refl
+happens_seen (QueueAwaited queue) table next step reply kept = refl

@@ -16,9 +16,10 @@ use Rattle.smp_kernel.proofs.Raises.{step_others}
 use Rattle.run_numbers.specs.Gauge.{Gauge}
 use Rattle.run_numbers.specs.declared.subject.Condition.{Condition}
 use Rattle.run_numbers.specs.declared.subject.Subject.{Subject}
-use Rattle.run_numbers.specs.declared.subject.Subject.TheVariants.{Ticks, Steps, TopPriority, NotMade}
+use Rattle.run_numbers.specs.declared.subject.Subject.TheVariants.{Ticks, Steps, TopPriority, MostMessages, NotMade}
 use Rattle.run_numbers.specs.Events.{happens}
 use Rattle.run_numbers.specs.Gauges.{initial_gauge, spell_after}
+use Rattle.run_numbers.specs.Messages.{messages_at}
 use Rattle.run_numbers.specs.Progress.{stepped}
 use Rattle.run_numbers.specs.Readings.{IsSubjectOf}
 use Rattle.run_numbers.specs.Stretches.{holds_at, is_found, is_tick_at, start_at, stretch_at}
@@ -101,11 +102,12 @@ module _ (header : Header) (steps : List Step) (place : ℕ) (step : Step) (ther
       chosen false is none = rw is refl
 
   -- the numbers so far, one place further
-  pub gauge_more : (subject : Subject) → IsSubjectOf here.settings subject → stepped (view_of here) step reply later.control place subject
+  pub gauge_more : (subject : Subject) → IsSubjectOf here.settings subject → stepped (view_of here) step reply (view_of later) place subject
       (gauge_at header steps place subject) ≡ gauge_at header steps (suc place) subject
   gauge_more (Ticks condition) known = rw (holds_seen here condition sound known)
       (spell_more condition (holds_at header steps condition place) (is_tick step) refl refl)
   gauge_more (Steps event) known = ap initial_gauge (sym
       (passed_more (happens event) ∙ ap (λ b. passed header steps (happens event) place + one_if b) (sym (happens_seen event here later step reply kept))))
   gauge_more (TopPriority task) known = ap initial_gauge (sym (greatest_more (in_use_at header steps task) (suc place)))
+  gauge_more (MostMessages queue) known = ap initial_gauge (sym (greatest_more (messages_at header steps queue) (suc place)))
   gauge_more (NotMade task) known = refl

@@ -10,8 +10,8 @@ use Rattle.bench_model.specs.Tally.{is_call_of, is_finish_of, says_run_out}
 use Rattle.smp_kernel.specs.Raised.{raised_by}
 use Rattle.run_numbers.specs.declared.event.BeforeStep.{BeforeStep}
 use Rattle.run_numbers.specs.declared.subject.Event.{Event}
-use Rattle.run_numbers.specs.declared.subject.Event.TheVariants.{SwitchedIn, Inherits, TimesOut, Refused, Awaited}
-use Rattle.run_numbers.specs.Events.{is_refusal, is_take_of, is_wait}
+use Rattle.run_numbers.specs.declared.subject.Event.TheVariants.{SwitchedIn, Inherits, TimesOut, Refused, Awaited, QueueAwaited}
+use Rattle.run_numbers.specs.Events.{is_refusal, is_take_of, is_transfer_of, is_wait}
 
 -- the core that switches, and the task that it has
 abbrev pub left_by : Control → Step → Option (ℕ × ℕ)
@@ -49,3 +49,5 @@ happens_after (Refused task why) before step reply after =
     is_call_of task step && is_refusal why reply
 happens_after (Awaited mutex) before step reply after =
     is_take_of mutex step && is_wait reply
+happens_after (QueueAwaited queue) before step reply after =
+    is_transfer_of queue step && is_wait reply

@@ -1,18 +1,21 @@
--- What holds of a task, a core or a mutex in a state.
+-- What holds of a task, a core, a mutex or a queue in a state.
 use Rattle.std.specs.Prelude.{ℕ, Bool, true, false, not, ◌&&◌, ◌==◌, nat_lt, Option, Some, None, is_some, option_map}
 use Rattle.std.specs.Option.{option_and_then, option_map_or}
 use Rattle.bench_types.specs.Cause.{cause_of}
 use Rattle.bench_types.specs.declared.cause.Cause.{Cause as WaitCause}
 use Rattle.bench_types.specs.declared.cause.Cause.TheVariants as wait
+use Rattle.bench_types.specs.declared.kernel_data.QueueLook.{QueueLook}
 use Rattle.bench_types.specs.declared.step.Unfinished.{Unfinished}
-use Rattle.bench_types.specs.declared.step.Unfinished.TheVariants.{Made, Take}
+use Rattle.bench_types.specs.declared.step.Unfinished.TheVariants.{Made, Take, Transfer}
 use Rattle.bench_model.specs.Control.{Control, current, is_due, is_idle, task_at}
+use Rattle.bench_model.specs.Queues.{queue_at}
+use Rattle.bench_model.specs.SameTest.{are_same_directions}
 use Rattle.bench_model.specs.State.{State, QueueOps, call_at, holder_at}
 use Rattle.bench_model.specs.Tally.{is_current, outranks_some, wants_core}
 use Rattle.run_numbers.specs.declared.subject.Cause.{Cause}
 use Rattle.run_numbers.specs.declared.subject.Cause.TheVariants as cause
 use Rattle.run_numbers.specs.declared.subject.Condition.{Condition}
-use Rattle.run_numbers.specs.declared.subject.Condition.TheVariants.{Running, RunningOn, WantsCore, Inverted, Blocked, HeldUp, Busy, Idle, Due, Held}
+use Rattle.run_numbers.specs.declared.subject.Condition.TheVariants.{Running, RunningOn, WantsCore, Inverted, Blocked, HeldUp, Busy, Idle, Due, Held, Empty, Full}
 
 -- a task that is blocked for what its unfinished call waits for is blocked for the cause
 abbrev pub is_cause : Cause → WaitCause → Bool
@@ -20,11 +23,15 @@ is_cause cause.Delay wait.Delay = true
 is_cause cause.Notification wait.Notification = true
 is_cause cause.AnyMutex (wait.Mutex mutex) = true
 is_cause (cause.Mutex wanted) (wait.Mutex mutex) = mutex == wanted
+is_cause cause.AnyQueue (wait.Queue queue direction) = true
+is_cause (cause.Queue wanted way) (wait.Queue queue direction) =
+    queue == wanted && are_same_directions direction way
 is_cause cause waits = false
 
 -- the mutex that the unfinished call takes
 abbrev pub mutex_of : Unfinished → Option ℕ
 mutex_of (Take mutex mark) = Some mutex
+mutex_of (Transfer queue direction) = None
 mutex_of (Made call) = None
 
 -- the task has a lower base priority than the other, and is on no core
@@ -32,6 +39,14 @@ abbrev pub holds_up : Control → ℕ → ℕ → Bool
 holds_up control task holder =
     nat_lt (task_at control holder).base (task_at control task).base
     && not (is_current control holder)
+
+-- the queue has no message
+abbrev pub is_empty : QueueLook → Bool
+is_empty queue = queue.messages == 0
+
+-- it has as many as it can have
+abbrev pub is_full : QueueLook → Bool
+is_full queue = queue.messages == queue.length
 
 module _ {Orders : Type 0} (ops : QueueOps Orders) where
   -- the task is blocked for the cause
@@ -64,3 +79,5 @@ module _ {Orders : Type 0} (ops : QueueOps Orders) where
   holds (Idle core) state = is_idle state.control (current state.control core)
   holds (Due core) state = is_due state.control core
   holds (Held mutex) state = is_some (holder_at state.holders mutex)
+  holds (Empty queue) state = is_empty (queue_at state.queues queue)
+  holds (Full queue) state = is_full (queue_at state.queues queue)

@@ -5,13 +5,14 @@ use Rattle.bench_types.specs.declared.reply.Reply.{Reply}
 use Rattle.bench_types.specs.declared.step.Step.{Step}
 use Rattle.bench_model.specs.Control.{task_at}
 use Rattle.bench_model.specs.Lists.{View, list_queues}
+use Rattle.bench_model.specs.Queues.{queue_at}
 use Rattle.bench_model.specs.Tallied.{one_if}
 use Rattle.run_numbers.specs.declared.counter.Counter.{Counter}
 use Rattle.run_numbers.specs.declared.counter.Made.{Made}
 use Rattle.run_numbers.specs.declared.event.BeforeStep.{BeforeStep}
 use Rattle.run_numbers.specs.declared.subject.Reading.{Reading}
 use Rattle.run_numbers.specs.declared.subject.Subject.{Subject}
-use Rattle.run_numbers.specs.declared.subject.Subject.TheVariants.{Ticks, Steps, TopPriority, NotMade}
+use Rattle.run_numbers.specs.declared.subject.Subject.TheVariants.{Ticks, Steps, TopPriority, MostMessages, NotMade}
 use Rattle.run_numbers.specs.AfterStep.{happens_after}
 use Rattle.run_numbers.specs.Conditions.{holds}
 use Rattle.run_numbers.specs.Readings.{only}
@@ -55,6 +56,8 @@ took before step reply after ticks (Steps event) counter =
     (counter.reading.total + one_if (happens_after event before step reply after.control)) counter
 took before step reply after ticks (TopPriority task) counter =
     with_total (max counter.reading.total (task_at after.control task).in_use) counter
+took before step reply after ticks (MostMessages queue) counter =
+    with_total (max counter.reading.total (queue_at after.queues queue).messages) counter
 took before step reply after ticks (NotMade task) counter = counter
 
 abbrev pub took_in : Made → Subject → Counter → Counter

@@ -2,15 +2,16 @@
 use Rattle.std.specs.Prelude.{ℕ, ◌+◌, max, ◌==◌, Bool, nat_lt, if◌then◌else◌}
 use Rattle.bench_types.specs.declared.reply.Reply.{Reply}
 use Rattle.bench_types.specs.declared.step.Step.{Step}
-use Rattle.bench_model.specs.Control.{Control, task_at}
+use Rattle.bench_model.specs.Control.{task_at}
 use Rattle.bench_model.specs.Lists.{View, list_queues}
+use Rattle.bench_model.specs.Queues.{queue_at}
 use Rattle.bench_model.specs.Tallied.{one_if}
 use Rattle.bench_model.specs.Tally.{is_tick}
 use Rattle.run_numbers.specs.declared.event.BeforeStep.{BeforeStep}
 use Rattle.run_numbers.specs.Gauge.{Gauge}
 use Rattle.run_numbers.specs.declared.subject.Reading.{Reading}
 use Rattle.run_numbers.specs.declared.subject.Subject.{Subject}
-use Rattle.run_numbers.specs.declared.subject.Subject.TheVariants.{Ticks, Steps, TopPriority}
+use Rattle.run_numbers.specs.declared.subject.Subject.TheVariants.{Ticks, Steps, TopPriority, MostMessages}
 use Rattle.run_numbers.specs.AfterStep.{happens_after}
 use Rattle.run_numbers.specs.Conditions.{holds}
 use Rattle.run_numbers.specs.Readings.{only}
@@ -53,9 +54,12 @@ abbrev pub with_total : ℕ → Gauge → Gauge
 with_total total gauge = record gauge { reading = record gauge.reading { total = total } }
 
 -- with what the step was, and the state after it
-abbrev pub left : BeforeStep → Step → Reply → Control → Subject → Gauge → Gauge
+abbrev pub left : BeforeStep → Step → Reply → View → Subject → Gauge → Gauge
 left before step reply after (Steps event) gauge =
-    with_total (gauge.reading.total + one_if (happens_after event before step reply after)) gauge
+    with_total
+    (gauge.reading.total + one_if (happens_after event before step reply after.control)) gauge
 left before step reply after (TopPriority task) gauge =
-    with_total (max gauge.reading.total (task_at after task).in_use) gauge
+    with_total (max gauge.reading.total (task_at after.control task).in_use) gauge
+left before step reply after (MostMessages queue) gauge =
+    with_total (max gauge.reading.total (queue_at after.queues queue).messages) gauge
 left before step reply after subject gauge = gauge

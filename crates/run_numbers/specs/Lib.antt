@@ -6,6 +6,7 @@ pub mod Events
 pub mod Gauge
 pub mod Gauges
 pub mod Looks
+pub mod Messages
 pub mod NumberLaws
 pub mod Progress
 pub mod Readings

@@ -2,15 +2,16 @@
 use Rattle.std.specs.Prelude.{ℕ, List, [], ◌∷◌, ◌++◌, false, if◌then◌else◌, slice_index_or}
 use Rattle.bench_types.specs.declared.reply.Reply.{Reply}
 use Rattle.bench_types.specs.declared.step.Step.{Step}
-use Rattle.bench_model.specs.Control.{Control, task_at}
+use Rattle.bench_model.specs.Control.{task_at}
 use Rattle.bench_model.specs.Lists.{View, list_queues}
+use Rattle.bench_model.specs.Queues.{queue_at}
 use Rattle.bench_model.specs.Tally.{is_tick}
 use Rattle.settled_runs.specs.declared.waiting_call.WaitingCall.{WaitingCall}
 use Rattle.run_numbers.specs.declared.counter.Counter.{Counter}
 use Rattle.run_numbers.specs.declared.subject.Measured.{Measured}
 use Rattle.run_numbers.specs.declared.subject.Reading.{Reading}
 use Rattle.run_numbers.specs.declared.subject.Subject.{Subject}
-use Rattle.run_numbers.specs.declared.subject.Subject.TheVariants.{Ticks, TopPriority, NotMade}
+use Rattle.run_numbers.specs.declared.subject.Subject.TheVariants.{Ticks, TopPriority, MostMessages, NotMade}
 use Rattle.run_numbers.specs.AfterStep.{known_before}
 use Rattle.run_numbers.specs.Conditions.{holds}
 use Rattle.run_numbers.specs.Counters.{first_counter, told}
@@ -24,10 +25,12 @@ counter_in counters k = slice_index_or counters k (first_counter 0 false)
 abbrev pub subject_in : List Subject → ℕ → Subject
 subject_in subjects k = slice_index_or subjects k (NotMade 0)
 
--- before any step the condition may hold, and the greatest priority in use is the first one
+-- before any step the condition may hold, and the greatest priority in use or number of messages
+-- is the first one
 abbrev pub first : View → Subject → Counter
 first view (Ticks condition) = first_counter 0 (holds list_queues condition view)
 first view (TopPriority task) = first_counter (task_at view.control task).in_use false
+first view (MostMessages queue) = first_counter (queue_at view.queues queue).messages false
 first view subject = first_counter 0 false
 
 -- the places of the ticks, after the step at a place
@@ -35,7 +38,7 @@ abbrev pub ticks_after : Step → ℕ → List ℕ → List ℕ
 ticks_after step place ticks = if is_tick step then ticks ++ place ∷ [] else ticks
 
 -- a gauge after a step: with what the step found, what it was, and the state after it
-abbrev pub stepped : View → Step → Reply → Control → ℕ → Subject → Gauge → Gauge
+abbrev pub stepped : View → Step → Reply → View → ℕ → Subject → Gauge → Gauge
 stepped before step reply after place subject gauge =
     left (known_before before step) step reply after subject
     (found before step place subject gauge)

@@ -3,17 +3,19 @@ use Rattle.std.specs.Prelude.{ℕ, ◌<◌, List, length, filter, ◌==◌, ⊤}
 use Rattle.bench_types.specs.declared.header.Header.{Header}
 use Rattle.bench_types.specs.declared.kernel_data.Settings.{Settings}
 use Rattle.bench_types.specs.declared.step.Step.{Step}
+use Rattle.bench_types.specs.Step.{queue_total}
 use Rattle.bench_model.specs.Tally.{steps_that, top_priority}
 use Rattle.settled_runs.specs.declared.waiting_call.WaitingCall.{WaitingCall}
 use Rattle.run_numbers.specs.declared.subject.Condition.{Condition}
-use Rattle.run_numbers.specs.declared.subject.Condition.TheVariants.{Running, RunningOn, WantsCore, Inverted, Blocked, HeldUp, Busy, Idle, Due, Held}
+use Rattle.run_numbers.specs.declared.subject.Condition.TheVariants.{Running, RunningOn, WantsCore, Inverted, Blocked, HeldUp, Busy, Idle, Due, Held, Empty, Full}
 use Rattle.run_numbers.specs.declared.subject.Event.{Event}
 use Rattle.run_numbers.specs.declared.subject.Event.TheVariants.{Inherits}
 use Rattle.run_numbers.specs.declared.subject.Measured.{Measured}
 use Rattle.run_numbers.specs.declared.subject.Reading.{Reading}
 use Rattle.run_numbers.specs.declared.subject.Subject.{Subject}
-use Rattle.run_numbers.specs.declared.subject.Subject.TheVariants.{Ticks, Steps, TopPriority, NotMade}
+use Rattle.run_numbers.specs.declared.subject.Subject.TheVariants.{Ticks, Steps, TopPriority, MostMessages, NotMade}
 use Rattle.run_numbers.specs.Events.{happens}
+use Rattle.run_numbers.specs.Messages.{most_messages}
 use Rattle.run_numbers.specs.Stretches.{longest_from, longest_stretch, ticks_found}
 
 -- a number that has no stretch
@@ -33,6 +35,7 @@ reading_of header steps left (Ticks condition) = record {
 }
 reading_of header steps left (Steps event) = only (steps_that header steps (happens event))
 reading_of header steps left (TopPriority task) = only (top_priority header steps task)
+reading_of header steps left (MostMessages queue) = only (most_messages header steps queue)
 reading_of header steps left (NotMade task) = only (calls_of task left)
 
 -- a subject with its numbers in a run
@@ -40,7 +43,7 @@ abbrev pub measured : Header → List Step → List WaitingCall → Subject → 
 measured header steps left subject =
     record { subject = subject; reading = reading_of header steps left subject }
 
--- the settings have the task, the core or the mutex
+-- the settings have the task, the core, the mutex or the queue
 abbrev pub IsConditionOf : Settings → Condition → Type 0
 IsConditionOf settings (Running task) = task < settings.tasks
 IsConditionOf settings (RunningOn task core) = core < settings.cores
@@ -52,6 +55,8 @@ IsConditionOf settings (Busy core) = core < settings.cores
 IsConditionOf settings (Idle core) = core < settings.cores
 IsConditionOf settings (Due core) = core < settings.cores
 IsConditionOf settings (Held mutex) = mutex < settings.mutexes
+IsConditionOf settings (Empty queue) = queue < queue_total settings
+IsConditionOf settings (Full queue) = queue < queue_total settings
 
 abbrev pub IsEventOf : Settings → Event → Type 0
 IsEventOf settings (Inherits task) = task < settings.tasks
@@ -61,4 +66,5 @@ abbrev pub IsSubjectOf : Settings → Subject → Type 0
 IsSubjectOf settings (Ticks condition) = IsConditionOf settings condition
 IsSubjectOf settings (Steps event) = IsEventOf settings event
 IsSubjectOf settings (TopPriority task) = task < settings.tasks
+IsSubjectOf settings (MostMessages queue) = queue < queue_total settings
 IsSubjectOf settings (NotMade task) = ⊤

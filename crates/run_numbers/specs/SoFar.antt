@@ -10,9 +10,10 @@ use Rattle.bench_model.specs.Table.{Stamps}
 use Rattle.bench_model.specs.Tally.{Moment, greatest, moment_at}
 use Rattle.run_numbers.specs.Gauge.{Gauge}
 use Rattle.run_numbers.specs.declared.subject.Subject.{Subject}
-use Rattle.run_numbers.specs.declared.subject.Subject.TheVariants.{Ticks, Steps, TopPriority, NotMade}
+use Rattle.run_numbers.specs.declared.subject.Subject.TheVariants.{Ticks, Steps, TopPriority, MostMessages, NotMade}
 use Rattle.run_numbers.specs.Events.{happens}
 use Rattle.run_numbers.specs.Gauges.{initial_gauge}
+use Rattle.run_numbers.specs.Messages.{messages_at}
 use Rattle.run_numbers.specs.Stretches.{is_found, start_at, stretch_at}
 
 -- the greatest number at the places up to this one
@@ -49,4 +50,6 @@ module _ (header : Header) (steps : List Step) where
   }
   gauge_at place (Steps event) = initial_gauge (passed (happens event) place)
   gauge_at place (TopPriority task) = initial_gauge (top (in_use_at task) place)
+  gauge_at place (MostMessages queue) =
+      initial_gauge (top (messages_at header steps queue) place)
   gauge_at place (NotMade task) = initial_gauge 0

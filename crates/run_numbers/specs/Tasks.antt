@@ -5,7 +5,7 @@ use Rattle.run_numbers.specs.declared.subject.Condition.TheVariants.{Running, Ru
 use Rattle.run_numbers.specs.declared.subject.Event.{Event}
 use Rattle.run_numbers.specs.declared.subject.Event.TheVariants.{SwitchedIn, Inherits, TimesOut, Refused}
 use Rattle.run_numbers.specs.declared.subject.Subject.{Subject}
-use Rattle.run_numbers.specs.declared.subject.Subject.TheVariants.{Ticks, Steps, TopPriority, NotMade}
+use Rattle.run_numbers.specs.declared.subject.Subject.TheVariants.{Ticks, Steps, TopPriority, MostMessages, NotMade}
 
 -- the task that a condition is of, if it is of a task
 abbrev pub task_in : Condition → Option ℕ
@@ -30,4 +30,5 @@ abbrev pub task_of : Subject → Option ℕ
 task_of (Ticks condition) = task_in condition
 task_of (Steps event) = task_at event
 task_of (TopPriority task) = Some task
+task_of (MostMessages queue) = None
 task_of (NotMade task) = Some task

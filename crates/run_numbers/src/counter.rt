@@ -107,6 +107,9 @@ impl Counter {
             Subject::TopPriority { task } => {
                 self.reading.total = self.reading.total.max(made.after.in_use(task));
             }
+            Subject::MostMessages { queue } => {
+                self.reading.total = self.reading.total.max(made.after.queue(queue).messages);
+            }
             Subject::NotMade { .. } => {}
         }
     }

@@ -4,7 +4,7 @@ ghost use Rattle.std.specs.Option.{ForSome};
 ghost use Rattle.bench_types.specs.Step.{step_check};
 ghost use Rattle.bench_model.specs.Tally.{is_call_of, is_finish_of, says_run_out};
 ghost use Rattle.smp_kernel.specs.Kernel.{StandsForSome};
-ghost use Rattle.run_numbers.specs.Events.{is_refusal, is_take_of, is_wait};
+ghost use Rattle.run_numbers.specs.Events.{is_refusal, is_take_of, is_transfer_of, is_wait};
 ghost use Rattle.run_numbers.specs.AfterStep.{happens_after, inherited, left_by, known_before, risen, switched_in};
 ghost use Rattle.run_numbers.specs.Readings.{IsEventOf};
 
@@ -114,6 +114,18 @@ fn is_take_of(mutex: u32, step: &Step) -> bool
     }
 }
 
+fn is_transfer_of(queue: u32, step: &Step) -> bool
+    ensures { result ≡ is_transfer_of queue step.now }
+{
+    match *step {
+        Step::Call {
+            call: Call::QueueSend { queue: used, .. } | Call::QueueReceive { queue: used, .. },
+            ..
+        } => used == queue,
+        _ => false,
+    }
+}
+
 // What the end of a wait answers where its ticks ran out.
 fn says_run_out(reply: Reply) -> bool
     ensures { result ≡ says_run_out reply }
@@ -160,5 +172,6 @@ pub(crate) fn happens(
         Event::TimesOut { task } => is_finish_of(task, step) && says_run_out(reply),
         Event::Refused { task, why } => is_call_of(task, step) && is_refusal(why, reply),
         Event::Awaited { mutex } => is_take_of(mutex, step) && is_wait(reply),
+        Event::QueueAwaited { queue } => is_transfer_of(queue, step) && is_wait(reply),
     }
 }

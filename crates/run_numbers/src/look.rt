@@ -98,6 +98,15 @@ fn are_same(one: Option<Cause>, other: Option<Cause>) -> bool
         (Some(Cause::Delay), Some(Cause::Delay)) => true,
         (Some(Cause::Notification), Some(Cause::Notification)) => true,
         (Some(Cause::Mutex(mutex)), Some(Cause::Mutex(wanted))) => mutex == wanted,
+        (
+            Some(Cause::Queue { queue, direction }),
+            Some(
+                Cause::Queue {
+                    queue: wanted,
+                    direction: way,
+                },
+            ),
+        ) => queue == wanted && direction == way,
         _ => false,
     }
 }

@@ -41,6 +41,7 @@ fn initial_counter(kernel: &Kernel, subject: Subject) -> Counter
     match subject {
         Subject::Ticks(condition) => Counter::new(0, holds(kernel, condition)),
         Subject::TopPriority { task } => Counter::new(kernel.in_use(task), false),
+        Subject::MostMessages { queue } => Counter::new(kernel.queue(queue).messages, false),
         _ => Counter::new(0, false),
     }
 }

@@ -1,16 +1,19 @@
 //! Whether a condition holds in a kernel's state.
 ghost use Rattle.std.specs.Prelude.{◌≡◌, ◌<◌};
 ghost use Rattle.std.specs.Option.{ForSome};
+ghost use Rattle.bench_types.specs.Step.{queue_total};
 ghost use Rattle.bench_model.specs.Control.{current, is_due, is_idle, task_at};
 ghost use Rattle.bench_model.specs.Lists.{list_queues};
+ghost use Rattle.bench_model.specs.Queues.{queue_at};
+ghost use Rattle.bench_model.specs.SameTest.{are_same_directions};
 ghost use Rattle.bench_model.specs.State.{holder_at};
 ghost use Rattle.bench_model.specs.Tally.{outranks_some, wants_core};
 ghost use Rattle.smp_kernel.specs.Kernel.{StandsForSome};
-ghost use Rattle.run_numbers.specs.Conditions.{holder_before, holds, holds_up, is_blocked, is_cause, is_held_up, mutex_of};
+ghost use Rattle.run_numbers.specs.Conditions.{holder_before, holds, holds_up, is_blocked, is_cause, is_empty, is_full, is_held_up, mutex_of};
 ghost use Rattle.run_numbers.specs.Readings.{IsConditionOf};
 
 use crate::{Cause, Condition};
-use bench_types::{Cause as WaitCause, Unfinished};
+use bench_types::{Cause as WaitCause, Direction, Unfinished};
 use smp_kernel::Kernel;
 
 /// Whether the task is ready and on no core.
@@ -32,6 +35,12 @@ pub(crate) fn outranks_some(kernel: &Kernel, task: u32) -> bool
     })
 }
 
+fn is_same_direction(direction: Direction, other: Direction) -> bool
+    ensures { result ≡ are_same_directions direction other }
+{
+    direction == other
+}
+
 fn is_cause(cause: Cause, waits: WaitCause) -> bool
     ensures { result ≡ is_cause cause waits }
 {
@@ -40,6 +49,14 @@ fn is_cause(cause: Cause, waits: WaitCause) -> bool
         (Cause::Notification, WaitCause::Notification) => true,
         (Cause::AnyMutex, WaitCause::Mutex(_)) => true,
         (Cause::Mutex(wanted), WaitCause::Mutex(mutex)) => mutex == wanted,
+        (Cause::AnyQueue, WaitCause::Queue { .. }) => true,
+        (
+            Cause::Queue {
+                queue: wanted,
+                direction: way,
+            },
+            WaitCause::Queue { queue, direction },
+        ) => queue == wanted && is_same_direction(direction, way),
         _ => false,
     }
 }
@@ -63,7 +80,7 @@ fn mutex_of(call: Unfinished) -> Option<u32>
 {
     match call {
         Unfinished::Take { mutex, .. } => Some(mutex),
-        Unfinished::Made(_) => None,
+        Unfinished::Transfer { .. } | Unfinished::Made(_) => None,
     }
 }
 
@@ -144,6 +161,23 @@ fn is_idle(kernel: &Kernel, core: u32) -> bool
     kernel.running(core) < kernel.settings().cores
 }
 
+// Whether the queue has no message.
+fn is_empty(kernel: &Kernel, queue: u32) -> bool
+    requires { queue < queue_total kernel.now.settings }
+    ensures { result ≡ is_empty (queue_at kernel.now.queues queue) }
+{
+    kernel.queue(queue).messages == 0
+}
+
+// Whether the queue has as many messages as it can have.
+fn is_full(kernel: &Kernel, queue: u32) -> bool
+    requires { queue < queue_total kernel.now.settings }
+    ensures { result ≡ is_full (queue_at kernel.now.queues queue) }
+{
+    let look = kernel.queue(queue);
+    look.messages == look.length
+}
+
 /// Whether the condition holds in the kernel's state.
 pub(crate) fn holds(kernel: &Kernel, condition: Condition) -> bool
     requires known { IsConditionOf kernel.now.settings condition }
@@ -161,5 +195,7 @@ pub(crate) fn holds(kernel: &Kernel, condition: Condition) -> bool
         Condition::Idle { core } => is_idle(kernel, core),
         Condition::Due { core } => is_due(kernel, core),
         Condition::Held { mutex } => holder(kernel, mutex).is_some(),
+        Condition::Empty { queue } => is_empty(kernel, queue),
+        Condition::Full { queue } => is_full(kernel, queue),
     }
 }

@@ -2,7 +2,7 @@
 ghost use Rattle.std.specs.Prelude.{◌≡◌};
 ghost use Rattle.run_numbers.specs.Tasks.{task_at, task_in, task_of};
 
-use bench_types::Refusal;
+use bench_types::{Direction, Refusal};
 
 /// Why a task is blocked.
 #[derive(Clone, Copy, Debug, PartialEq, Eq)]
@@ -15,9 +15,13 @@ pub enum Cause {
     AnyMutex,
     /// It waits for this mutex.
     Mutex(u32),
+    /// It waits at a queue, whichever and whichever way.
+    AnyQueue,
+    /// It waits at this queue for a message to go this way.
+    Queue { queue: u32, direction: Direction },
 }
 
-/// What holds of a task, a core or a mutex at a place, or does not.
+/// What holds of a task, a core, a mutex or a queue at a place, or does not.
 #[derive(Clone, Copy, Debug, PartialEq, Eq)]
 pub enum Condition {
     /// The task is the current one of a core.
@@ -40,9 +44,13 @@ pub enum Condition {
     Due { core: u32 },
     /// A task holds the mutex.
     Held { mutex: u32 },
+    /// The queue has no message.
+    Empty { queue: u32 },
+    /// The queue has as many messages as it can have.
+    Full { queue: u32 },
 }
 
-/// What a step is to a task or a mutex, or is not.
+/// What a step is to a task, a mutex or a queue, or is not.
 #[derive(Clone, Copy, Debug, PartialEq, Eq)]
 pub enum Event {
     /// The task comes onto a core that had another.
@@ -55,6 +63,8 @@ pub enum Event {
     Refused { task: u32, why: Refusal },
     /// A task begins to wait for the mutex.
     Awaited { mutex: u32 },
+    /// A task begins to wait at the queue, whichever way.
+    QueueAwaited { queue: u32 },
 }
 
 /// What there is a number of.
@@ -66,6 +76,8 @@ pub enum Subject {
     Steps(Event),
     /// The greatest priority that the task has in use.
     TopPriority { task: u32 },
+    /// The greatest number of messages that the queue has.
+    MostMessages { queue: u32 },
     /// The calls of the task that a settled run did not make.
     NotMade { task: u32 },
 }
@@ -73,7 +85,7 @@ pub enum Subject {
 /// The numbers of a subject.
 #[derive(Clone, Copy, Debug, PartialEq, Eq)]
 pub struct Reading {
-    /// How many ticks, steps or calls there are, or the greatest priority.
+    /// How many ticks, steps or calls there are, or the greatest priority or number of messages.
     pub total: u32,
     /// Of a condition the most ticks in a row that find it, where it never fails between them; 0 of
     /// another subject.
@@ -104,7 +116,9 @@ impl Condition {
             Condition::Busy { .. }
             | Condition::Idle { .. }
             | Condition::Due { .. }
-            | Condition::Held { .. } => None,
+            | Condition::Held { .. }
+            | Condition::Empty { .. }
+            | Condition::Full { .. } => None,
         }
     }
 }
@@ -119,7 +133,7 @@ impl Event {
             | Event::Inherits { task }
             | Event::TimesOut { task }
             | Event::Refused { task, .. } => Some(task),
-            Event::Awaited { .. } => None,
+            Event::Awaited { .. } | Event::QueueAwaited { .. } => None,
         }
     }
 }
@@ -133,6 +147,7 @@ impl Subject {
             Subject::Ticks(condition) => condition.task(),
             Subject::Steps(event) => event.task(),
             Subject::TopPriority { task } | Subject::NotMade { task } => Some(task),
+            Subject::MostMessages { .. } => None,
         }
     }
 }

@@ -1,10 +1,11 @@
 -- The text of each bar is that of its shape.
 use Rattle.std.proofs.Common.{◌≡◌, ℕ, ◌+◌, List, [], ◌++◌, Bool, true, false, Option, Some, None, slice_get, refl, sym, ap}
-use Rattle.std.specs.Prelude.{◌==◌, ◌||◌, not, is_some, if◌then◌else◌}
+use Rattle.std.specs.Prelude.{decimal, ◌==◌, ◌||◌, not, is_some, if◌then◌else◌}
 use Rattle.std.proofs.lemmas.List.{append-nil}
 use Rattle.bench_types.specs.declared.header.Header.{Header}
 use Rattle.bench_types.specs.declared.kernel_data.Hold.{Hold}
 use Rattle.run_pictures.specs.declared.bar.Bar.{Bar}
+use Rattle.run_pictures.specs.declared.bar.Letters.TheVariants.{Dark}
 use Rattle.run_pictures.specs.declared.frame.Frame.{Frame}
 use Rattle.run_pictures.specs.declared.ink.Ink.TheVariants as ink
 use Rattle.run_pictures.specs.declared.run_looks.Made.{Made}
@@ -12,13 +13,14 @@ use Rattle.run_pictures.specs.declared.shown.Due.{Due}
 use Rattle.run_pictures.specs.declared.shown.Priorities.{Priorities}
 use Rattle.run_pictures.specs.declared.stretch.Stretch.{Stretch}
 use Rattle.run_pictures.specs.Axis.{tick_bar}
-use Rattle.run_pictures.specs.Bar.{bar_text}
+use Rattle.run_pictures.specs.Bar.{bar_text, label_text}
 use Rattle.run_pictures.specs.Bars.{bar_over, held_over, where_drawn}
 use Rattle.run_pictures.specs.BarTexts.{bars_text, label_of_holder, mark_of_step, off_words, words_of_hold, words_of_holder, words_of_step, BarsAreDrawn}
 use Rattle.run_pictures.specs.CoreBands.{current_bar, due_bar, due_words, hold_bar, hold_part}
 use Rattle.run_pictures.specs.Marks.{step_cell, step_part}
 use Rattle.run_pictures.specs.MutexLines.{held_bar, held_part, holder_bar}
 use Rattle.run_pictures.specs.Preemption.{off_bar}
+use Rattle.run_pictures.specs.QueueLines.{filled_bar, message_bar, message_words}
 use Rattle.run_pictures.specs.TaskBands.{inherited_bar, inherited_words, pose_bar}
 
 -- one bar, and what follows it
@@ -64,6 +66,14 @@ unfolding held_bar
 holder_drawn header frame y mutex stretch None = refl
 holder_drawn header frame y mutex stretch (Some task) = one_drawn frame _ _ _
 
+messages_drawn : (frame : Frame) (y queue : ℕ) (stretch : Stretch ℕ) (none : Bool)
+    → (if none then [] else filled_bar frame y queue stretch)
+    ≡ bars_text frame (message_words queue stretch) (where_drawn (not none) (bar_over (ink.Messages stretch.value) y 14 stretch))
+    ++ (if none then [] else label_text frame Dark stretch.first stretch.last (y + 11) (decimal stretch.value))
+unfolding filled_bar
+messages_drawn frame y queue stretch true = refl
+messages_drawn frame y queue stretch false = one_drawn frame _ _ _
+
 step_drawn : (header : Header) (frame : Frame) (top place : ℕ) (made : Option Made)
     → step_part header frame top place made
     ≡ bars_text frame (words_of_step header place made)
@@ -74,7 +84,7 @@ step_drawn header frame top place None = refl
 step_drawn header frame top place (Some made) = one_drawn frame _ _ _
 
 pub bars_are_drawn : BarsAreDrawn
-unfolding tick_bar current_bar hold_bar pose_bar holder_bar
+unfolding tick_bar current_bar hold_bar pose_bar holder_bar message_bar
 bars_are_drawn = record {
   tick = λ frame y stretch. one_drawn frame _ _ _;
   current = λ header frame y core stretch. one_drawn frame _ _ _;
@@ -84,5 +94,6 @@ bars_are_drawn = record {
   inherited = inherited_drawn;
   off = off_drawn;
   holder = λ header frame y mutex stretch. holder_drawn header frame y mutex stretch stretch.value;
+  messages = λ frame y queue stretch. messages_drawn frame y queue stretch (stretch.value == 0);
   step = λ header frame top made k. step_drawn header frame top (frame.first + k) (slice_get made k);
 }

@@ -1,12 +1,17 @@
 -- What a loop over the steps has filmed so far.
-use Rattle.std.proofs.Common.{◌≡◌, ℕ, suc, ◌+◌, ◌^◌, ◌<◌, ◌≤◌, List, [], ◌∷◌, ◌++◌, length, filter, drop, get_or, Bool, refl, subst, sym, ap, ◌∙◌, append_assoc}
+use Rattle.std.proofs.Common.{◌≡◌, ℕ, suc, ◌+◌, ◌^◌, ◌<◌, ◌≤◌, List, [], ◌∷◌, ◌++◌, length, filter, drop, get_or, Bool, Option, Some, None, option_map, refl, subst, sym, ap, ◌∙◌, append_assoc}
 use Rattle.std.proofs.Common.{add-one, arith}
+use Rattle.std.specs.Prelude.{Ok, Result, unwrap_or}
 use Rattle.std.proofs.lemmas.List.Sums.{count_by-le-length, length-filter}
 use Rattle.std.proofs.Math.Seq.{drop-cons}
 use Rattle.std.proofs.lemmas.List.{append-nil, drop_all, length-map}
 use Rattle.bench_types.specs.declared.header.Header.{Header}
+use Rattle.bench_types.specs.declared.header.QueueArgs.{QueueArgs}
 use Rattle.bench_types.specs.declared.reply.Reply.{Reply}
 use Rattle.bench_types.specs.declared.step.Step.{Step}
+use Rattle.bench_types.specs.Header.{header_check}
+use Rattle.bench_types.specs.Limits.{max_queues}
+use Rattle.bench_types.proofs.Passes.{few_queues}
 use Rattle.bench_model.specs.Equal.{StandsFor}
 use Rattle.bench_model.specs.Lists.{View}
 use Rattle.bench_model.specs.Session.{state_at, step_of}
@@ -18,6 +23,7 @@ use Rattle.run_views.specs.Looks.{look_of}
 use Rattle.run_views.specs.Trace.{shows}
 use Rattle.run_views.proofs.States.{made_of, made_of_more, next_state, shown_few}
 use Rattle.run_pictures.specs.declared.run_looks.Made.{Made}
+use Rattle.run_pictures.specs.QueueLines.{queues_of}
 use Rattle.run_pictures.specs.RunLooks.{IsSeenRun, looks_of, made_from, where_shown, shown_places}
 
 -- what is seen at the shown ones of the first places
@@ -112,3 +118,11 @@ looks_counted places header steps few =
 -- some of some are no more than these
 pub passed_few : {X : Type 0} (test : X → Bool) (xs : List X) → length (filter test xs) ≤ length xs
 passed_few test xs = subst (λ (n : ℕ). n ≤ length xs) (sym (length-filter test xs)) (count_by-le-length test xs)
+
+-- the queues of a checked header are not too many
+pub queues_few : (header : Header) → header_check header ≡ Ok tt → queues_of header ≤ max_queues
+queues_few header passes = at header.queues refl
+  where
+    at : (queues : Option (List QueueArgs)) → header.queues ≡ queues → unwrap_or (option_map length queues) 0 ≤ max_queues
+    at None is = omega arith
+    at (Some queues) is = few_queues header queues passes is

@@ -31,15 +31,16 @@ use Rattle.run_pictures.specs.declared.signs.Sign.TheVariants as sign
 use Rattle.run_pictures.specs.declared.stance.Stance.{Stance}
 use Rattle.run_pictures.specs.declared.stance.Stance.TheVariants.{Runs, Ready, Blocked}
 use Rattle.run_pictures.specs.declared.stretch.Stretch.{Stretch}
-use Rattle.run_pictures.specs.Bars.{all_bars, bar_over, core_bars, core_top, current_bars, current_shape, due_bars, due_shape, held_over, held_shape, hold_bars, hold_shape}
-use Rattle.run_pictures.specs.Bars.{inherited_bars, inherited_shape, mutex_bars, mutex_top, off_bars, off_shape, pose_bars, pose_shape, step_bars, step_shape, taken_bars}
-use Rattle.run_pictures.specs.Bars.{task_bars, task_top, tick_bars, tick_shape, where_drawn}
+use Rattle.run_pictures.specs.Bars.{all_bars, bar_over, changed_bars, core_bars, core_top, current_bars, current_shape, due_bars, due_shape, held_over, held_shape, hold_bars, hold_shape}
+use Rattle.run_pictures.specs.Bars.{inherited_bars, inherited_shape, messages_shape, mutex_bars, mutex_top, off_bars, off_shape, pose_bars, pose_shape, queue_bars}
+use Rattle.run_pictures.specs.Bars.{queue_top, step_bars, step_shape, taken_bars, task_bars, task_top, tick_bars, tick_shape, where_drawn}
 use Rattle.run_pictures.specs.Ink.{task_ink, tick_ink}
 use Rattle.run_pictures.specs.LegendLaws.{sign_of, sign_of_mark, IsDrawn}
 use Rattle.run_pictures.specs.Marks.{mark_at}
 use Rattle.run_pictures.specs.MutexLines.{is_taken, taken_mutexes}
 use Rattle.run_pictures.specs.Poses.{detail_for, detailed_stretches, opening, pose_in, pose_stretches, stands_ready}
 use Rattle.run_pictures.specs.Preemption.{preempt_in, preempt_stretches}
+use Rattle.run_pictures.specs.QueueLines.{changed_queues, do_differ, is_changed, queues_of}
 use Rattle.run_pictures.specs.Same.{are_same_dues, are_same_poses, are_same_priorities, are_same_stances}
 use Rattle.run_pictures.specs.Shown.{Shown}
 use Rattle.run_pictures.specs.Signs.{has_blocked, has_due, has_idle, has_inherited, has_ready, has_unpreempted, has_user, is_blocked, is_held, is_interrupt}
@@ -50,18 +51,18 @@ use Rattle.run_pictures.specs.StretchValues.{dues_decided, flags_decided, holder
 use Rattle.run_pictures.specs.StretchValues.{stances_decided}
 use Rattle.run_pictures.specs.TaskBands.{stance_ink, stance_shape, stance_stretch}
 use Rattle.run_pictures.specs.TaskStretches.{core_in, current_in, current_stretches, due_in, due_stretches, hold_in, hold_stretches, holder_in, holder_stretches}
-use Rattle.run_pictures.specs.TaskStretches.{own_hold, priorities_in, priority_stretches, stance_stretches, tick_in, tick_stretches}
+use Rattle.run_pictures.specs.TaskStretches.{message_stretches, messages_in, own_hold, priorities_in, priority_stretches, stance_stretches, tick_in, tick_stretches}
 use Rattle.run_pictures.proofs.Members.{any_from, any_to, filter_from, filter_to, flat_from, flat_to, here, here_or, map_from, map_to, none, number_from}
 use Rattle.run_pictures.proofs.Members.{number_to, value_from, value_to, HasValue}
 use Rattle.run_pictures.proofs.Placed.{flat_mapped}
 
 -- ---- one bar, or none
 
-drawn_one : (b : Bool) (bar : Bar) → b ≡ true → Contains (where_drawn b bar) bar
+pub drawn_one : (b : Bool) (bar : Bar) → b ≡ true → Contains (where_drawn b bar) bar
 drawn_one true bar is = here bar []
 drawn_one false bar is = absurd (true≢false (sym is))
 
-one_drawn : (b : Bool) (bar other : Bar) → Contains (where_drawn b bar) other → (b ≡ true) × (bar ≡ other)
+pub one_drawn : (b : Bool) (bar other : Bar) → Contains (where_drawn b bar) other → (b ≡ true) × (bar ≡ other)
 one_drawn true bar other has = elim (here_or bar other [] has) [
   | inl same ↦ (refl, same)
   | inr rest ↦ absurd (none other rest)
@@ -146,6 +147,9 @@ module _ (shown : Shown) (top : ℕ)
   abbrev of_mutexes : List Bar
   of_mutexes = mutex_bars shown top
 
+  abbrev of_queues : List Bar
+  of_queues = queue_bars shown top
+
   abbrev of_steps : List Bar
   of_steps = step_bars shown top
 
@@ -157,23 +161,33 @@ module _ (shown : Shown) (top : ℕ)
 
   in_core : (bar : Bar) (core : ℕ) → core < cores → Contains (core_parts core) bar → Contains (all_bars shown top) bar
   in_core bar core few has =
-      Contains-append_left (ticks ++ of_cores ++ of_tasks ++ of_mutexes) of_steps bar
+      Contains-append_left (ticks ++ of_cores ++ of_tasks ++ of_mutexes ++ of_queues) of_steps bar
+      (Contains-append_left (ticks ++ of_cores ++ of_tasks ++ of_mutexes) of_queues bar
       (Contains-append_left (ticks ++ of_cores ++ of_tasks) of_mutexes bar
       (Contains-append_left (ticks ++ of_cores) of_tasks bar
-      (Contains-append_right ticks of_cores bar (flat_to core_parts (numbers cores) core bar (number_to cores core few) has))))
+      (Contains-append_right ticks of_cores bar (flat_to core_parts (numbers cores) core bar (number_to cores core few) has)))))
 
   in_task : (bar : Bar) (user : ℕ) → user < users → Contains (task_parts user) bar → Contains (all_bars shown top) bar
   in_task bar user few has =
-      Contains-append_left (ticks ++ of_cores ++ of_tasks ++ of_mutexes) of_steps bar
+      Contains-append_left (ticks ++ of_cores ++ of_tasks ++ of_mutexes ++ of_queues) of_steps bar
+      (Contains-append_left (ticks ++ of_cores ++ of_tasks ++ of_mutexes) of_queues bar
       (Contains-append_left (ticks ++ of_cores ++ of_tasks) of_mutexes bar
-      (Contains-append_right (ticks ++ of_cores) of_tasks bar (flat_to task_parts (numbers users) user bar (number_to users user few) has)))
+      (Contains-append_right (ticks ++ of_cores) of_tasks bar (flat_to task_parts (numbers users) user bar (number_to users user few) has))))
 
   in_mutex : (bar : Bar) (k : ℕ) → k < length (taken_mutexes shown.header looks) → Contains (taken_bars shown top k) bar → Contains (all_bars shown top) bar
   in_mutex bar k few has =
-      Contains-append_left (ticks ++ of_cores ++ of_tasks ++ of_mutexes) of_steps bar
+      Contains-append_left (ticks ++ of_cores ++ of_tasks ++ of_mutexes ++ of_queues) of_steps bar
+      (Contains-append_left (ticks ++ of_cores ++ of_tasks ++ of_mutexes) of_queues bar
       (Contains-append_right (ticks ++ of_cores ++ of_tasks) of_mutexes bar
       (flat_to (taken_bars shown top) (numbers (length (taken_mutexes shown.header looks))) k bar
-      (number_to (length (taken_mutexes shown.header looks)) k few) has))
+      (number_to (length (taken_mutexes shown.header looks)) k few) has)))
+
+  in_queue : (bar : Bar) (k : ℕ) → k < length (changed_queues shown.header looks) → Contains (changed_bars shown top k) bar → Contains (all_bars shown top) bar
+  in_queue bar k few has =
+      Contains-append_left (ticks ++ of_cores ++ of_tasks ++ of_mutexes ++ of_queues) of_steps bar
+      (Contains-append_right (ticks ++ of_cores ++ of_tasks ++ of_mutexes) of_queues bar
+      (flat_to (changed_bars shown top) (numbers (length (changed_queues shown.header looks))) k bar
+      (number_to (length (changed_queues shown.header looks)) k few) has))
 
   -- ---- what is seen is drawn
 
@@ -315,6 +329,40 @@ module _ (shown : Shown) (top : ℕ)
         in_mutex bar row.0 row.1 (subst (λ m. Contains (flat_map (held_shape cores y) (holder_stretches first looks m)) bar) (sym here_is)
             (flat_to (held_shape cores y) (spans are_same_numbers holders_decided (holder_in mutex)) found.0 bar found.1
             (held_one y task.0 found.0 found.0.value (found.2 ∙ task.1)))),
+        refl,
+      )
+
+  -- a number that is not 0 is among those that differ
+  some_above : (values : List ℕ) → do_differ values ≡ true → (value : ℕ) × Contains values value × (not (value == 0) ≡ true)
+  some_above [] is = absurd (true≢false (sym is))
+  some_above (one ∷ others) is =
+      let other = any_from (λ o. not (o == one)) (one ∷ others) is in
+      at (one == 0) refl other.0 other.1 other.2
+    where
+      at : (b : Bool) → (one == 0) ≡ b → (other : ℕ) → Contains (one ∷ others) other → not (other == one) ≡ true
+          → (value : ℕ) × Contains (one ∷ others) value × (not (value == 0) ≡ true)
+      at true zero_one other has differs =
+          let none_first : one ≡ 0 = grind (arith, nat_tests, zero_one) in
+          (other, has, subst (λ n. not (other == n) ≡ true) none_first differs)
+      at false some other has differs = (one, here one others, ap not some)
+
+  changed_drawn : (queue : ℕ) → queue < queues_of shown.header → is_changed looks queue ≡ true → (bar : Bar) × Contains (all_bars shown top) bar
+      × (sign_of bar.ink ≡ Some sign.Messages)
+  unfolding message_stretches
+  changed_drawn queue few is =
+      let above = some_above (map (messages_in queue) looks) is in
+      let seen = map_from (messages_in queue) looks above.0 above.1 in
+      let found = value_seen nat_eq numbers_decided (messages_in queue) seen.0 seen.1 in
+      let row = filter_to (is_changed looks) (numbers (queues_of shown.header)) queue (number_to (queues_of shown.header) queue few) is in
+      let here_is : slice_index_or (changed_queues shown.header looks) row.0 0 ≡ queue =
+      get_or_default (changed_queues shown.header looks) row.0 0 queue row.1 ∙ row.2 in
+      let y = queue_top shown top row.0 in
+      let bar : Bar = bar_over (ink.Messages found.0.value) y 14 found.0 in
+      let some : not (found.0.value == 0) ≡ true = ap (λ n. not (n == 0)) (found.2 ∙ seen.2) ∙ above.2 in (
+        bar,
+        in_queue bar row.0 row.1 (subst (λ q. Contains (flat_map (messages_shape y) (message_stretches first looks q)) bar) (sym here_is)
+            (flat_to (messages_shape y) (spans nat_eq numbers_decided (messages_in queue)) found.0 bar found.1
+            (drawn_one (not (found.0.value == 0)) bar some))),
         refl,
       )
 
@@ -465,6 +513,16 @@ module _ (shown : Shown) (top : ℕ)
         used_so sign.Taken wanted bar.ink (ink.Taken one.1) refl one.2 is
         (any_to (is_taken looks) (numbers shown.header.config.mutexes) mutex row.0 row.1)
 
+    by_changed : (k : ℕ) → k < length (changed_queues shown.header looks) → Contains (changed_bars shown top k) bar → IsUsed wanted
+    unfolding message_stretches
+    by_changed k few has =
+        let queue = slice_index_or (changed_queues shown.header looks) k 0 in
+        let row = filter_from (is_changed looks) (numbers (queues_of shown.header)) queue (Contains-get_or (changed_queues shown.header looks) k 0 few) in
+        let seen = look_seen nat_eq numbers_decided (messages_in queue) (messages_shape (queue_top shown top k)) bar has in
+        let one = one_drawn (not (seen.1.value == 0)) (bar_over (ink.Messages seen.1.value) (queue_top shown top k) 14 seen.1) bar seen.4 in
+        used_so sign.Messages wanted bar.ink (ink.Messages seen.1.value) refl (sym (ap (λ (b : Bar). b.ink) one.1)) is
+        (any_to (is_changed looks) (numbers (queues_of shown.header)) queue row.0 row.1)
+
     by_steps : Contains of_steps bar → IsUsed wanted
     by_steps has =
         let found = flat_from (step_shape first top shown.run_looks.made) (numbers (length looks)) bar has in
@@ -500,17 +558,25 @@ module _ (shown : Shown) (top : ℕ)
         let rows = length (taken_mutexes shown.header looks) in
         let found = flat_from (taken_bars shown top) (numbers rows) bar has in by_taken found.0 (number_from rows found.0 found.1) found.2
 
+    by_queues : Contains of_queues bar → IsUsed wanted
+    by_queues has =
+        let rows = length (changed_queues shown.header looks) in
+        let found = flat_from (changed_bars shown top) (numbers rows) bar has in by_changed found.0 (number_from rows found.0 found.1) found.2
+
     by_bar : Contains (all_bars shown top) bar → IsUsed wanted
-    by_bar has = elim (Contains-append_cases (ticks ++ of_cores ++ of_tasks ++ of_mutexes) of_steps bar has) [
-      | inl four ↦ elim (Contains-append_cases (ticks ++ of_cores ++ of_tasks) of_mutexes bar four) [
-        | inl three ↦ elim (Contains-append_cases (ticks ++ of_cores) of_tasks bar three) [
-          | inl two ↦ elim (Contains-append_cases ticks of_cores bar two) [
-            | inl one ↦ by_ticks one
-            | inr one ↦ by_cores one
+    by_bar has = elim (Contains-append_cases (ticks ++ of_cores ++ of_tasks ++ of_mutexes ++ of_queues) of_steps bar has) [
+      | inl five ↦ elim (Contains-append_cases (ticks ++ of_cores ++ of_tasks ++ of_mutexes) of_queues bar five) [
+        | inl four ↦ elim (Contains-append_cases (ticks ++ of_cores ++ of_tasks) of_mutexes bar four) [
+          | inl three ↦ elim (Contains-append_cases (ticks ++ of_cores) of_tasks bar three) [
+            | inl two ↦ elim (Contains-append_cases ticks of_cores bar two) [
+              | inl one ↦ by_ticks one
+              | inr one ↦ by_cores one
+            ]
+            | inr one ↦ by_tasks one
           ]
-          | inr one ↦ by_tasks one
+          | inr one ↦ by_mutexes one
         ]
-        | inr one ↦ by_mutexes one
+        | inr one ↦ by_queues one
       ]
       | inr one ↦ by_steps one
     ]
@@ -606,6 +672,10 @@ module _ (shown : Shown) (top : ℕ)
   used_drawn sign.Taken used =
       let seen = any_from (is_taken looks) (numbers shown.header.config.mutexes) used in
       let drawn = taken_drawn seen.0 (number_from shown.header.config.mutexes seen.0 seen.1) seen.2 in
+      inl (record { bar = drawn.0; drawn = drawn.1; so = drawn.2 })
+  used_drawn sign.Messages used =
+      let seen = any_from (is_changed looks) (numbers (queues_of shown.header)) used in
+      let drawn = changed_drawn seen.0 (number_from (queues_of shown.header) seen.0 seen.1) seen.2 in
       inl (record { bar = drawn.0; drawn = drawn.1; so = drawn.2 })
   used_drawn sign.Interrupt used =
       let seen = any_from (λ k. is_interrupt (mark_at shown.run_looks.made k)) (numbers (length looks)) used in

@@ -1,6 +1,7 @@
 pub mod BarTexts
 pub mod Escaping
 pub mod Filming
+pub mod FirstMessages
 pub mod Hindered
 pub mod Hindering
 pub mod LaidOut
@@ -11,6 +12,7 @@ pub mod Members
 pub mod Numbered
 pub mod Opened
 pub mod Placed
+pub mod QueueRows
 pub mod Replayed
 pub mod RowStretches
 pub mod Rows

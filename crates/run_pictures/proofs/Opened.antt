@@ -71,7 +71,7 @@ module _ (places : Places) where
       ∙ ap (λ ns. ns ++ (if shows places count then count ∷ [] else [])) (shown_are count)
       ∙ shown_more count (nat_le places.from count) (nat_le count places.to) refl refl
 
-  place_there : (count k : ℕ) → k < length (filter (shows places) (numbers count)) → slice_get (filter (shows places) (numbers count)) k ≡ Some (places.from + k)
+  pub place_there : (count k : ℕ) → k < length (filter (shows places) (numbers count)) → slice_get (filter (shows places) (numbers count)) k ≡ Some (places.from + k)
   unfolding from_first
   place_there count k within =
       let n = min (suc places.to) count - places.from in

@@ -10,7 +10,7 @@ use Rattle.run_views.specs.Changes.{are_same_numbers}
 use Rattle.run_pictures.specs.declared.bar.Bar.{Bar}
 use Rattle.run_pictures.specs.declared.frame.Axis.{Axis}
 use Rattle.run_pictures.specs.declared.frame.Frame.{Frame}
-use Rattle.run_pictures.specs.declared.frame.TheConstants.{CORE_ROW, MUTEX_ROW, TASK_ROW}
+use Rattle.run_pictures.specs.declared.frame.TheConstants.{CORE_ROW, MUTEX_ROW, QUEUE_ROW, TASK_ROW}
 use Rattle.run_pictures.specs.declared.ink.Ink.TheVariants as ink
 use Rattle.run_pictures.specs.declared.pose.Detail.{Detail}
 use Rattle.run_pictures.specs.declared.pose.Detail.TheVariants.{EachPlace, FirstPlace}
@@ -20,13 +20,15 @@ use Rattle.run_pictures.specs.declared.stance.Stance.{Stance}
 use Rattle.run_pictures.specs.declared.stance.Stance.TheVariants.{Runs, Ready, Blocked}
 use Rattle.run_pictures.specs.declared.stretch.Stretch.{Stretch}
 use Rattle.run_pictures.specs.BarLaws.{columns_begin, columns_end, AreLaidOut, Climb, FillRow, IsWithinRow, RunIsLaidOut, RunsAreLaidOut}
-use Rattle.run_pictures.specs.Bars.{bar_over, core_top, current_shape, due_shape, held_over, held_shape, hold_shape, inherited_shape, mutex_top, off_shape, pose_shape, task_top, tick_shape}
+use Rattle.run_pictures.specs.Bars.{bar_over, core_top, current_shape, due_shape, held_over, held_shape, hold_shape, inherited_shape, messages_shape, mutex_top, off_shape, pose_shape}
+use Rattle.run_pictures.specs.Bars.{queue_top, task_top, tick_shape}
 use Rattle.run_pictures.specs.Drawn.{Drawn}
 use Rattle.run_pictures.specs.Frame.{column_of, pixels, scale_for, x_of}
 use Rattle.run_pictures.specs.MutexLines.{taken_mutexes}
 use Rattle.run_pictures.specs.Picture.{count_of_both, end_of, left_of, shown_at, shown_count, shown_of}
 use Rattle.run_pictures.specs.Poses.{detail_for, detailed_stretches, opening, pose_in, pose_stretches}
 use Rattle.run_pictures.specs.Preemption.{preempt_in, preempt_stretches}
+use Rattle.run_pictures.specs.QueueLines.{changed_queues}
 use Rattle.run_pictures.specs.RunLooks.{looks_of, run_looks}
 use Rattle.run_pictures.specs.Same.{are_same_dues, are_same_poses, are_same_priorities, are_same_stances}
 use Rattle.run_pictures.specs.Shown.{Shown}
@@ -36,7 +38,7 @@ use Rattle.run_pictures.specs.StretchValues.{dues_decided, flags_decided, holder
 use Rattle.run_pictures.specs.StretchValues.{stances_decided}
 use Rattle.run_pictures.specs.TaskBands.{stance_shape}
 use Rattle.run_pictures.specs.TaskStretches.{current_in, current_stretches, due_in, due_stretches, hold_in, hold_stretches, holder_in, holder_stretches}
-use Rattle.run_pictures.specs.TaskStretches.{priorities_in, priority_stretches, stance_stretches, tick_in, tick_stretches}
+use Rattle.run_pictures.specs.TaskStretches.{message_stretches, messages_in, priorities_in, priority_stretches, stance_stretches, tick_in, tick_stretches}
 use Rattle.run_pictures.proofs.LaidOut.{fill, fill_steps, over_where, pixels_le, within_where, IsOver}
 use Rattle.run_pictures.proofs.Opened.{many_shown}
 
@@ -128,6 +130,16 @@ module _ (shown : Shown) (top right : ℕ)
       (λ stretch. within_held cores y stretch stretch.value) are_same_numbers holders_decided (map (holder_in mutex) looks)
       (length-map looks (holder_in mutex))
 
+  changed_fill : (y queue : ℕ) → FillRow frame right y QUEUE_ROW (flat_map (messages_shape y) (message_stretches frame.first looks queue))
+  unfolding message_stretches
+  changed_fill y queue =
+      let drawn = λ (stretch : Stretch ℕ). not (stretch.value == 0) in
+      let bar = λ (stretch : Stretch ℕ). bar_over (ink.Messages stretch.value) y 14 stretch in
+      fill frame (length looks) right climb begun ending least (messages_shape y)
+      (λ stretch. over_where (drawn stretch) stretch (bar stretch) refl refl) y QUEUE_ROW
+      (λ stretch. within_where (drawn stretch) (bar stretch) (record { above = omega arith; below = omega arith }))
+      nat_eq numbers_decided (map (messages_in queue) looks) (length-map looks (messages_in queue))
+
   poses_fill : (y user task : ℕ) (detail : Detail) → FillRow frame right y TASK_ROW
       (flat_map (pose_shape user y) (detailed_stretches detail frame.first looks task))
   unfolding pose_stretches stance_stretches
@@ -153,6 +165,7 @@ module _ (shown : Shown) (top right : ℕ)
     inherited = λ user few. inherited_fill (task_top shown top user) (cores + user);
     offs = λ user few. offs_fill (task_top shown top user) (cores + user);
     taken = λ k few. taken_fill (mutex_top shown top k) (slice_index_or (taken_mutexes shown.header looks) k 0);
+    changed = λ k few. changed_fill (queue_top shown top k) (slice_index_or (changed_queues shown.header looks) k 0);
   }
 
 pub run_laid_out : RunIsLaidOut

@@ -8,11 +8,12 @@ use Rattle.bench_types.specs.declared.kernel_data.Settings.{Settings}
 use Rattle.bench_types.specs.declared.step.Step.{Step}
 use Rattle.bench_types.specs.Header.{IsCheckedHeader}
 use Rattle.bench_types.specs.Session.{Session, IsCheckedSession}
-use Rattle.bench_types.specs.Step.{settings_of, IsCheckedStep}
+use Rattle.bench_types.specs.Step.{queue_total, settings_of, IsCheckedStep}
 use Rattle.list_orders.specs.Search.{numbers}
 use Rattle.list_orders.proofs.Filters.{list_any-map}
 use Rattle.list_orders.proofs.Stamped.{numbers_more}
 use Rattle.bench_model.specs.Control.{current, task_at}
+use Rattle.bench_model.specs.Queues.{queue_at}
 use Rattle.bench_model.specs.SameTest.{are_same_bools, are_same_holds, are_same_options}
 use Rattle.bench_model.specs.Session.{state_at}
 use Rattle.bench_model.specs.State.{holder_at}
@@ -30,19 +31,20 @@ use Rattle.run_pictures.specs.declared.stretch.Stretch.{Stretch}
 use Rattle.run_pictures.specs.Hindrances.{hindrances_in, hindrances_of}
 use Rattle.run_pictures.specs.Poses.{detailed_stretches, openings, pose_in, pose_of, pose_stretches}
 use Rattle.run_pictures.specs.Preemption.{preempt_in, preempt_stretches}
+use Rattle.run_pictures.specs.QueueLines.{changed_queues, do_differ, queues_of}
 use Rattle.run_pictures.specs.Same.{are_same_dues, are_same_poses, are_same_priorities, are_same_stances, are_same_terms}
 use Rattle.run_pictures.specs.StretchValues.{dues_decided, flags_decided, holders_decided, holds_decided, numbers_decided, poses_decided, priorities_decided}
 use Rattle.run_pictures.specs.StretchValues.{stances_decided, terms_decided}
 use Rattle.run_pictures.specs.TaskStretches.{current_in, current_stretches, due_in, due_stretches, hold_in, hold_stretches, holder_in, holder_stretches}
-use Rattle.run_pictures.specs.TaskStretches.{own_hold, priorities_in, priority_stretches, stance_stretches, tick_in, tick_stretches}
+use Rattle.run_pictures.specs.TaskStretches.{message_stretches, messages_in, own_hold, priorities_in, priority_stretches, stance_stretches, tick_in, tick_stretches}
 use Rattle.run_pictures.specs.Stances.{stance_in, stance_of}
 use Rattle.run_pictures.specs.StretchesOf.{stretches_of, Tiles}
 use Rattle.run_pictures.specs.TaskNames.{terms_in, terms_stretches}
 use Rattle.run_pictures.specs.Theorem.{currents_of, due_at, dues_of, holders_of, holds_of, poses_of, preempts_of, priorities_at, priorities_of, stances_of}
-use Rattle.run_pictures.specs.Theorem.{taken_of, terms_at, terms_of, ticks_of, AreOpened, IsTiled}
+use Rattle.run_pictures.specs.Theorem.{changed_of, messages_of, taken_of, terms_at, terms_of, ticks_of, AreOpened, IsTiled}
 use Rattle.run_views.proofs.States.{filter_more}
 use Rattle.run_pictures.proofs.Seen.{core_seen, hold_seen, holder_seen, kept_settings, pose_seen, preempt_seen, priorities_seen, sound_state, stance_seen}
-use Rattle.run_pictures.proofs.Seen.{terms_seen, tick_seen}
+use Rattle.run_pictures.proofs.Seen.{messages_seen, terms_seen, tick_seen}
 use Rattle.run_pictures.proofs.Opened.{all_told, look_there, stances_opened}
 use Rattle.run_pictures.proofs.Tiling.{tiled}
 
@@ -73,6 +75,9 @@ module _ (places : Places) (header : Header) (steps : List Step) (is : IsChecked
 
   mutex_within : (place mutex : ℕ) → mutex < header.config.mutexes → mutex < (state_at header steps place).settings.mutexes
   mutex_within place mutex few = subst (λ (settings : Settings). mutex < settings.mutexes) (sym (kept_settings header steps place is checked)) few
+
+  queue_within : (place queue : ℕ) → queue < queues_of header → queue < queue_total (state_at header steps place).settings
+  queue_within place queue few = subst (λ (settings : Settings). queue < queue_total settings) (sym (kept_settings header steps place is checked)) few
 
   -- the stretches of what is seen at the places tile what is so there
   module _ {X : Type 0} (same : X → X → Bool) (tells : (a b : X) → Decides (same a b) (a ≡ b)) (in_look : Look → X) (of_table : Table → X) where
@@ -179,6 +184,21 @@ module _ (places : Places) (header : Header) (steps : List Step) (is : IsChecked
       ∙ ap (list_any is_some) (seen_in (holder_in mutex) (λ table. holder_at table.holders mutex) (state_at header steps)
       (λ place. holder_seen (state_at header steps place) mutex (mutex_within place mutex few)) (shown_places places steps)))
 
+  messages_tiled : (queue : ℕ) → queue < queues_of header → Tiles places.from (messages_of places header steps queue)
+      (message_stretches places.from (looks_of places header steps) queue)
+  unfolding message_stretches
+  messages_tiled queue few =
+      seen_tiled nat_eq numbers_decided (messages_in queue) (λ table. (queue_at table.queues queue).messages)
+      (λ place. messages_seen (state_at header steps place) queue (queue_within place queue few))
+
+  -- the messages of a queue change in the looks where they change in the replay
+  changed_decided : changed_queues header (looks_of places header steps) ≡ changed_of places header steps
+  unfolding looks_of
+  changed_decided =
+      filter_so _ _ (queues_of header)
+      (λ queue few. ap do_differ (seen_in (messages_in queue) (λ table. (queue_at table.queues queue).messages) (state_at header steps)
+      (λ place. messages_seen (state_at header steps place) queue (queue_within place queue few)) (shown_places places steps)))
+
   ticks_tiled : Tiles places.from (ticks_of places header steps) (tick_stretches places.from (looks_of places header steps))
   unfolding tick_stretches
   ticks_tiled = seen_tiled nat_eq numbers_decided tick_in (λ table. tick_count table.orders) (λ place. tick_seen (state_at header steps place))
@@ -196,6 +216,8 @@ module _ (places : Places) (header : Header) (steps : List Step) (is : IsChecked
     holds = hold_tiled;
     holders = holder_tiled;
     taken = taken_decided;
+    messages = messages_tiled;
+    changed = changed_decided;
     ticks = ticks_tiled;
   }
 

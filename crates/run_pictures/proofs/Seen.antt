@@ -7,10 +7,11 @@ use Rattle.bench_types.specs.declared.cause.Cause.{Cause}
 use Rattle.bench_types.specs.declared.header.Header.{Header}
 use Rattle.bench_types.specs.declared.step.Step.{Step}
 use Rattle.bench_types.specs.Header.{IsCheckedHeader}
-use Rattle.bench_types.specs.Step.{settings_of, IsCheckedStep}
+use Rattle.bench_types.specs.Step.{queue_total, settings_of, IsCheckedStep}
 use Rattle.list_orders.specs.Search.{numbers}
 use Rattle.bench_model.specs.Control.{core_at, current, task_at}
 use Rattle.bench_model.specs.Looks.{task_look}
+use Rattle.bench_model.specs.Queues.{queue_at}
 use Rattle.bench_model.specs.Seek.{effective}
 use Rattle.bench_model.specs.Session.{state_at}
 use Rattle.bench_model.specs.Sound.{IsSound}
@@ -27,7 +28,7 @@ use Rattle.run_pictures.specs.declared.stance.Stance.TheVariants.{Blocked}
 use Rattle.run_pictures.specs.Hindrances.{effective_in, has_core, hindrance_in, hindrance_of, obstacle_at, rival_in, rival_of, site_in, site_of, where_ready}
 use Rattle.run_pictures.specs.Poses.{pose_in, pose_of}
 use Rattle.run_pictures.specs.Preemption.{preempt_in}
-use Rattle.run_pictures.specs.TaskStretches.{core_in, holder_in, priorities_in, tick_in}
+use Rattle.run_pictures.specs.TaskStretches.{core_in, holder_in, messages_in, priorities_in, tick_in}
 use Rattle.run_pictures.specs.Stances.{core_of, stance_in, stance_of, stance_on, stance_with, status_in}
 use Rattle.run_pictures.specs.TaskNames.{terms_in}
 use Rattle.run_pictures.specs.Theorem.{priorities_at, terms_at}
@@ -53,7 +54,7 @@ sound_state header steps place is checked =
     sound_along (take place steps) (start header) (start_sound header is.passes)
     (All-take (IsCheckedStep (start header).settings) place steps (checked_at_start header steps checked))
 
--- ---- a core of a look, a task, a mutex
+-- ---- a core of a look, a task, a mutex, a queue
 
 pub core_seen : (table : Table) (core : ℕ) → core < table.settings.cores → core_in core (look_of table) ≡ core_at table.control core
 unfolding look_of
@@ -66,6 +67,11 @@ status_seen table task few = get_or-map-range_with_len (status_of table) 0 table
 pub holder_seen : (table : Table) (mutex : ℕ) → mutex < table.settings.mutexes → holder_in mutex (look_of table) ≡ holder_at table.holders mutex
 unfolding look_of
 holder_seen table mutex few = get_or-map-range_with_len (holder_at table.holders) 0 table.settings.mutexes mutex mutex _ few (zero-add mutex)
+
+pub messages_seen : (table : Table) (queue : ℕ) → queue < queue_total table.settings → messages_in queue (look_of table) ≡ (queue_at table.queues queue).messages
+unfolding look_of
+messages_seen table queue few = get_or-map-range_with_len (λ q. (queue_at table.queues q).messages) 0 (queue_total table.settings) queue queue _ few
+    (zero-add queue)
 
 pub tick_seen : (table : Table) → tick_in (look_of table) ≡ tick_count table.orders
 unfolding look_of

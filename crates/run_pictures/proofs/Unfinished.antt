@@ -11,7 +11,7 @@ use Rattle.std.proofs.Math.ListN.{get_or-eq_default}
 use Rattle.list_orders.specs.Search.{numbers}
 use Rattle.bench_types.proofs.Passes.{checked_mutex, checked_task, noted_task}
 use Rattle.bench_types.specs.declared.header.Header.{Header}
-use Rattle.bench_types.specs.declared.kernel_data.MutexWait.{MutexWait}
+use Rattle.bench_types.specs.declared.kernel_data.EventWait.{EventWait}
 use Rattle.bench_types.specs.declared.kernel_data.Settings.{Settings}
 use Rattle.bench_types.specs.declared.note.Notification.{Notification}
 use Rattle.bench_types.specs.declared.reply.Refusal.{Refusal}
@@ -21,12 +21,15 @@ use Rattle.bench_types.specs.declared.step.BlockingCall.{BlockingCall}
 use Rattle.bench_types.specs.declared.step.BlockingCall.TheVariants as blocking
 use Rattle.bench_types.specs.declared.step.Call.{Call}
 use Rattle.bench_types.specs.declared.step.Call.TheVariants.{Yield, Delay, DelayUntil, Finish, PrioritySet, AffinitySet, PreemptOff, PreemptOn, Notify}
-use Rattle.bench_types.specs.declared.step.Call.TheVariants.{NotifyWait, NotifyTake, StateClear, ValueClear, MutexTake, MutexGive, HoldOpen, HoldClose}
+use Rattle.bench_types.specs.declared.step.Call.TheVariants.{NotifyWait, NotifyTake, StateClear, ValueClear, MutexTake, MutexGive, QueueSend, QueueReceive, HoldOpen}
+use Rattle.bench_types.specs.declared.step.Call.TheVariants.{HoldClose}
+use Rattle.bench_types.specs.declared.step.Direction.{Direction}
+use Rattle.bench_types.specs.declared.step.Direction.TheVariants.{Send, Receive}
 use Rattle.bench_types.specs.declared.step.Step.{Step}
-use Rattle.bench_types.specs.declared.step.Step.TheVariants.{Tick, Switch, Interrupt}
+use Rattle.bench_types.specs.declared.step.Step.TheVariants.{Tick, Switch, Interrupt, QueueInterrupt}
 use Rattle.bench_types.specs.declared.step.Step.TheVariants as steps
 use Rattle.bench_types.specs.declared.step.Unfinished.{Unfinished}
-use Rattle.bench_types.specs.declared.step.Unfinished.TheVariants.{Made, Take}
+use Rattle.bench_types.specs.declared.step.Unfinished.TheVariants.{Made, Take, Transfer}
 use Rattle.bench_types.specs.Cause.{cause_of}
 use Rattle.bench_types.specs.Header.{IsCheckedHeader}
 use Rattle.bench_types.specs.Step.{settings_of, IsCheckedCall, IsCheckedStep}
@@ -39,6 +42,7 @@ use Rattle.bench_model.specs.Looks.{ticks_left}
 use Rattle.bench_model.specs.Mutexes.{after_disinherit, finish_from, inherited, is_marked, mutex_take, owed, take_finished, take_from, timed_out, waited_at, waiting_priority}
 use Rattle.bench_model.specs.Notes.{of_slot, slot_of, take_entered, wait_entered}
 use Rattle.bench_model.specs.Notifying.{awaited, interrupted, timeout_of}
+use Rattle.bench_model.specs.Queues.{can_pass, queue_at, queue_called, queue_finished, queue_waited}
 use Rattle.bench_model.specs.Refusals.{refusal}
 use Rattle.bench_model.specs.Seek.{after_eviction, after_switch, may_move, seek}
 use Rattle.bench_model.specs.Session.{state_after, state_at, step_of}
@@ -49,14 +53,16 @@ use Rattle.bench_model.specs.Steps.{after, after_finish, called, delayed_until, 
 use Rattle.bench_model.specs.Table.{Stamps, Table, add_to_ready_list, ahead, deadline_left, delay, forget_deadline, is_ready, stamp_queues, stands_ready}
 use Rattle.bench_model.specs.Table.{tick_count, set_list_value}
 use Rattle.bench_model.specs.Until.{is_ahead, next_wake, ticks_to}
+use Rattle.bench_model.specs.Waiters.{event_list}
 use Rattle.order_laws.proofs.SoundSteps.{add_to_ready_keeps}
+use Rattle.rule_laws.proofs.Mutexes.{forgotten_sound}
 use Rattle.step_laws.proofs.Along.{checked_rest}
 use Rattle.step_laws.proofs.Holds.{checked_call, in_place}
 use Rattle.step_laws.proofs.Starts.{start_sound}
 use Rattle.step_laws.proofs.Steps.{after_sound}
 use Rattle.step_laws.proofs.Undisturbed.{IsUndisturbed, affinity_undisturbed, bits_undisturbed, completed_undisturbed, forgotten_undisturbed, give_undisturbed}
 use Rattle.step_laws.proofs.Undisturbed.{inherited_undisturbed, notes_undisturbed, notify_undisturbed, off_undisturbed, on_undisturbed, priority_undisturbed}
-use Rattle.step_laws.proofs.Undisturbed.{taken_undisturbed, ticked_undisturbed, undisturbed, yielded_undisturbed}
+use Rattle.step_laws.proofs.Undisturbed.{passed_undisturbed, queue_interrupted_undisturbed, taken_undisturbed, ticked_undisturbed, undisturbed, yielded_undisturbed}
 use Rattle.run_views.proofs.States.{next_state}
 use Rattle.run_pictures.specs.declared.stance.Stance.TheVariants.{Blocked}
 use Rattle.run_pictures.specs.Stances.{stance_on}
@@ -189,7 +195,7 @@ module _ (core task : ℕ) (table : Table) (sound : IsConsistent table) (place :
   kept_but : (later : Table) → IsUndisturbed table later → IsCalmBut task table later
   kept_but later kept = calm_but later (undisturbed_calm table later kept)
 
-  blocked_but : (call : Unfinished) (ticks : Option ℕ) (wait : Option MutexWait) (near : Table) → IsUndisturbed table near → IsCalmBut task table
+  blocked_but : (call : Unfinished) (ticks : Option ℕ) (wait : Option EventWait) (near : Table) → IsUndisturbed table near → IsCalmBut task table
       (blocked stamp_queues core task call ticks wait near)
   unfolding blocked delay
   blocked_but call ticks wait near kept =
@@ -222,7 +228,7 @@ module _ (core task : ℕ) (table : Table) (sound : IsConsistent table) (place :
   unfolding waited_at
   waited_but mutex holder ticks low =
       let priority = (task_at table.control task).in_use in
-      blocked_but (Take mutex (is_marked table.control task holder)) ticks (Some (record { mutex = mutex; priority = waiting_priority stamp_queues task table }))
+      blocked_but (Take mutex (is_marked table.control task holder)) ticks (Some (record { list = mutex; priority = waiting_priority stamp_queues task table }))
       (inherited stamp_queues core holder priority table) (inherited_undisturbed core holder priority table low)
 
   holder_low : (mutex holder : ℕ) → holder_at table.holders mutex ≡ Some holder → holder < length table.orders.rows
@@ -248,6 +254,28 @@ module _ (core task : ℕ) (table : Table) (sound : IsConsistent table) (place :
           (then_calm _ (timed_out_calm core task mutex mark holder over))
           (waited_but mutex holder (deadline_left task table.orders) (holder_low mutex holder is))
 
+  queue_waited_but : (direction : Direction) (queue : ℕ) (ticks : Option ℕ) → IsCalmBut task table
+      (queue_waited stamp_queues core task direction queue ticks table)
+  unfolding queue_waited
+  queue_waited_but direction queue ticks = blocked_but (Transfer queue direction) ticks
+      (Some (record { list = event_list table.settings direction queue; priority = waiting_priority stamp_queues task table })) table (undisturbed table)
+
+  queue_called_but : (direction : Direction) (queue ticks : ℕ) → IsCalmBut task table (queue_called stamp_queues core task direction queue ticks table).1
+  unfolding queue_called
+  queue_called_but direction queue ticks =
+      either_but task table _ _ (can_pass direction (queue_at table.queues queue)) (kept_but _ (passed_undisturbed core direction queue table sound))
+      (either_but task table _ _ (eqb ticks 0) (kept_but table (undisturbed table)) (queue_waited_but direction queue (timeout_of ticks)))
+
+  over_sound : IsConsistent over
+  over_sound = forgotten_sound table task sound (omega (arith, sound.sized.rows, place.2)) place.3
+
+  queue_finished_but : (direction : Direction) (queue : ℕ) → IsCalmBut task table (queue_finished stamp_queues core task direction queue table).1
+  unfolding queue_finished
+  queue_finished_but direction queue =
+      either_but task table _ _ (can_pass direction (queue_at table.queues queue)) (then_kept _ (passed_undisturbed core direction queue over over_sound))
+      (either_but task table _ _ (option_map_or (λ ticks. eqb ticks 0) (deadline_left task table.orders) false) (then_kept over (undisturbed over))
+      (queue_waited_but direction queue (deadline_left task table.orders)))
+
   finish_but : IsCalmBut task table
       (option_map_or {U = Reply × Table} (λ call. after_finish stamp_queues core task call table) (call_at table.calls task) (reply.Done, table)).1
   unfolding after_finish
@@ -258,6 +286,7 @@ module _ (core task : ℕ) (table : Table) (sound : IsConsistent table) (place :
       at None = kept_but table (undisturbed table)
       at (Some (Made call)) = then_kept _ (completed_undisturbed task call over)
       at (Some (Take mutex mark)) = take_finished_but mutex mark
+      at (Some (Transfer queue direction)) = queue_finished_but direction queue
 
   await_but : (call : BlockingCall) (ticks : ℕ) (entered : Bool × List Notification) → IsCalmBut task table
       (awaited stamp_queues core task call ticks entered table).1
@@ -300,6 +329,8 @@ module _ (core task : ℕ) (table : Table) (sound : IsConsistent table) (place :
   called_but (MutexTake mutex ticks) checked = take_but mutex ticks
   called_but (MutexGive mutex) checked = kept_but _ (give_undisturbed core task mutex table sound place.2
       (checked_mutex table.settings mutex checked.passes))
+  called_but (QueueSend queue ticks) checked = queue_called_but Send queue ticks
+  called_but (QueueReceive queue ticks) checked = queue_called_but Receive queue ticks
   called_but HoldOpen checked = calm_but _ (record { ready = λ i is. is; calls = refl })
   called_but HoldClose checked = calm_but _ (record { ready = λ i is. is; calls = refl })
 
@@ -312,6 +343,8 @@ performed_fair Tick table sound checked fits = calm_fair table _ (undisturbed_ca
 performed_fair (Switch core) table sound checked fits = calm_fair table _ (switch_calm core table)
 performed_fair (Interrupt core note) table sound checked fits = calm_fair table _ (undisturbed_calm table _ (notify_undisturbed core note table
     (omega (arith, sound.consistent.sized.rows, fits.1))))
+performed_fair (QueueInterrupt core queue direction) table sound checked fits = calm_fair table _ (undisturbed_calm table _
+    (queue_interrupted_undisturbed core direction queue table sound.consistent))
 performed_fair (steps.Call core task call) table sound checked fits = but_fair task table _ fits.3
     (called_but core task table sound.consistent fits call (checked_call table.settings core task call checked).0)
 

@@ -6,12 +6,13 @@ use Rattle.run_views.specs.declared.places.Places.{Places}
 use Rattle.run_pictures.specs.declared.bar.Bar.{Bar}
 use Rattle.run_pictures.specs.declared.frame.Axis.{Axis}
 use Rattle.run_pictures.specs.declared.frame.Frame.{Frame}
-use Rattle.run_pictures.specs.declared.frame.TheConstants.{CORE_ROW, MUTEX_ROW, TASK_ROW}
-use Rattle.run_pictures.specs.Bars.{core_top, current_bars, due_bars, hold_bars, inherited_bars, mutex_top, off_bars, pose_bars, step_bars, taken_bars, task_top, tick_bars}
+use Rattle.run_pictures.specs.declared.frame.TheConstants.{CORE_ROW, MUTEX_ROW, QUEUE_ROW, TASK_ROW}
+use Rattle.run_pictures.specs.Bars.{changed_bars, core_top, current_bars, due_bars, hold_bars, inherited_bars, mutex_top, off_bars, pose_bars, queue_top, step_bars, taken_bars, task_top, tick_bars}
 use Rattle.run_pictures.specs.Drawn.{Drawn}
 use Rattle.run_pictures.specs.Frame.{column_of, pixels, scale_for, width_between, x_of}
 use Rattle.run_pictures.specs.MutexLines.{taken_mutexes}
 use Rattle.run_pictures.specs.Picture.{count_of_both, left_of, shown_at, shown_count, shown_of}
+use Rattle.run_pictures.specs.QueueLines.{changed_queues}
 use Rattle.run_pictures.specs.Shown.{Shown}
 
 -- Between these two the bars stand one behind another: each begins where the one before it ends, or
@@ -55,6 +56,8 @@ pub record AreLaidOut (shown : Shown) (top right : ℕ) : Type 0 where
       → FillRow shown.frame right (task_top shown top user) TASK_ROW (off_bars shown top user)
   pub taken : (k : ℕ) → k < length (taken_mutexes shown.header shown.run_looks.looks)
       → FillRow shown.frame right (mutex_top shown top k) MUTEX_ROW (taken_bars shown top k)
+  pub changed : (k : ℕ) → k < length (changed_queues shown.header shown.run_looks.looks)
+      → FillRow shown.frame right (queue_top shown top k) QUEUE_ROW (changed_bars shown top k)
 
 -- no place of the run, nor the end behind the last one, begins at an earlier column than one before
 abbrev pub Climb : Drawn → Type 0

@@ -1,5 +1,5 @@
 -- The text of each bar is that of its shape.
-use Rattle.std.specs.Prelude.{◌≡◌, ℕ, ◌+◌, ◌-◌, ◌*◌, List, [], ◌++◌, flat_map, codes, decimal, Bool, Option, Some, None, slice_get}
+use Rattle.std.specs.Prelude.{◌≡◌, ℕ, ◌+◌, ◌-◌, ◌*◌, List, [], ◌++◌, flat_map, codes, decimal, ◌==◌, Bool, Option, Some, None, if◌then◌else◌, slice_get}
 use Rattle.bench_types.specs.declared.header.Header.{Header}
 use Rattle.bench_types.specs.declared.kernel_data.Hold.{Hold}
 use Rattle.bench_types.specs.Header.{name_of}
@@ -16,11 +16,12 @@ use Rattle.run_pictures.specs.declared.stretch.Stretch.{Stretch}
 use Rattle.bench_types.specs.Step.{core_of}
 use Rattle.run_pictures.specs.Axis.{tick_bar}
 use Rattle.run_pictures.specs.Bar.{bar_text, label_text, over_text}
-use Rattle.run_pictures.specs.Bars.{current_shape, due_shape, held_shape, hold_shape, inherited_shape, off_shape, pose_shape, step_shape, tick_shape}
+use Rattle.run_pictures.specs.Bars.{current_shape, due_shape, held_shape, hold_shape, inherited_shape, messages_shape, off_shape, pose_shape, step_shape, tick_shape}
 use Rattle.run_pictures.specs.CoreBands.{core_words, current_bar, due_bar, due_words, hold_bar, hold_words}
 use Rattle.run_pictures.specs.Marks.{mark_in, mark_of, step_at, step_words}
 use Rattle.run_pictures.specs.MutexLines.{held_words, holder_bar}
 use Rattle.run_pictures.specs.Preemption.{off_bar}
+use Rattle.run_pictures.specs.QueueLines.{message_bar, message_words}
 use Rattle.run_pictures.specs.TaskBands.{inherited_bar, inherited_words, pose_bar, pose_words, stance_label, stance_stretch}
 
 -- each of the bars with these words
@@ -48,6 +49,11 @@ abbrev pub label_of_holder : Header → Frame → ℕ → ℕ → ℕ → Option
 label_of_holder header frame y first last None = []
 label_of_holder header frame y first last (Some task) =
     label_text frame Dark first last (y + 11) (name_of header task)
+
+abbrev pub label_of_messages : Frame → ℕ → Stretch ℕ → List ℕ
+label_of_messages frame y stretch =
+    if stretch.value == 0 then []
+    else label_text frame Dark stretch.first stretch.last (y + 11) (decimal stretch.value)
 
 abbrev pub words_of_step : Header → ℕ → Option Made → List ℕ
 words_of_step header place None = []
@@ -95,6 +101,10 @@ pub record BarsAreDrawn : Type 0 where
       (words_of_holder header mutex stretch.first stretch.last stretch.value)
       (held_shape header.config.cores y stretch)
       ++ label_of_holder header frame y stretch.first stretch.last stretch.value
+  pub messages : (frame : Frame) (y queue : ℕ) (stretch : Stretch ℕ)
+      → message_bar frame y queue stretch
+      ≡ bars_text frame (message_words queue stretch) (messages_shape y stretch)
+      ++ label_of_messages frame y stretch
   pub step : (header : Header) (frame : Frame) (top : ℕ) (made : List Made) (k : ℕ)
       → step_at header frame top made k
       ≡ bars_text frame (words_of_step header (frame.first + k) (slice_get made k))

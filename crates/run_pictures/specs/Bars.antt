@@ -3,7 +3,7 @@ use Rattle.std.specs.Prelude.{ℕ, ◌+◌, ◌-◌, ◌*◌, ◌==◌, List, []
 use Rattle.list_orders.specs.Search.{numbers}
 use Rattle.bench_types.specs.declared.kernel_data.Hold.{Hold}
 use Rattle.run_pictures.specs.declared.bar.Bar.{Bar}
-use Rattle.run_pictures.specs.declared.frame.TheConstants.{CORE_ROW, MUTEX_ROW, TASK_ROW}
+use Rattle.run_pictures.specs.declared.frame.TheConstants.{CORE_ROW, MUTEX_ROW, QUEUE_ROW, TASK_ROW}
 use Rattle.run_pictures.specs.declared.ink.Ink.{Ink}
 use Rattle.run_pictures.specs.declared.ink.Ink.TheVariants as ink
 use Rattle.run_pictures.specs.declared.pose.Pose.{Pose}
@@ -13,12 +13,13 @@ use Rattle.run_pictures.specs.declared.shown.Priorities.{Priorities}
 use Rattle.run_pictures.specs.declared.stretch.Stretch.{Stretch}
 use Rattle.run_pictures.specs.Ink.{task_ink, tick_ink}
 use Rattle.run_pictures.specs.MutexLines.{taken_mutexes}
-use Rattle.run_pictures.specs.Picture.{mutexes_down, tasks_down}
+use Rattle.run_pictures.specs.Picture.{mutexes_down, queues_down, tasks_down}
 use Rattle.run_pictures.specs.Poses.{detail_for, detailed_stretches}
 use Rattle.run_pictures.specs.Preemption.{preempt_stretches}
+use Rattle.run_pictures.specs.QueueLines.{changed_queues}
 use Rattle.run_pictures.specs.Shown.{Shown}
 use Rattle.run_pictures.specs.TaskBands.{stance_shape, stance_stretch}
-use Rattle.run_pictures.specs.TaskStretches.{current_stretches, due_stretches, hold_stretches, holder_stretches, priority_stretches, tick_stretches}
+use Rattle.run_pictures.specs.TaskStretches.{current_stretches, due_stretches, hold_stretches, holder_stretches, message_stretches, priority_stretches, tick_stretches}
 
 -- ---- of a stretch the bar, or none
 
@@ -65,6 +66,10 @@ held_over cores y stretch (Some task) = bar_over (ink.Taken (task - cores)) y 14
 abbrev pub held_shape : ℕ → ℕ → Stretch (Option ℕ) → List Bar
 held_shape cores y stretch = held_over cores y stretch stretch.value
 
+abbrev pub messages_shape : ℕ → Stretch ℕ → List Bar
+messages_shape y stretch =
+    where_drawn (not (stretch.value == 0)) (bar_over (ink.Messages stretch.value) y 14 stretch)
+
 -- of the k-th place from the first on the bar over which its step is told
 abbrev pub step_shape : ℕ → ℕ → List Made → ℕ → List Bar
 step_shape first y made k = where_drawn (is_some (slice_get made k))
@@ -81,6 +86,11 @@ task_top shown top user = top + tasks_down shown.header + TASK_ROW * user
 -- of the k-th mutex that has a row
 abbrev pub mutex_top : Shown → ℕ → ℕ → ℕ
 mutex_top shown top k = top + mutexes_down shown.header + MUTEX_ROW * k
+
+-- of the k-th queue that has a row
+abbrev pub queue_top : Shown → ℕ → ℕ → ℕ
+queue_top shown top k =
+    top + queues_down shown.header shown.run_looks.looks + QUEUE_ROW * k
 
 abbrev pub tick_bars : Shown → ℕ → List Bar
 tick_bars shown top =
@@ -131,6 +141,13 @@ taken_bars shown top k =
     (holder_stretches shown.frame.first looks
     (slice_index_or (taken_mutexes shown.header looks) k 0))
 
+abbrev pub changed_bars : Shown → ℕ → ℕ → List Bar
+changed_bars shown top k =
+    let looks = shown.run_looks.looks in
+    flat_map (messages_shape (queue_top shown top k))
+    (message_stretches shown.frame.first looks
+    (slice_index_or (changed_queues shown.header looks) k 0))
+
 -- ---- of the run
 
 abbrev pub core_bars : Shown → ℕ → List Bar
@@ -150,7 +167,12 @@ mutex_bars shown top =
     flat_map (taken_bars shown top)
     (numbers (length (taken_mutexes shown.header shown.run_looks.looks)))
 
+abbrev pub queue_bars : Shown → ℕ → List Bar
+queue_bars shown top =
+    flat_map (changed_bars shown top)
+    (numbers (length (changed_queues shown.header shown.run_looks.looks)))
+
 abbrev pub all_bars : Shown → ℕ → List Bar
 all_bars shown top =
     tick_bars shown top ++ core_bars shown top ++ task_bars shown top ++ mutex_bars shown top
-    ++ step_bars shown top
+    ++ queue_bars shown top ++ step_bars shown top

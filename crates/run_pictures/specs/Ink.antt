@@ -1,7 +1,7 @@
 -- What a bar stands for: the style of the picture draws each in its own colour.
 use Rattle.std.specs.Prelude.{ℕ, ◌-◌, ◌%◌, ◌==◌, List, ◌++◌, nat_lt, codes, decimal, if◌then◌else◌}
 use Rattle.run_pictures.specs.declared.ink.Ink.{Ink}
-use Rattle.run_pictures.specs.declared.ink.Ink.TheVariants.{EvenTick, OddTick, Idle, Runs, Ready, Waits, Due, Held, Inherited, Off, Taken, Clear}
+use Rattle.run_pictures.specs.declared.ink.Ink.TheVariants.{EvenTick, OddTick, Idle, Runs, Ready, Waits, Due, Held, Inherited, Off, Taken, Messages, Clear}
 
 abbrev pub tick_ink : ℕ → Ink
 tick_ink tick = if tick % 2 == 0 then EvenTick else OddTick
@@ -23,4 +23,5 @@ ink_text Held = codes "h"
 ink_text Inherited = codes "u"
 ink_text Off = codes "p"
 ink_text (Taken user) = codes "m c" ++ decimal (user % 8)
+ink_text (Messages count) = codes "q"
 ink_text Clear = codes "z"

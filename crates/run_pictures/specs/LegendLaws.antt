@@ -13,7 +13,7 @@ use Rattle.run_pictures.specs.declared.ink.Ink.TheVariants as ink
 use Rattle.run_pictures.specs.declared.marks.Mark.{Mark}
 use Rattle.run_pictures.specs.declared.marks.Mark.TheVariants as mark
 use Rattle.run_pictures.specs.declared.signs.Sign.{Sign}
-use Rattle.run_pictures.specs.declared.signs.Sign.TheVariants.{Running, Idle, Ready, Blocked, Due, Held, Inherited, PreemptionOff, Taken, Interrupt, Refused}
+use Rattle.run_pictures.specs.declared.signs.Sign.TheVariants.{Running, Idle, Ready, Blocked, Due, Held, Inherited, PreemptionOff, Taken, Messages, Interrupt, Refused}
 use Rattle.run_pictures.specs.Bars.{all_bars}
 use Rattle.run_pictures.specs.Drawn.{Drawn, IsDrawable}
 use Rattle.run_pictures.specs.Marks.{mark_at}
@@ -34,6 +34,7 @@ sign_of ink.Held = Some Held
 sign_of ink.Inherited = Some Inherited
 sign_of ink.Off = Some PreemptionOff
 sign_of (ink.Taken user) = Some Taken
+sign_of (ink.Messages count) = Some Messages
 sign_of ink.Clear = None
 
 abbrev pub sign_of_mark : Mark → Sign

@@ -20,6 +20,8 @@ pub mod MutexLines
 pub mod Picture
 pub mod Poses
 pub mod Preemption
+pub mod QueueLaws
+pub mod QueueLines
 pub mod RowStretches
 pub mod Same
 pub mod StretchValues

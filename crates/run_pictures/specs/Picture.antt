@@ -10,7 +10,7 @@ use Rattle.run_views.specs.declared.places.Places.{Places}
 use Rattle.run_pictures.specs.declared.frame.Axis.{Axis}
 use Rattle.run_pictures.specs.declared.frame.Frame.{Frame}
 use Rattle.run_pictures.specs.declared.frame.Scale.{Scale}
-use Rattle.run_pictures.specs.declared.frame.TheConstants.{CORE_ROW, MUTEX_ROW, TASK_ROW}
+use Rattle.run_pictures.specs.declared.frame.TheConstants.{CORE_ROW, MUTEX_ROW, QUEUE_ROW, TASK_ROW}
 use Rattle.run_pictures.specs.declared.picture.TooLong.{TooLong}
 use Rattle.run_pictures.specs.declared.signs.Sign.{Sign}
 use Rattle.run_pictures.specs.declared.style.TheConstants.{OPENING, STYLE}
@@ -23,6 +23,7 @@ use Rattle.run_pictures.specs.Limits.{max_places}
 use Rattle.run_pictures.specs.Marks.{step_at}
 use Rattle.run_pictures.specs.MutexLines.{taken_mutexes, taken_rows}
 use Rattle.run_pictures.specs.Poses.{detail_for}
+use Rattle.run_pictures.specs.QueueLines.{changed_queues, changed_rows}
 use Rattle.run_pictures.specs.Shown.{Shown}
 use Rattle.run_pictures.specs.Signs.{entries_text, legend_height, signs_of, signs_of_both}
 use Rattle.run_pictures.specs.TaskBands.{task_row}
@@ -84,10 +85,14 @@ tasks_down header = 44 + CORE_ROW * header.config.cores
 abbrev pub mutexes_down : Header → ℕ
 mutexes_down header = tasks_down header + TASK_ROW * length header.tasks
 
+abbrev pub queues_down : Header → List Look → ℕ
+queues_down header looks =
+    mutexes_down header + MUTEX_ROW * length (taken_mutexes header looks)
+
 -- a run takes so many pixels from top to bottom
 abbrev pub panel_height : Header → List Look → ℕ
 panel_height header looks =
-    mutexes_down header + MUTEX_ROW * length (taken_mutexes header looks)
+    queues_down header looks + QUEUE_ROW * length (changed_queues header looks)
 
 abbrev pub core_rows : Header → Frame → ℕ → List Look → List ℕ
 core_rows header frame y looks =
@@ -111,6 +116,7 @@ bands_text shown top =
     axis_row frame top looks ++ core_rows header frame (top + 36) looks
     ++ task_rows header frame (top + tasks_down header) looks
     ++ taken_rows header frame (top + mutexes_down header) looks
+    ++ changed_rows header frame (top + queues_down header looks) looks
 
 -- what its steps are, and where its ticks begin
 unfoldable pub marks_text : Shown → ℕ → List ℕ

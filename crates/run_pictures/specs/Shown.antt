@@ -1,10 +1,11 @@
 -- A run as it is drawn.
 use Rattle.std.specs.Prelude.{◌+◌, ◌<◌, ◌≤◌, ◌^◌, length}
 use Rattle.bench_types.specs.declared.header.Header.{Header}
-use Rattle.bench_types.specs.Limits.{max_cores, max_tasks}
+use Rattle.bench_types.specs.Limits.{max_cores, max_queues, max_tasks}
 use Rattle.run_pictures.specs.declared.run_looks.RunLooks.{RunLooks}
 use Rattle.run_pictures.specs.declared.frame.Frame.{Frame}
 use Rattle.run_pictures.specs.declared.panel.Panel.{Panel}
+use Rattle.run_pictures.specs.QueueLines.{queues_of}
 
 pub record Shown : Type 0 where
   pub header : Header
@@ -20,9 +21,11 @@ shown panel = record {
   run_looks = panel.run_looks;
 }
 
--- its places have numbers of 32 bits, and it has no more cores and tasks than a session may have
+-- its places have numbers of 32 bits, and it has no more cores, tasks and queues than a session may
+-- have
 pub record IsNumbered (shown : Shown) : Type 0 where
   pub places : shown.frame.first + length shown.run_looks.looks ≤ 2 ^ 32
   pub looks : length shown.run_looks.looks < 2 ^ 32
   pub cores : shown.header.config.cores ≤ max_cores
   pub tasks : length shown.header.tasks ≤ max_tasks
+  pub queues : queues_of shown.header ≤ max_queues

@@ -9,13 +9,14 @@ use Rattle.run_pictures.specs.declared.run_looks.Made.{Made}
 use Rattle.run_pictures.specs.declared.marks.Mark.{Mark}
 use Rattle.run_pictures.specs.declared.marks.Mark.TheVariants as mark
 use Rattle.run_pictures.specs.declared.signs.Sign.{Sign}
-use Rattle.run_pictures.specs.declared.signs.Sign.TheVariants.{Running, Idle, Ready, Blocked, Due, Held, Inherited, PreemptionOff, Taken, Interrupt, Refused}
+use Rattle.run_pictures.specs.declared.signs.Sign.TheVariants.{Running, Idle, Ready, Blocked, Due, Held, Inherited, PreemptionOff, Taken, Messages, Interrupt, Refused}
 use Rattle.run_pictures.specs.declared.stance.Stance.{Stance}
 use Rattle.run_pictures.specs.declared.stance.Stance.TheVariants as stance
 use Rattle.run_pictures.specs.Marks.{mark_at}
 use Rattle.run_pictures.specs.MutexLines.{is_taken}
 use Rattle.run_pictures.specs.Poses.{stands_ready}
 use Rattle.run_pictures.specs.Preemption.{preempt_in}
+use Rattle.run_pictures.specs.QueueLines.{is_changed, queues_of}
 use Rattle.run_pictures.specs.Shown.{Shown}
 use Rattle.run_pictures.specs.Stances.{stance_in, status_in}
 
@@ -91,14 +92,16 @@ is_used shown Inherited = list_any (has_inherited shown.header) shown.run_looks.
 is_used shown PreemptionOff = list_any (has_unpreempted shown.header) shown.run_looks.looks
 is_used shown Taken =
     list_any (is_taken shown.run_looks.looks) (numbers shown.header.config.mutexes)
+is_used shown Messages =
+    list_any (is_changed shown.run_looks.looks) (numbers (queues_of shown.header))
 is_used shown Interrupt = has_interrupt shown.run_looks.made (length shown.run_looks.looks)
 is_used shown Refused = has_refusal shown.run_looks.made (length shown.run_looks.looks)
 
 -- in their order
 abbrev pub all_signs : List Sign
 all_signs =
-    Running ∷ Ready ∷ Blocked ∷ Idle ∷ Due ∷ Held ∷ Inherited ∷ PreemptionOff ∷ Taken ∷ Interrupt
-    ∷ Refused ∷ []
+    Running ∷ Ready ∷ Blocked ∷ Idle ∷ Due ∷ Held ∷ Inherited ∷ PreemptionOff ∷ Taken ∷ Messages
+    ∷ Interrupt ∷ Refused ∷ []
 
 -- the legend of a run has what the run has
 abbrev pub signs_of : Shown → List Sign
@@ -122,6 +125,7 @@ drawing Held =
 drawing Inherited = codes "<rect class='u' y='6' width='20' height='3'/>"
 drawing PreemptionOff = codes "<rect class='p' y='6' width='20' height='3'/>"
 drawing Taken = codes "<rect class='m c0' width='20' height='14'/>"
+drawing Messages = codes "<rect class='q' width='20' height='14'/>"
 drawing Interrupt = codes "<path class='n' d='M6 3h8l-4 7z'/>"
 drawing Refused = codes "<path class='x' d='M6 3l8 8m0-8l-8 8'/>"
 
@@ -135,6 +139,7 @@ meaning Held = codes "core holds the kernel"
 meaning Inherited = codes "priority inherited"
 meaning PreemptionOff = codes "preemption off"
 meaning Taken = codes "mutex held"
+meaning Messages = codes "messages in a queue"
 meaning Interrupt = codes "interrupt"
 meaning Refused = codes "refused"
 

@@ -3,6 +3,8 @@ use Rattle.std.specs.Prelude.{ℕ, ◌+◌, ◌-◌, ◌==◌, List, [], ◌++�
 use Rattle.bench_types.specs.declared.cause.Cause.{Cause}
 use Rattle.bench_types.specs.declared.cause.Cause.TheVariants as cause
 use Rattle.bench_types.specs.declared.header.Header.{Header}
+use Rattle.bench_types.specs.declared.step.Direction.{Direction}
+use Rattle.bench_types.specs.declared.step.Direction.TheVariants.{Send, Receive}
 use Rattle.bench_types.specs.Header.{name_of}
 use Rattle.run_views.specs.declared.look.Look.{Look}
 use Rattle.run_views.specs.declared.look.Standing.TheVariants as standing
@@ -25,10 +27,16 @@ use Rattle.run_pictures.specs.Preemption.{off_bars}
 use Rattle.run_pictures.specs.TaskStretches.{priority_stretches}
 use Rattle.run_pictures.specs.TaskNames.{task_name}
 
+abbrev pub direction_text : Direction → List ℕ
+direction_text Send = codes " to send"
+direction_text Receive = codes " to receive"
+
 abbrev pub cause_name : Cause → List ℕ
 cause_name cause.Delay = codes "delay"
 cause_name cause.Notification = codes "notification"
 cause_name (cause.Mutex mutex) = codes "mutex " ++ decimal mutex
+cause_name (cause.Queue queue direction) =
+    codes "queue " ++ decimal queue ++ direction_text direction
 
 abbrev pub reason_text : Option Cause → List ℕ
 reason_text None = []

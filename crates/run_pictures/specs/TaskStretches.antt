@@ -70,3 +70,10 @@ holder_in mutex look = slice_index_or look.holders mutex None
 unfoldable pub holder_stretches : ℕ → List Look → ℕ → List (Stretch (Option ℕ))
 holder_stretches first looks mutex =
     stretches_of are_same_numbers first (map (holder_in mutex) looks)
+
+-- how many messages the queue has
+abbrev pub messages_in : ℕ → Look → ℕ
+messages_in queue look = slice_index_or look.messages queue 0
+
+unfoldable pub message_stretches : ℕ → List Look → ℕ → List (Stretch ℕ)
+message_stretches first looks queue = stretches_of nat_eq first (map (messages_in queue) looks)

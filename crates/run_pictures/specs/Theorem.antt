@@ -6,6 +6,7 @@ use Rattle.bench_types.specs.declared.header.Header.{Header}
 use Rattle.bench_types.specs.declared.kernel_data.Hold.{Hold}
 use Rattle.bench_types.specs.declared.step.Step.{Step}
 use Rattle.bench_model.specs.Control.{core_at, current, task_at}
+use Rattle.bench_model.specs.Queues.{queue_at}
 use Rattle.bench_model.specs.Session.{state_at}
 use Rattle.bench_model.specs.State.{holder_at}
 use Rattle.bench_model.specs.Table.{Table, tick_count}
@@ -23,7 +24,8 @@ use Rattle.run_pictures.specs.MutexLines.{taken_mutexes}
 use Rattle.run_pictures.specs.Poses.{detailed_stretches, pose_of, pose_stretches, stance_of_pose}
 use Rattle.run_pictures.specs.Preemption.{preempt_stretches}
 use Rattle.run_pictures.specs.TaskStretches.{current_stretches, due_stretches, hold_stretches, holder_stretches, own_hold, priority_stretches, stance_stretches}
-use Rattle.run_pictures.specs.TaskStretches.{tick_stretches}
+use Rattle.run_pictures.specs.QueueLines.{changed_queues, do_differ, queues_of}
+use Rattle.run_pictures.specs.TaskStretches.{message_stretches, tick_stretches}
 use Rattle.run_pictures.specs.Stances.{stance_of}
 use Rattle.run_pictures.specs.StretchesOf.{with_value, Tiles}
 use Rattle.run_pictures.specs.TaskNames.{terms_stretches}
@@ -104,6 +106,18 @@ taken_of places header steps =
     filter (λ mutex. list_any is_some (holders_of places header steps mutex))
     (numbers header.config.mutexes)
 
+-- how many messages the queue has there
+abbrev pub messages_of : Places → Header → List Step → ℕ → List ℕ
+messages_of places header steps queue =
+    map (λ place. (queue_at (state_at header steps place).queues queue).messages)
+    (shown_places places steps)
+
+-- the queues that have not the same number of messages at all of these places
+abbrev pub changed_of : Places → Header → List Step → List ℕ
+changed_of places header steps =
+    filter (λ queue. do_differ (messages_of places header steps queue))
+    (numbers (queues_of header))
+
 -- Of stretches that tell what is in the way at their first place alone: how the task stands there
 -- tiles the places, and what each tells is in the way at its first place in the replay.
 pub record AreOpened (places : Places) (header : Header) (steps : List Step) (task : ℕ)
@@ -113,8 +127,8 @@ pub record AreOpened (places : Places) (header : Header) (steps : List Step) (ta
   pub first : All (λ stretch. stretch.value.hindrances
       ≡ hindrances_of (state_at header steps stretch.first) task) stretches
 
--- the stretches that are drawn tile what the replay has at the places that are shown, and a mutex
--- has a row where a task holds it at one of these
+-- the stretches that are drawn tile what the replay has at the places that are shown; a mutex has
+-- a row where a task holds it at one of these, and a queue where its messages change among them
 pub record IsTiled (places : Places) (header : Header) (steps : List Step) : Type 0 where
   pub cores : (core : ℕ) → core < header.config.cores
       → Tiles places.from (currents_of places header steps core)
@@ -147,5 +161,10 @@ pub record IsTiled (places : Places) (header : Header) (steps : List Step) : Typ
       → Tiles places.from (holders_of places header steps mutex)
       (holder_stretches places.from (looks_of places header steps) mutex)
   pub taken : taken_mutexes header (looks_of places header steps) ≡ taken_of places header steps
+  pub messages : (queue : ℕ) → queue < queues_of header
+      → Tiles places.from (messages_of places header steps queue)
+      (message_stretches places.from (looks_of places header steps) queue)
+  pub changed : changed_queues header (looks_of places header steps)
+      ≡ changed_of places header steps
   pub ticks : Tiles places.from (ticks_of places header steps)
       (tick_stretches places.from (looks_of places header steps))

@@ -11,10 +11,20 @@ use crate::stretch::{Stretch, stretches_of};
 use run_views::Look;
 use std::alloc::{AllocError, Global};
 
+fn tick_in(look: &Look) -> u32
+    ensures { result ≡ tick_in look.now }
+{
+    look.tick
+}
+
 fn ticks(alloc: Global, looks: &[Look]) -> Result<Vec<u32>, AllocError>
     ensures { IfOk result (λ values. values.items ≡ map tick_in looks.now) }
 {
-    looks.iter().map(|look| look.tick).collect(alloc)
+    let mut values = Vec::with_capacity(alloc, looks.len())?;
+    for look in looks {
+        values.push(tick_in(look))?;
+    }
+    Ok(values)
 }
 
 #[tactic(auto, unfolding(crate::specs::TaskStretches::tick_stretches))]

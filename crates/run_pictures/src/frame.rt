@@ -13,6 +13,9 @@ pub(crate) const TASK_ROW: u64 = 36;
 /// How far below the row of one mutex that of the next stands.
 pub(crate) const MUTEX_ROW: u64 = 18;
 
+/// How far below the row of one queue that of the next stands.
+pub(crate) const QUEUE_ROW: u64 = 18;
+
 /// What the columns of a picture stand for.
 #[derive(Clone, Copy, Debug, PartialEq, Eq)]
 pub enum Axis {

@@ -23,6 +23,8 @@ pub(crate) enum Ink {
     Off,
     /// A mutex that the user task of that index holds.
     Taken(u32),
+    /// A queue that has so many messages.
+    Messages(u32),
     /// Nothing is drawn; it is there to hover over.
     Clear,
 }
@@ -65,6 +67,7 @@ pub(crate) fn push_ink(text: &mut String, ink: Ink) -> Result<(), AllocError>
         Ink::Inherited => text.push_str("u"),
         Ink::Off => text.push_str("p"),
         Ink::Taken(user) => write!(text, "m c{}", user % 8),
+        Ink::Messages(_) => text.push_str("q"),
         Ink::Clear => text.push_str("z"),
     }
 }

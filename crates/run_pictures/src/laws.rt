@@ -4,6 +4,7 @@ ghost use Rattle.run_pictures.specs.BarTexts.{BarsAreDrawn};
 ghost use Rattle.run_pictures.specs.ColumnLaws.{PicturesBeginAtLesser};
 ghost use Rattle.run_pictures.specs.HindranceLaws.{HindrancesAreSo};
 ghost use Rattle.run_pictures.specs.LegendLaws.{LegendIsOfRun, LegendIsOfRuns};
+ghost use Rattle.run_pictures.specs.QueueLaws.{QueueRowsAreSo, QueueRowsOfRunsAreSo};
 ghost use Rattle.run_pictures.specs.WaitLaws.{BlockedCallsStay, WaitsAreUnfinished};
 
 /// A ready task that is on no core is hindered by something at each core, and is told what: it is
@@ -31,6 +32,14 @@ pub fn law_of_bars()
 pub fn law_of_legends()
     ensures one { LegendIsOfRun }
     ensures both { LegendIsOfRuns }
+{}
+
+/// At each place that a bar in the row of a queue covers, the queue has as many messages as the bar
+/// stands for, and at each place that is shown at which it has some, one of these bars covers the
+/// place.
+pub fn law_of_queues()
+    ensures one { QueueRowsAreSo }
+    ensures both { QueueRowsOfRunsAreSo }
 {}
 
 /// At each place of a checked session a blocked task has an unfinished call, and is told to wait

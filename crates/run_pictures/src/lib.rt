@@ -17,6 +17,7 @@ mod panel;
 mod picture;
 mod pose;
 mod preemption;
+mod queue_lines;
 mod row_stretches;
 mod run_looks;
 mod shown;
@@ -33,7 +34,8 @@ pub use escape::{law_of_escapes, push_escaped, push_escaped_bytes};
 pub use frame::Axis;
 pub use hindrance::{Hindrance, Obstacle};
 pub use laws::{
-    law_of_bars, law_of_first_columns, law_of_hindrances, law_of_legends, law_of_waits,
+    law_of_bars, law_of_first_columns, law_of_hindrances, law_of_legends, law_of_queues,
+    law_of_waits,
 };
 pub use picture::{Extent, MAX_PLACES, PlacedRun, TooLong, law_of_places, timeline, timelines};
 pub use pose::Pose;

@@ -27,7 +27,7 @@ fn mark_of(made: Made) -> Option<Mark>
         return Some(Mark::Refused);
     }
     match made.step {
-        Step::Interrupt { .. } => Some(Mark::Interrupt),
+        Step::Interrupt { .. } | Step::QueueInterrupt { .. } => Some(Mark::Interrupt),
         _ => None,
     }
 }

@@ -1,22 +1,26 @@
 //! The picture of a run, or of two runs one above the other.
 ghost use Rattle.std.specs.Prelude.{◌≡◌, ℕ, ◌++◌, ◌+◌, ◌*◌, ◌<◌, ◌≤◌, ◌^◌, IfOk, OnOk, flat_map, length, map, min, string_bytes};
 ghost use Rattle.list_orders.specs.Search.{numbers};
-ghost use Rattle.bench_types.specs.Limits.{max_cores, max_tasks};
+ghost use Rattle.bench_types.specs.Limits.{max_cores, max_queues, max_tasks};
 ghost use Rattle.bench_types.specs.Session.{IsCheckedSession};
 ghost use Rattle.run_pictures.specs.CoreBands.{core_row};
 ghost use Rattle.run_pictures.specs.Limits.{max_places};
 ghost use Rattle.run_pictures.specs.Drawn.{drawn};
-ghost use Rattle.run_pictures.specs.Picture.{bands_text, both_text, core_rows, count_of_both, drawn_run, drawn_runs, end_of, frame_for, frame_of, headed_text, heading_text, height_text, least_width, least_text, left_of, legend_text, marks_text, mutexes_down, opening_text, panel_height, panel_text, picture_text, pictures_text, shown_at, shown_count, shown_of, size_text, task_rows, tasks_down, width_of, width_text, Answers};
+ghost use Rattle.run_pictures.specs.Picture.{bands_text, both_text, core_rows, count_of_both, drawn_run, drawn_runs, end_of, frame_for, frame_of, headed_text, heading_text, height_text, least_width, least_text, left_of, legend_text, marks_text, mutexes_down, opening_text, panel_height, panel_text, picture_text, pictures_text, queues_down, shown_at, shown_count, shown_of, size_text, task_rows, tasks_down, width_of, width_text, Answers};
+ghost use Rattle.run_pictures.specs.QueueLines.{queues_of};
 ghost use Rattle.run_pictures.specs.Shown.{shown, IsNumbered};
 ghost use Rattle.run_pictures.specs.Theorem.{IsTiled};
 
 use crate::axis::{push_axis, push_rules};
 use crate::core_bands::push_core_row;
-use crate::frame::{Axis, CORE_ROW, Frame, MUTEX_ROW, Scale, TASK_ROW, column_of, scale_for};
+use crate::frame::{
+    Axis, CORE_ROW, Frame, MUTEX_ROW, QUEUE_ROW, Scale, TASK_ROW, column_of, scale_for,
+};
 use crate::marks::push_steps;
 use crate::mutex_lines::{push_taken_rows, taken_mutexes};
 use crate::panel::Panel;
 use crate::pose::detail_for;
+use crate::queue_lines::{changed_queues, push_changed_rows};
 use crate::row_stretches::all_row_stretches;
 use crate::run_looks::RunLooks;
 use crate::signs::{Sign, legend_height, push_entries, signs_of, signs_of_both};
@@ -88,14 +92,25 @@ fn mutexes_down(header: &Header) -> u64
     tasks_down(header) + TASK_ROW * header.tasks.as_slice().len() as u64
 }
 
-fn panel_height(alloc: Global, header: &Header, looks: &[Look]) -> Result<u64, AllocError>
+fn queues_down(alloc: Global, header: &Header, looks: &[Look]) -> Result<u64, AllocError>
     requires cores { header.now.config.cores ≤ max_cores }
     requires tasks { length header.now.tasks ≤ max_tasks }
-    ensures value { IfOk result (λ height. height ≡ panel_height header.now looks.now) }
-    ensures few { IfOk result (λ height. height < 2 ^ 37) }
+    ensures value { IfOk result (λ down. down ≡ queues_down header.now looks.now) }
+    ensures few { IfOk result (λ down. down < 2 ^ 37) }
 {
     let mutexes = taken_mutexes(alloc, header, looks)?;
     Ok(mutexes_down(header) + MUTEX_ROW * mutexes.len() as u64)
+}
+
+fn panel_height(alloc: Global, header: &Header, looks: &[Look]) -> Result<u64, AllocError>
+    requires cores { header.now.config.cores ≤ max_cores }
+    requires tasks { length header.now.tasks ≤ max_tasks }
+    requires queues { queues_of header.now ≤ max_queues }
+    ensures value { IfOk result (λ height. height ≡ panel_height header.now looks.now) }
+    ensures few { IfOk result (λ height. height + 50 < 2 ^ 38) }
+{
+    let queues = changed_queues(alloc, header, looks)?;
+    Ok(queues_down(alloc, header, looks)? + QUEUE_ROW * queues.len() as u64)
 }
 
 fn width_of(scale: Scale, count: u64) -> u64
@@ -263,7 +278,9 @@ fn push_bands(
     let tasks = top + tasks_down(header);
     push_tasks(alloc, text, header, frame, tasks, looks)?;
     let down = top + mutexes_down(header);
-    push_taken_rows(alloc, text, header, frame, down, looks)
+    push_taken_rows(alloc, text, header, frame, down, looks)?;
+    let low = top + queues_down(alloc, header, looks)?;
+    push_changed_rows(alloc, text, header, frame, low, looks)
 }
 
 // What the steps of one run are, and where its ticks begin.
@@ -483,7 +500,7 @@ fn push_both(
 ) -> Result<(), AllocError>
     requires before { IsNumbered (shown before.now) }
     requires after { IsNumbered (shown after.now) }
-    requires height { height < 2 ^ 37 }
+    requires height { height + 50 < 2 ^ 38 }
     ensures { OnOk result
         (string_bytes text.new
         ≡ string_bytes text.old ++ both_text (shown before.now) (shown after.now) height) }

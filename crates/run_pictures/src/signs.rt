@@ -3,6 +3,7 @@ ghost use Rattle.std.specs.Prelude.{◌≡◌, ◌++◌, ◌+◌, ◌<◌, ◌�
 ghost use Rattle.std.specs.List.{list_any};
 ghost use Rattle.list_orders.specs.Search.{numbers};
 ghost use Rattle.run_pictures.specs.MutexLines.{is_taken};
+ghost use Rattle.run_pictures.specs.QueueLines.{is_changed};
 ghost use Rattle.run_pictures.specs.Shown.{shown, IsNumbered};
 ghost use Rattle.run_pictures.specs.Signs.{across, all_signs, below, drawing, entries_text, entry_text, has_blocked, has_due, has_idle, has_inherited, has_interrupt, has_ready, has_refusal, has_unpreempted, has_user, is_blocked, is_held, is_interrupt, is_refusal, is_used, legend_height, meaning, moved_text, signs_of, signs_of_both, words_text};
 
@@ -11,6 +12,7 @@ use crate::marks::{Mark, mark_at};
 use crate::mutex_lines::is_taken;
 use crate::panel::Panel;
 use crate::pose::stands_ready;
+use crate::queue_lines::{is_changed, queues_of};
 use crate::stance::{Stance, stance_in, status_in};
 use bench_types::Header;
 use run_views::Look;
@@ -28,12 +30,13 @@ pub(crate) enum Sign {
     Inherited,
     PreemptionOff,
     Taken,
+    Messages,
     Interrupt,
     Refused,
 }
 
 /// In their order.
-const SIGNS: [Sign; 11] = [
+const SIGNS: [Sign; 12] = [
     Sign::Running,
     Sign::Ready,
     Sign::Blocked,
@@ -43,6 +46,7 @@ const SIGNS: [Sign; 11] = [
     Sign::Inherited,
     Sign::PreemptionOff,
     Sign::Taken,
+    Sign::Messages,
     Sign::Interrupt,
     Sign::Refused,
 ];
@@ -210,6 +214,12 @@ fn some_taken(looks: &[Look], mutexes: u32) -> bool
     (0..mutexes).any(|mutex| is_taken(looks, mutex))
 }
 
+fn some_changed(looks: &[Look], queues: u32) -> bool
+    ensures { result ≡ list_any (is_changed looks.now) (numbers queues) }
+{
+    (0..queues).any(|queue| is_changed(looks, queue))
+}
+
 // Whether a run has what the sign stands for, at a place that is shown.
 fn is_used(panel: &Panel<'_>, sign: Sign) -> bool
     requires { IsNumbered (shown panel.now) }
@@ -230,6 +240,7 @@ fn is_used(panel: &Panel<'_>, sign: Sign) -> bool
         Sign::Inherited => some_inherited(looks, header),
         Sign::PreemptionOff => some_unpreempted(looks, header),
         Sign::Taken => some_taken(looks, header.config.mutexes),
+        Sign::Messages => some_changed(looks, queues_of(header)),
         Sign::Interrupt => has_interrupt(made, count),
         Sign::Refused => has_refusal(made, count),
     }
@@ -286,6 +297,7 @@ fn drawing(sign: Sign) -> &'static str
         Sign::Inherited => "<rect class='u' y='6' width='20' height='3'/>",
         Sign::PreemptionOff => "<rect class='p' y='6' width='20' height='3'/>",
         Sign::Taken => "<rect class='m c0' width='20' height='14'/>",
+        Sign::Messages => "<rect class='q' width='20' height='14'/>",
         Sign::Interrupt => "<path class='n' d='M6 3h8l-4 7z'/>",
         Sign::Refused => "<path class='x' d='M6 3l8 8m0-8l-8 8'/>",
     }
@@ -305,6 +317,7 @@ fn meaning(sign: Sign) -> &'static str
         Sign::Inherited => "priority inherited",
         Sign::PreemptionOff => "preemption off",
         Sign::Taken => "mutex held",
+        Sign::Messages => "messages in a queue",
         Sign::Interrupt => "interrupt",
         Sign::Refused => "refused",
     }

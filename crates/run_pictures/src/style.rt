@@ -25,3 +25,9 @@ pub(crate) const STYLE: &str = "\
 <rect class='e' width='4' height='9'/></pattern>
 <rect class='b' width='100%' height='100%'/>
 ";
+
+/// The colour of the bars of queues, on white and on black. It stands in those pictures alone that
+/// have a row of a queue.
+pub(crate) const QUEUE_STYLE: &str = "\
+<style>.q{fill:#47856c;stroke:#000;stroke-opacity:.4;stroke-width:.5}</style>
+";

@@ -2,7 +2,7 @@
 //! priority.
 ghost use Rattle.std.specs.Prelude.{◌≡◌, ◌++◌, ◌+◌, ◌<◌, ◌≤◌, ◌^◌, OnOk, flat_map, length, string_bytes};
 ghost use Rattle.run_pictures.specs.RowStretches.{row_of};
-ghost use Rattle.run_pictures.specs.TaskBands.{blocked_label, cause_name, inherited_bar, pose_bar, pose_words, reason_text, stance_label, stance_shape, stance_stretch, stance_text, stance_words, task_row};
+ghost use Rattle.run_pictures.specs.TaskBands.{blocked_label, cause_name, direction_text, inherited_bar, pose_bar, pose_words, reason_text, stance_label, stance_shape, stance_stretch, stance_text, stance_words, task_row};
 
 use crate::bar::{Bar, Letters, push_bar, push_label, push_over};
 use crate::frame::Frame;
@@ -16,9 +16,18 @@ use crate::stance::Stance;
 use crate::stretch::Stretch;
 use crate::task_names::push_task_name;
 use crate::task_stretches::TaskStretches;
-use bench_types::{Cause, Header};
+use bench_types::{Cause, Direction, Header};
 use run_views::{Look, Standing, push_standing};
 use std::alloc::{AllocError, Global};
+
+fn direction_text(direction: Direction) -> &'static str
+    ensures { result.now ≡ direction_text direction }
+{
+    match direction {
+        Direction::Send => " to send",
+        Direction::Receive => " to receive",
+    }
+}
 
 fn push_cause(text: &mut String, cause: Cause) -> Result<(), AllocError>
     ensures { OnOk result (string_bytes text.new ≡ string_bytes text.old ++ cause_name cause) }
@@ -27,6 +36,10 @@ fn push_cause(text: &mut String, cause: Cause) -> Result<(), AllocError>
         Cause::Delay => text.push_str("delay"),
         Cause::Notification => text.push_str("notification"),
         Cause::Mutex(mutex) => write!(text, "mutex {mutex}"),
+        Cause::Queue { queue, direction } => {
+            write!(text, "queue {queue}")?;
+            text.push_str(direction_text(direction))
+        }
     }
 }
 

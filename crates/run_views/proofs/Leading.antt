@@ -7,17 +7,18 @@ use Rattle.bench_types.specs.declared.kernel_data.CoreLook.{CoreLook}
 use Rattle.bench_types.specs.declared.note.Notification.{Notification}
 use Rattle.bench_model.specs.SameTest.{are_same_bools, are_same_options, are_same_states, are_same_holds}
 use Rattle.run_views.specs.declared.change.Change.{Change}
-use Rattle.run_views.specs.declared.change.Change.TheVariants.{Tick, Hold, Core, Task, Further, Mutex}
+use Rattle.run_views.specs.declared.change.Change.TheVariants.{Tick, Hold, Core, Task, Further, Mutex, Queue}
 use Rattle.run_views.specs.declared.change.CoreChange.TheVariants.{Current, Pend, Asked}
 use Rattle.run_views.specs.declared.change.MutexChange.TheVariants.{Holder}
 use Rattle.run_views.specs.declared.change.NoteChange.{NoteChange}
 use Rattle.run_views.specs.declared.change.NoteChange.TheVariants.{Value, State}
+use Rattle.run_views.specs.declared.change.QueueChange.TheVariants.{Messages}
 use Rattle.run_views.specs.declared.change.TaskChange.TheVariants.{Stands, InUse, Base, Mask, Preempt, Call, Note}
 use Rattle.run_views.specs.declared.look.Look.{Look}
 use Rattle.run_views.specs.declared.look.TaskStatus.{TaskStatus}
 use Rattle.run_views.specs.Changes.{applied, are_same_causes, are_same_numbers, are_same_standings, changes, changes_each, core_after, core_changes, further_after}
-use Rattle.run_views.specs.Changes.{further_changes, HasSameShape, holder_after, item_changed, look_after, mutex_changes, note_after, note_changes, task_after}
-use Rattle.run_views.specs.Changes.{task_changes, unless}
+use Rattle.run_views.specs.Changes.{further_changes, HasSameShape, holder_after, item_changed, look_after, messages_after, mutex_changes, note_after, note_changes, task_after}
+use Rattle.run_views.specs.Changes.{queue_changes, task_changes, unless}
 use Rattle.run_views.proofs.Tests.{Tells, bools_decided, causes_decided, holds_decided, numbers_decided, standings_decided, states_decided}
 
 -- the changes, made one after another, lead from the one to the other
@@ -90,6 +91,9 @@ note_leads old new =
 holder_leads : (old new : Option ℕ) → Leads holder_after old (mutex_changes old new) new
 holder_leads old new = set are_same_numbers numbers_decided (λ h. h) old new (Holder old new) refl
 
+messages_lead : (old new : ℕ) → Leads messages_after old (queue_changes old new) new
+messages_lead old new = set nat_eq Decides-eqb (λ n. n) old new (Messages old new) refl
+
 item_at : {X : Type 0} (f : X → X) (front : List X) (x : X) (rest : List X) → item_changed (length front) f (front ++ x ∷ rest) ≡ front ++ f x ∷ rest
 item_at f [] x rest = refl
 item_at f (y ∷ front) x rest = ap (λ xs. y ∷ xs) (item_at f front x rest)
@@ -141,7 +145,7 @@ further_lead put puts front (old ∷ olds) (new ∷ news) same =
 pub changes_lead : (before after : Look) → HasSameShape before after → applied (changes before after) before ≡ after
 unfolding changes applied
 changes_lead before after shape =
-    (both (both (both (both (both
+    (both (both (both (both (both (both
     (set nat_eq Decides-eqb (λ n. record before { tick = n }) before.tick after.tick (Tick before.tick after.tick) refl)
     (set (are_same_options are_same_holds) holds_decided (λ h. record one { hold = h }) before.hold after.hold (Hold before.hold after.hold) refl))
     (items_lead Core core_changes core_after core_leads (λ cores. record two { cores = cores }) (λ core change cores. refl) [] before.cores after.cores
@@ -149,8 +153,10 @@ changes_lead before after shape =
     (items_lead Task task_changes task_after task_leads (λ tasks. record three { tasks = tasks }) (λ task change tasks. refl) [] before.tasks after.tasks
     shape.tasks))
     (further_lead (λ further. record four { further = further }) (λ index task change further. refl) [] before.further after.further shape.further))
-    (items_lead Mutex mutex_changes holder_after holder_leads (λ holders. record after { holders = holders }) (λ mutex change holders. refl) [] before.holders
-    after.holders shape.mutexes)).made
+    (items_lead Mutex mutex_changes holder_after holder_leads (λ holders. record five { holders = holders }) (λ mutex change holders. refl) [] before.holders
+    after.holders shape.mutexes))
+    (items_lead Queue queue_changes messages_after messages_lead (λ messages. record after { messages = messages }) (λ queue change messages. refl) []
+    before.messages after.messages shape.queues)).made
   where
     one : Look
     one = record before { tick = after.tick }
@@ -163,3 +169,6 @@ changes_lead before after shape =
 
     four : Look
     four = record three { tasks = after.tasks }
+
+    five : Look
+    five = record four { further = after.further }

@@ -8,18 +8,19 @@ use Rattle.bench_types.specs.declared.kernel_data.CoreLook.{CoreLook}
 use Rattle.bench_types.specs.declared.note.Notification.{Notification}
 use Rattle.bench_model.specs.SameTest.{are_same_bools, are_same_options, are_same_states, are_same_holds}
 use Rattle.run_views.specs.declared.change.Change.{Change}
-use Rattle.run_views.specs.declared.change.Change.TheVariants.{Tick, Hold, Core, Task, Further, Mutex}
+use Rattle.run_views.specs.declared.change.Change.TheVariants.{Tick, Hold, Core, Task, Further, Mutex, Queue}
 use Rattle.run_views.specs.declared.change.CoreChange.{CoreChange}
 use Rattle.run_views.specs.declared.change.CoreChange.TheVariants.{Current, Pend, Asked}
 use Rattle.run_views.specs.declared.change.MutexChange.TheVariants.{Holder}
 use Rattle.run_views.specs.declared.change.NoteChange.{NoteChange}
 use Rattle.run_views.specs.declared.change.NoteChange.TheVariants.{Value, State}
+use Rattle.run_views.specs.declared.change.QueueChange.TheVariants.{Messages}
 use Rattle.run_views.specs.declared.change.TaskChange.{TaskChange}
 use Rattle.run_views.specs.declared.change.TaskChange.TheVariants.{Stands, InUse, Base, Mask, Preempt, Call, Note}
 use Rattle.run_views.specs.declared.look.Look.{Look}
 use Rattle.run_views.specs.declared.look.TaskStatus.{TaskStatus}
-use Rattle.run_views.specs.Changes.{are_same_causes, are_same_numbers, are_same_standings, changes, changes_each, core_changes, further_changes, mutex_changes, note_changes}
-use Rattle.run_views.specs.Changes.{task_changes, TellsOf, TellsOfCore, TellsOfItem, TellsOfMutex, TellsOfNote, TellsOfTask, unless}
+use Rattle.run_views.specs.Changes.{are_same_causes, are_same_numbers, are_same_standings, changes, changes_each, core_changes, further_changes, mutex_changes, note_changes, queue_changes}
+use Rattle.run_views.specs.Changes.{task_changes, TellsOf, TellsOfCore, TellsOfItem, TellsOfMutex, TellsOfNote, TellsOfQueue, TellsOfTask, unless}
 use Rattle.run_views.proofs.Tests.{Tells, bools_decided, causes_decided, holds_decided, numbers_decided, standings_decided, states_decided}
 
 joined : {X : Type 0} (P : X → Type 0) (xs ys : List X) → AllByRecursion P xs → AllByRecursion P ys → AllByRecursion P (xs ++ ys)
@@ -69,6 +70,9 @@ holder_printed : (old new : Option ℕ) → AllByRecursion (λ change. TellsOfMu
 holder_printed old new = one_printed (λ change. TellsOfMutex change old new) are_same_numbers numbers_decided old new (Holder old new)
     (λ differ. (refl, refl, differ))
 
+messages_printed : (old new : ℕ) → AllByRecursion (λ change. TellsOfQueue change old new) (queue_changes old new)
+messages_printed old new = one_printed (λ change. TellsOfQueue change old new) nat_eq Decides-eqb old new (Messages old new) (λ differ. (refl, refl, differ))
+
 module _ {X C : Type 0} (of_item : ℕ → C → Change) (changes_of : X → X → List C) (tells : C → X → X → Type 0)
     (printed : (old new : X) → AllByRecursion (λ change. tells change old new) (changes_of old new)) (P : Change → Type 0) where
   item_printed : (number : ℕ) (some : List C) (old new : X) → ((change : C) → tells change old new → P (of_item number change)) → AllByRecursion
@@ -108,7 +112,7 @@ unfolding changes
 changes_printed before after =
     let P = TellsOf before after in
     All-from_recursion P (changes before after)
-    (joined P _ _ (joined P _ _ (joined P _ _ (joined P _ _ (joined P _ _
+    (joined P _ _ (joined P _ _ (joined P _ _ (joined P _ _ (joined P _ _ (joined P _ _
     (one_printed P nat_eq Decides-eqb before.tick after.tick (Tick before.tick after.tick) (λ differ. (refl, refl, differ)))
     (one_printed P (are_same_options are_same_holds) holds_decided before.hold after.hold (Hold before.hold after.hold) (λ differ. (refl, refl, differ))))
     (items_printed Core core_changes TellsOfCore core_printed P 0 before.cores after.cores
@@ -119,3 +123,5 @@ changes_printed before after =
     (let n : suc k ≡ k + 1 = omega arith in n) (record { old = old; new = new; was = was; is = is; printed = printed }))))
     (items_printed Mutex mutex_changes TellsOfMutex holder_printed P 0 before.holders after.holders
     (λ k old new change was is tells. subst (λ n. P (Mutex n change)) (at_zero k) (record { old = old; new = new; was = was; is = is; printed = tells }))))
+    (items_printed Queue queue_changes TellsOfQueue messages_printed P 0 before.messages after.messages
+    (λ k old new change was is tells. subst (λ n. P (Queue n change)) (at_zero k) (record { old = old; new = new; was = was; is = is; printed = tells }))))

@@ -1,10 +1,11 @@
 -- The tests of what changed tell of any two values whether they are equal.
-use Rattle.std.proofs.Common.{◌≡◌, Bool, true, false, Some, None, refl, ap, sym, true≢false}
+use Rattle.std.proofs.Common.{◌≡◌, Bool, ◌&&◌, true, false, Some, None, refl, ap, sym, true≢false}
 use Rattle.std.specs.Prelude.{Decides, nat_eq}
 use Rattle.std.proofs.lemmas.Bool.Decides.{Decides-eqb, Decides-and, Decides-like}
 use Rattle.bench_types.specs.declared.cause.Cause.TheVariants as cause
+use Rattle.bench_types.specs.declared.step.Direction.TheVariants.{Send, Receive}
 use Rattle.bench_types.specs.declared.note.NoteState.TheVariants.{NotWaiting, Waiting, Received}
-use Rattle.bench_model.specs.SameTest.{are_same_bools, are_same_options, are_same_states, are_same_holds}
+use Rattle.bench_model.specs.SameTest.{are_same_bools, are_same_directions, are_same_options, are_same_states, are_same_holds}
 use Rattle.run_views.specs.declared.look.Standing.TheVariants.{Ready, Blocked}
 use Rattle.run_views.specs.Changes.{are_same_causes, are_same_numbers, are_same_standings}
 
@@ -36,10 +37,20 @@ holds_decided = options_decided are_same_holds (λ a b. Decides-like (are_same_h
     (λ e. (λ i. (e i).core, λ i. (e i).depth))
     (Decides-and _ _ (Decides-eqb a.core b.core) (Decides-eqb a.depth b.depth)))
 
+directions_decided : Tells are_same_directions
+directions_decided Send Send = (λ e. refl, λ e. refl)
+directions_decided Receive Receive = (λ e. refl, λ e. refl)
+directions_decided a b = apart (λ e. cc e)
+
 one_cause : Tells are_same_causes
 one_cause cause.Delay cause.Delay = (λ e. refl, λ e. refl)
 one_cause cause.Notification cause.Notification = (λ e. refl, λ e. refl)
 one_cause (cause.Mutex mutex) (cause.Mutex other) = Decides-like (nat_eq mutex other) (λ e. ap cause.Mutex e) (λ e. cc e) (Decides-eqb mutex other)
+one_cause (cause.Queue queue direction) (cause.Queue other way) =
+    Decides-like (nat_eq queue other && are_same_directions direction way)
+    (λ e i. cause.Queue (e.0 i) (e.1 i))
+    (λ e. (cc e, cc e))
+    (Decides-and _ _ (Decides-eqb queue other) (directions_decided direction way))
 one_cause a b = apart (λ e. cc e)
 
 pub causes_decided : Tells (are_same_options are_same_causes)

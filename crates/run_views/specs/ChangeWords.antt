@@ -13,6 +13,8 @@ use Rattle.run_views.specs.declared.change.MutexChange.{MutexChange}
 use Rattle.run_views.specs.declared.change.MutexChange.TheVariants.{Holder}
 use Rattle.run_views.specs.declared.change.NoteChange.{NoteChange}
 use Rattle.run_views.specs.declared.change.NoteChange.TheVariants.{Value, State}
+use Rattle.run_views.specs.declared.change.QueueChange.{QueueChange}
+use Rattle.run_views.specs.declared.change.QueueChange.TheVariants.{Messages}
 use Rattle.run_views.specs.declared.change.TaskChange.{TaskChange}
 use Rattle.run_views.specs.declared.change.TaskChange.TheVariants.{Stands, InUse, Base, Mask, Preempt, Call, Note}
 use Rattle.run_views.specs.declared.look.Standing.{Standing}
@@ -81,6 +83,9 @@ holder_change header (Some from) (Some to) =
 abbrev pub mutex_change : Header → MutexChange → List ℕ
 mutex_change header (Holder from to) = holder_change header from to
 
+abbrev pub queue_change : QueueChange → List ℕ
+queue_change (Messages from to) = from_to (codes " messages") from to
+
 -- a change, by what it is of
 unfoldable pub change_text : Header → Change → List ℕ
 change_text header (changes.Tick from to) = from_to (codes "tick") from to
@@ -92,3 +97,5 @@ change_text header (changes.Further index task change) =
     name_of header task ++ note_change header index change
 change_text header (changes.Mutex mutex change) =
     codes "mutex " ++ decimal mutex ++ mutex_change header change
+change_text header (changes.Queue queue change) =
+    codes "queue " ++ decimal queue ++ queue_change change

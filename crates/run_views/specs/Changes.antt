@@ -1,19 +1,21 @@
 -- What changed from one look to another, and a look with changes made.
-use Rattle.std.specs.Prelude.{◌≡◌, ◌≢◌, ◌+◌, ◌<◌, ◌^◌, ℕ, zero, suc, All, List, [], ◌∷◌, ◌++◌, length, map, fold, Bool, true, false, ◌==◌, Option, Some}
+use Rattle.std.specs.Prelude.{◌≡◌, ◌≢◌, ◌+◌, ◌<◌, ◌^◌, ℕ, zero, suc, All, List, [], ◌∷◌, ◌++◌, length, map, fold, Bool, true, false, ◌&&◌, ◌==◌, Option, Some}
 use Rattle.std.specs.Prelude.{if◌then◌else◌, slice_get}
 use Rattle.bench_types.specs.declared.cause.Cause.{Cause}
 use Rattle.bench_types.specs.declared.cause.Cause.TheVariants as cause
 use Rattle.bench_types.specs.declared.kernel_data.CoreLook.{CoreLook}
 use Rattle.bench_types.specs.declared.note.Notification.{Notification}
-use Rattle.bench_model.specs.SameTest.{are_same_bools, are_same_options, are_same_holds, are_same_states}
+use Rattle.bench_model.specs.SameTest.{are_same_bools, are_same_directions, are_same_options, are_same_holds, are_same_states}
 use Rattle.run_views.specs.declared.change.Change.{Change}
-use Rattle.run_views.specs.declared.change.Change.TheVariants.{Tick, Hold, Core, Task, Further, Mutex}
+use Rattle.run_views.specs.declared.change.Change.TheVariants.{Tick, Hold, Core, Task, Further, Mutex, Queue}
 use Rattle.run_views.specs.declared.change.CoreChange.{CoreChange}
 use Rattle.run_views.specs.declared.change.CoreChange.TheVariants.{Current, Pend, Asked}
 use Rattle.run_views.specs.declared.change.MutexChange.{MutexChange}
 use Rattle.run_views.specs.declared.change.MutexChange.TheVariants.{Holder}
 use Rattle.run_views.specs.declared.change.NoteChange.{NoteChange}
 use Rattle.run_views.specs.declared.change.NoteChange.TheVariants.{Value, State}
+use Rattle.run_views.specs.declared.change.QueueChange.{QueueChange}
+use Rattle.run_views.specs.declared.change.QueueChange.TheVariants.{Messages}
 use Rattle.run_views.specs.declared.change.TaskChange.{TaskChange}
 use Rattle.run_views.specs.declared.change.TaskChange.TheVariants.{Stands, InUse, Base, Mask, Preempt, Call, Note}
 use Rattle.run_views.specs.declared.look.Look.{Look}
@@ -33,6 +35,8 @@ abbrev pub are_same_causes : Cause → Cause → Bool
 are_same_causes cause.Delay cause.Delay = true
 are_same_causes cause.Notification cause.Notification = true
 are_same_causes (cause.Mutex mutex) (cause.Mutex other) = mutex == other
+are_same_causes (cause.Queue queue direction) (cause.Queue other way) =
+    queue == other && are_same_directions direction way
 are_same_causes a b = false
 
 -- ---- what changed
@@ -74,6 +78,9 @@ note_changes old new =
 abbrev pub mutex_changes : Option ℕ → Option ℕ → List MutexChange
 mutex_changes old new = unless (are_same_numbers old new) (Holder old new)
 
+abbrev pub queue_changes : ℕ → ℕ → List QueueChange
+queue_changes old new = unless (old == new) (Messages old new)
+
 -- the changes of items, each with the number of its item; the first item has this number
 abbrev pub changes_each :
     {X C : Type 0} → (ℕ → C → Change) → (X → X → List C) → ℕ → List X → List X → List Change
@@ -88,8 +95,8 @@ further_changes index (old ∷ olds) (new ∷ news) =
     changes_each (Further index) note_changes 0 old new ++ further_changes (suc index) olds news
 further_changes index olds news = []
 
--- the tick count, the hold, the cores, the tasks, their notifications of further indices and the
--- mutexes
+-- the tick count, the hold, the cores, the tasks, their notifications of further indices, the
+-- mutexes and the queues
 unfoldable pub changes : Look → Look → List Change
 changes before after =
     unless (before.tick == after.tick) (Tick before.tick after.tick)
@@ -99,6 +106,7 @@ changes before after =
     ++ changes_each Task task_changes 0 before.tasks after.tasks
     ++ further_changes 1 before.further after.further
     ++ changes_each Mutex mutex_changes 0 before.holders after.holders
+    ++ changes_each Queue queue_changes 0 before.messages after.messages
 
 -- ---- what changes lead to
 
@@ -124,6 +132,9 @@ note_after (State from to) note = record note { state = to }
 abbrev pub holder_after : MutexChange → Option ℕ → Option ℕ
 holder_after (Holder from to) holder = to
 
+abbrev pub messages_after : QueueChange → ℕ → ℕ
+messages_after (Messages from to) messages = to
+
 -- the list, whose item of the number is what the function makes of it
 abbrev pub item_changed : {X : Type 0} → ℕ → (X → X) → List X → List X
 item_changed number f [] = []
@@ -148,17 +159,20 @@ look_after (Further index task change) look =
     record look { further = further_after index task change look.further }
 look_after (Mutex mutex change) look =
     record look { holders = item_changed mutex (holder_after change) look.holders }
+look_after (Queue queue change) look =
+    record look { messages = item_changed queue (messages_after change) look.messages }
 
 -- the look after the changes, made one after another
 unfoldable pub applied : List Change → Look → Look
 applied changes look = fold (λ look change. look_after change look) look changes
 
--- as many cores, tasks, notifications of each further index and mutexes
+-- as many cores, tasks, notifications of each further index, mutexes and queues
 pub record HasSameShape (one other : Look) : Type 0 where
   pub cores : length one.cores ≡ length other.cores
   pub tasks : length one.tasks ≡ length other.tasks
   pub further : map length one.further ≡ map length other.further
   pub mutexes : length one.holders ≡ length other.holders
+  pub queues : length one.messages ≡ length other.messages
 
 -- ---- what a change says of both looks
 
@@ -188,6 +202,9 @@ TellsOfNote (State from to) old new = Differs old.state new.state from to
 abbrev pub TellsOfMutex : MutexChange → Option ℕ → Option ℕ → Type 0
 TellsOfMutex (Holder from to) old new = Differs old new from to
 
+abbrev pub TellsOfQueue : QueueChange → ℕ → ℕ → Type 0
+TellsOfQueue (Messages from to) old new = Differs old new from to
+
 -- the change tells of the two items of the number
 pub record TellsOfItem {X : Type 0} (tells : X → X → Type 0) (number : ℕ)
     (olds news : List X) : Type 0 where
@@ -216,6 +233,8 @@ TellsOf before after (Further index task change) =
     TellsOfFurther index task change before.further after.further
 TellsOf before after (Mutex mutex change) =
     TellsOfItem (TellsOfMutex change) mutex before.holders after.holders
+TellsOf before after (Queue queue change) =
+    TellsOfItem (TellsOfQueue change) queue before.messages after.messages
 
 -- the items can be numbered by 32 bits
 pub record IsNumbered (look : Look) : Type 0 where
@@ -224,3 +243,4 @@ pub record IsNumbered (look : Look) : Type 0 where
   pub further : length look.further + 1 < 2 ^ 32
   pub notes : All (λ notes. length notes < 2 ^ 32) look.further
   pub mutexes : length look.holders < 2 ^ 32
+  pub queues : length look.messages < 2 ^ 32

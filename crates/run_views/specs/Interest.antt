@@ -51,6 +51,7 @@ step_concerns interest (steps.Call core task call) =
     || some_task_concerns interest (call_task call)
 step_concerns interest (steps.Interrupt core note) =
     names_core interest core || names_task interest note.task
+step_concerns interest (steps.QueueInterrupt core queue direction) = names_core interest core
 
 abbrev pub hold_concerns : Interest → Option Hold → Bool
 hold_concerns interest None = false
@@ -74,6 +75,7 @@ change_concerns interest (changes.Core core change) =
 change_concerns interest (changes.Task task change) = names_task interest task
 change_concerns interest (changes.Further index task change) = names_task interest task
 change_concerns interest (changes.Mutex mutex change) = holder_concerns interest change
+change_concerns interest (changes.Queue queue change) = false
 
 -- whether a step that made these changes is told; all are where nobody is named
 abbrev pub tells : Interest → Step → List Change → Bool

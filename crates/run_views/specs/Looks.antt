@@ -5,9 +5,11 @@ use Rattle.bench_types.specs.declared.kernel_data.Settings.{Settings}
 use Rattle.bench_types.specs.declared.kernel_data.TaskLook.{TaskLook}
 use Rattle.bench_types.specs.declared.note.Notification.{Notification}
 use Rattle.bench_types.specs.Cause.{cause_of}
+use Rattle.bench_types.specs.Step.{queue_total}
 use Rattle.list_orders.specs.Search.{numbers}
 use Rattle.bench_model.specs.Control.{core_at}
 use Rattle.bench_model.specs.Looks.{note_look, task_look}
+use Rattle.bench_model.specs.Queues.{queue_at}
 use Rattle.bench_model.specs.State.{call_at, holder_at}
 use Rattle.bench_model.specs.Table.{Table, tick_count}
 use Rattle.run_views.specs.declared.look.Look.{Look}
@@ -50,6 +52,10 @@ notes_of table index =
 abbrev pub further_of : Table → List (List Notification)
 further_of table = map (λ k. notes_of table (k + 1)) (numbers (table.settings.notes - 1))
 
+-- how many messages a queue has
+abbrev pub messages_in : Table → ℕ → ℕ
+messages_in table queue = (queue_at table.queues queue).messages
+
 -- what can be seen of a table
 unfoldable pub look_of : Table → Look
 look_of table = record {
@@ -59,12 +65,14 @@ look_of table = record {
   tasks = map (status_of table) (numbers table.settings.tasks);
   further = further_of table;
   holders = map (holder_at table.holders) (numbers table.settings.mutexes);
+  messages = map (messages_in table) (numbers (queue_total table.settings));
 }
 
--- as many cores, tasks, notifications of further indices and mutexes as the settings say
+-- as many cores, tasks, notifications of further indices, mutexes and queues as the settings say
 pub record HasShape (settings : Settings) (look : Look) : Type 0 where
   pub cores : length look.cores ≡ settings.cores
   pub tasks : length look.tasks ≡ settings.tasks
   pub further : length look.further ≡ settings.notes - 1
   pub notes : All (λ notes. length notes ≡ settings.tasks) look.further
   pub mutexes : length look.holders ≡ settings.mutexes
+  pub queues : length look.messages ≡ queue_total settings

@@ -1,12 +1,13 @@
 -- A reply in words: as the output of a replay writes it, and what it means.
-use Rattle.std.specs.Prelude.{ℕ, List, [], ◌++◌, codes, decimal, Bool, if◌then◌else◌}
+use Rattle.std.specs.Prelude.{ℕ, List, [], ◌++◌, codes, decimal, is_some, Bool, if◌then◌else◌}
 use Rattle.bench_types.specs.declared.header.Header.{Header}
 use Rattle.bench_types.specs.declared.reply.Refusal.{Refusal}
 use Rattle.bench_types.specs.declared.reply.Refusal.TheVariants.{Held, Displaced, SwitchDue, InCall, NotInCall, HoldBlock, NoHold, HoldDeep, NotHolder, NotDue}
 use Rattle.bench_types.specs.declared.reply.Reply.{Reply}
 use Rattle.bench_types.specs.declared.reply.Reply.TheVariants.{Done, Blocked, Flag, Value, Waited, Until, Isr, Refused}
 use Rattle.bench_types.specs.declared.step.Call.{Call}
-use Rattle.bench_types.specs.declared.step.Call.TheVariants.{Notify, StateClear, MutexTake, MutexGive, Finish}
+use Rattle.bench_types.specs.declared.step.Call.TheVariants.{Notify, StateClear, MutexTake, MutexGive, QueueSend, QueueReceive, Finish}
+use Rattle.bench_types.specs.declared.step.Direction.TheVariants.{Send, Receive}
 use Rattle.bench_types.specs.declared.step.Step.{Step}
 use Rattle.bench_types.specs.declared.step.Step.TheVariants as steps
 use Rattle.run_views.specs.declared.reply_words.Subject.{Subject}
@@ -60,23 +61,34 @@ refusal_meaning header core caller why =
 abbrev pub flag_text : Bool → List ℕ
 flag_text flag = if flag then codes "true" else codes "false"
 
--- what a call's yes or no means
-abbrev pub flag_meaning : Call → Bool → List ℕ
-flag_meaning (Notify note) flag =
-    if flag then codes "the notification passed" else codes "the notification did not pass"
-flag_meaning (StateClear task index) flag =
-    if flag then codes "a notification had come" else codes "no notification had come"
-flag_meaning (MutexTake mutex ticks) flag =
-    if flag then codes "the mutex was taken" else codes "the mutex was not taken"
-flag_meaning (MutexGive mutex) flag =
-    if flag then codes "the mutex was given" else codes "nobody held the mutex"
-flag_meaning Finish flag =
-    if flag then codes "the mutex was taken" else codes "the mutex was not taken in time"
-flag_meaning call flag = if flag then codes "yes" else codes "no"
+-- what a yes or no of a call that was finished means: of a mutex, where there is nothing else to
+-- wait for
+abbrev pub finish_meaning : Header → Bool → List ℕ
+finish_meaning header flag =
+    if is_some header.queues
+    then (if flag then codes "the call succeeded" else codes "the call timed out")
+    else (if flag then codes "the mutex was taken" else codes "the mutex was not taken in time")
 
-abbrev pub step_flag_meaning : Step → Bool → List ℕ
-step_flag_meaning (steps.Call core task call) flag = flag_meaning call flag
-step_flag_meaning step flag = if flag then codes "yes" else codes "no"
+-- what a call's yes or no means
+abbrev pub flag_meaning : Header → Call → Bool → List ℕ
+flag_meaning header (Notify note) flag =
+    if flag then codes "the notification passed" else codes "the notification did not pass"
+flag_meaning header (StateClear task index) flag =
+    if flag then codes "a notification had come" else codes "no notification had come"
+flag_meaning header (MutexTake mutex ticks) flag =
+    if flag then codes "the mutex was taken" else codes "the mutex was not taken"
+flag_meaning header (MutexGive mutex) flag =
+    if flag then codes "the mutex was given" else codes "nobody held the mutex"
+flag_meaning header (QueueSend queue ticks) flag =
+    if flag then codes "the message was sent" else codes "the queue is full"
+flag_meaning header (QueueReceive queue ticks) flag =
+    if flag then codes "a message was received" else codes "the queue is empty"
+flag_meaning header Finish flag = finish_meaning header flag
+flag_meaning header call flag = if flag then codes "yes" else codes "no"
+
+abbrev pub step_flag_meaning : Header → Step → Bool → List ℕ
+step_flag_meaning header (steps.Call core task call) flag = flag_meaning header call flag
+step_flag_meaning header step flag = if flag then codes "yes" else codes "no"
 
 abbrev pub waited_meaning : Bool → List ℕ
 waited_meaning ok =
@@ -87,8 +99,12 @@ until_meaning delayed =
     if delayed then codes ": the task waits until that tick count"
     else codes ": that tick count is not ahead"
 
-abbrev pub pass_meaning : Bool → List ℕ
-pass_meaning pass =
+abbrev pub pass_meaning : Step → Bool → List ℕ
+pass_meaning (steps.QueueInterrupt core queue Send) pass =
+    if pass then codes ": the message was sent" else codes ": the queue is full"
+pass_meaning (steps.QueueInterrupt core queue Receive) pass =
+    if pass then codes ": a message was received" else codes ": the queue is empty"
+pass_meaning step pass =
     if pass then codes ": the notification passed" else codes ": the notification did not pass"
 
 abbrev pub pend_meaning : Bool → List ℕ
@@ -98,7 +114,7 @@ pend_meaning pend = if pend then codes ", and the core has to switch" else []
 unfoldable pub reply_words : Header → Step → Reply → List ℕ
 reply_words header step Done = codes "done: the step was made"
 reply_words header step Blocked = codes "blocked: the call was made, and its task waits"
-reply_words header step (Flag flag) = flag_text flag ++ codes ": " ++ step_flag_meaning step flag
+reply_words header step (Flag flag) = flag_text flag ++ codes ": " ++ step_flag_meaning header step flag
 reply_words header step (Value value) =
     codes "value " ++ decimal value ++ codes ": the notification value before the call"
 reply_words header step (Waited ok value) =
@@ -106,7 +122,7 @@ reply_words header step (Waited ok value) =
 reply_words header step (Until delayed wake) =
     codes "until " ++ flag_text delayed ++ codes " " ++ decimal wake ++ until_meaning delayed
 reply_words header step (Isr pass pend) =
-    codes "isr " ++ flag_text pass ++ codes " " ++ flag_text pend ++ pass_meaning pass
+    codes "isr " ++ flag_text pass ++ codes " " ++ flag_text pend ++ pass_meaning step pass
     ++ pend_meaning pend
 reply_words header step (Refused why) =
     codes "refused " ++ refusal_code why ++ codes ": "

@@ -6,7 +6,10 @@ use Rattle.bench_types.specs.declared.note.NotifyAction.TheVariants.{Nothing, Se
 use Rattle.bench_types.specs.declared.note.Note.{Note}
 use Rattle.bench_types.specs.declared.step.Call.{Call}
 use Rattle.bench_types.specs.declared.step.Call.TheVariants.{Yield, Delay, DelayUntil, PrioritySet, AffinitySet, PreemptOff, PreemptOn, Notify, NotifyWait}
-use Rattle.bench_types.specs.declared.step.Call.TheVariants.{NotifyTake, StateClear, ValueClear, MutexTake, MutexGive, Finish, HoldOpen, HoldClose}
+use Rattle.bench_types.specs.declared.step.Call.TheVariants.{NotifyTake, StateClear, ValueClear, MutexTake, MutexGive, QueueSend, QueueReceive}
+use Rattle.bench_types.specs.declared.step.Call.TheVariants.{Finish, HoldOpen, HoldClose}
+use Rattle.bench_types.specs.declared.step.Direction.{Direction}
+use Rattle.bench_types.specs.declared.step.Direction.TheVariants.{Send, Receive}
 use Rattle.bench_types.specs.declared.step.Step.{Step}
 use Rattle.bench_types.specs.declared.step.Step.TheVariants as steps
 use Rattle.bench_types.specs.Header.{name_of}
@@ -56,6 +59,8 @@ call_word (StateClear task index) = codes "state_clear"
 call_word (ValueClear task bits index) = codes "value_clear"
 call_word (MutexTake mutex ticks) = codes "mutex_take"
 call_word (MutexGive mutex) = codes "mutex_give"
+call_word (QueueSend queue ticks) = codes "queue_send"
+call_word (QueueReceive queue ticks) = codes "queue_receive"
 call_word Finish = codes "finish"
 call_word HoldOpen = codes "hold_open"
 call_word HoldClose = codes "hold_close"
@@ -84,12 +89,21 @@ call_members header (ValueClear task bits index) =
 call_members header (MutexTake mutex ticks) =
     number_text (codes "mutex") mutex ++ number_text (codes "ticks") ticks
 call_members header (MutexGive mutex) = number_text (codes "mutex") mutex
+call_members header (QueueSend queue ticks) =
+    number_text (codes "queue") queue ++ number_text (codes "ticks") ticks
+call_members header (QueueReceive queue ticks) =
+    number_text (codes "queue") queue ++ number_text (codes "ticks") ticks
 call_members header Finish = []
 call_members header HoldOpen = []
 call_members header HoldClose = []
 
 abbrev pub core_text : ℕ → List ℕ
 core_text core = number_text (codes "core") core
+
+-- the word of an interrupt that sends or receives
+abbrev pub interrupt_word : Direction → List ℕ
+interrupt_word Send = codes "isr_send"
+interrupt_word Receive = codes "isr_receive"
 
 -- a step
 unfoldable pub step_text : Header → Step → List ℕ
@@ -100,3 +114,5 @@ step_text header (steps.Call core task call) =
     ++ call_members header call
 step_text header (steps.Interrupt core note) =
     codes "isr_notify" ++ core_text core ++ note_text header note
+step_text header (steps.QueueInterrupt core queue direction) =
+    interrupt_word direction ++ core_text core ++ number_text (codes "queue") queue

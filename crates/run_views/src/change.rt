@@ -1,7 +1,7 @@
 //! What a step changed.
 ghost use Rattle.std.specs.Prelude.{◌≡◌, ◌==◌, ◌+◌, ◌++◌, ◌<◌, ◌^◌, All, IfOk, OnOk, length, map};
 ghost use Rattle.bench_model.specs.SameTest.{are_same_options, are_same_holds};
-ghost use Rattle.run_views.specs.Changes.{applied, changes, changes_each, core_changes, further_changes, mutex_changes, note_changes, schedule_changes, call_changes, task_changes, unless, HasSameShape, IsNumbered, TellsOf};
+ghost use Rattle.run_views.specs.Changes.{applied, changes, changes_each, core_changes, further_changes, mutex_changes, note_changes, queue_changes, schedule_changes, call_changes, task_changes, unless, HasSameShape, IsNumbered, TellsOf};
 
 use crate::same::{
     is_same_cause, is_same_flag, is_same_hold, is_same_number, is_same_standing, is_same_state,
@@ -40,6 +40,10 @@ pub enum Change {
     Mutex {
         mutex: u32,
         change: MutexChange,
+    },
+    Queue {
+        queue: u32,
+        change: QueueChange,
     },
 }
 
@@ -104,10 +108,17 @@ pub enum MutexChange {
     Holder { from: Option<u32>, to: Option<u32> },
 }
 
+/// What changed of a queue.
+#[derive(Clone, Copy, Debug, PartialEq, Eq)]
+pub enum QueueChange {
+    /// How many messages it has.
+    Messages { from: u32, to: u32 },
+}
+
 impl Look {
     /// What changed from this look to the later one: all of it, and nothing else. It is in the
     /// order of the fields: the tick count, the hold, then core by core, task by task, each further
-    /// index of the notifications task by task, and mutex by mutex.
+    /// index of the notifications task by task, mutex by mutex, and queue by queue.
     pub fn changes_to(&self, alloc: Global, after: &Look) -> Result<Vec<Change>, AllocError>
         requires { IsNumbered self.now }
         ensures changes { IfOk result (λ found. found.items ≡ changes self.now after.now) }
@@ -150,6 +161,11 @@ fn found_changes(alloc: Global, before: &Look, after: &Look) -> Result<Vec<Chang
         &mut changes,
         before.holders.as_slice(),
         after.holders.as_slice(),
+    )?;
+    push_queues(
+        &mut changes,
+        before.messages.as_slice(),
+        after.messages.as_slice(),
     )?;
     Ok(changes)
 }
@@ -388,6 +404,16 @@ fn push_mutex(
     )
 }
 
+// The changes of one queue.
+fn push_queue(changes: &mut Vec<Change>, queue: u32, old: u32, new: u32) -> Result<(), AllocError>
+    ensures { OnOk result
+        (changes.new.items
+        ≡ changes.old.items ++ map (Change.Queue queue) (queue_changes old new)) }
+{
+    let change = QueueChange::Messages { from: old, to: new };
+    push_unless(changes, old == new, Change::Queue { queue, change })
+}
+
 fn push_cores(
     changes: &mut Vec<Change>,
     olds: &[CoreLook],
@@ -478,6 +504,20 @@ fn push_mutexes(
     for (mutex, old) in olds.iter().enumerate() {
         if mutex < news.len() {
             push_mutex(changes, mutex as u32, *old, news[mutex])?;
+        }
+    }
+    Ok(())
+}
+
+fn push_queues(changes: &mut Vec<Change>, olds: &[u32], news: &[u32]) -> Result<(), AllocError>
+    requires { length olds.now < 2 ^ 32 }
+    ensures { OnOk result
+        (changes.new.items
+        ≡ changes.old.items ++ changes_each Change.Queue queue_changes 0 olds.now news.now) }
+{
+    for (queue, old) in olds.iter().enumerate() {
+        if queue < news.len() {
+            push_queue(changes, queue as u32, *old, news[queue])?;
         }
     }
     Ok(())

@@ -1,9 +1,9 @@
 //! A change in words.
 ghost use Rattle.std.specs.Prelude.{◌≡◌, ◌++◌, OnOk, codes, string_bytes};
-ghost use Rattle.run_views.specs.ChangeWords.{change_text, core_change, from_to, hold_change, hold_text, holder_change, mutex_change, note_change, set_text, standing_text, state_text, task_change};
+ghost use Rattle.run_views.specs.ChangeWords.{change_text, core_change, from_to, hold_change, hold_text, holder_change, mutex_change, note_change, queue_change, set_text, standing_text, state_text, task_change};
 
 use crate::step_words::push_index;
-use crate::{Change, CoreChange, MutexChange, NoteChange, Standing, TaskChange};
+use crate::{Change, CoreChange, MutexChange, NoteChange, QueueChange, Standing, TaskChange};
 use bench_types::{Header, Hold, NoteState};
 use std::alloc::AllocError;
 
@@ -214,6 +214,13 @@ pub(crate) fn push_change(
         } => {
             write!(text, "mutex {mutex}")?;
             push_holder_change(text, header, from, to)
+        }
+        Change::Queue {
+            queue,
+            change: QueueChange::Messages { from, to },
+        } => {
+            write!(text, "queue {queue}")?;
+            push_from_to(text, " messages", from, to)
         }
     }
 }

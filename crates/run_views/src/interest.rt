@@ -75,6 +75,7 @@ impl Interest {
                     || self.concerns_task(call_task(call))
             }
             Step::Interrupt { core, note } => self.names_core(core) || self.names_task(note.task),
+            Step::QueueInterrupt { core, .. } => self.names_core(core),
         }
     }
 
@@ -107,7 +108,7 @@ impl Interest {
         ensures { result ≡ change_concerns self.now change }
     {
         match change {
-            Change::Tick { .. } => false,
+            Change::Tick { .. } | Change::Queue { .. } => false,
             Change::Hold { from, to } => self.concerns_hold(from) || self.concerns_hold(to),
             Change::Core { core, change } => {
                 self.names_core(core) || self.concerns_core_change(change)

@@ -15,7 +15,7 @@ mod step_words;
 mod trace_lines;
 mod watch;
 
-pub use change::{Change, CoreChange, MutexChange, NoteChange, TaskChange};
+pub use change::{Change, CoreChange, MutexChange, NoteChange, QueueChange, TaskChange};
 pub use change_words::{push_hold, push_standing};
 pub use interest::Interest;
 pub use look::{Look, Standing, TaskStatus};

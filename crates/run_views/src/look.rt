@@ -1,5 +1,6 @@
 //! What can be seen of a kernel.
 ghost use Rattle.std.specs.Prelude.{◌≡◌, ◌+◌, ◌-◌, ◌<◌, ◌^◌, All, IfOk, length, map};
+ghost use Rattle.bench_types.specs.Step.{queue_total};
 ghost use Rattle.list_orders.specs.Search.{numbers};
 ghost use Rattle.bench_model.specs.Control.{core_at};
 ghost use Rattle.bench_model.specs.Equal.{StandsFor};
@@ -7,7 +8,7 @@ ghost use Rattle.bench_model.specs.Looks.{note_look};
 ghost use Rattle.bench_model.specs.State.{holder_at};
 ghost use Rattle.bench_model.specs.Table.{Table, tick_count};
 ghost use Rattle.run_views.specs.Changes.{IsNumbered};
-ghost use Rattle.run_views.specs.Looks.{cause_in, further_of, look_of, notes_of, standing_in, status_in, status_of, HasShape};
+ghost use Rattle.run_views.specs.Looks.{cause_in, further_of, look_of, notes_of, standing_in, status_in, status_of, messages_in, HasShape};
 
 use bench_types::{Cause, CoreLook, Hold, Items, NoteState, Notification, TaskLook};
 use smp_kernel::Kernel;
@@ -61,6 +62,8 @@ pub struct Look {
     pub further: Items<Items<Notification>>,
     /// Per mutex the task that holds it, if there is one.
     pub holders: Items<Option<u32>>,
+    /// Per queue how many messages it has.
+    pub messages: Items<u32>,
 }
 
 impl Look {
@@ -79,6 +82,7 @@ impl Look {
             tasks: Items::new(statuses_of(alloc, kernel)?),
             further: Items::new(further_of(alloc, kernel)?),
             holders: Items::new(holders_of(alloc, kernel)?),
+            messages: Items::new(messages_of(alloc, kernel)?),
         })
     }
 }
@@ -229,4 +233,21 @@ fn holders_of(alloc: Global, kernel: &Kernel) -> Result<Vec<Option<u32>>, AllocE
         holders.push(kernel.holder(mutex))?;
     }
     Ok(holders)
+}
+
+fn messages_of(alloc: Global, kernel: &Kernel) -> Result<Vec<u32>, AllocError>
+    ensures messages { IfOk result
+        (λ messages. (table : Table) → StandsFor kernel.now table
+        → messages.items
+        ≡ map (messages_in table) (numbers (queue_total kernel.now.settings))) }
+    ensures count { IfOk result
+        (λ messages. length messages.items ≡ queue_total kernel.now.settings) }
+    ensures few { IfOk result (λ messages. length messages.items < 2 ^ 32) }
+{
+    let count = kernel.settings().queues.unwrap_or(0);
+    let mut messages = Vec::with_capacity(alloc, count as usize)?;
+    for queue in 0..count {
+        messages.push(kernel.queue(queue).messages)?;
+    }
+    Ok(messages)
 }

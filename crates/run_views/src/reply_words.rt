@@ -1,8 +1,8 @@
 //! A reply in words: as the output of a replay writes it, and what it means.
 ghost use Rattle.std.specs.Prelude.{◌≡◌, ◌++◌, OnOk, string_bytes, true, false};
-ghost use Rattle.run_views.specs.ReplyWords.{caller_of, flag_meaning, pass_meaning, pend_meaning, predicate, refusal_meaning, reply_words, step_flag_meaning, subject_of, subject_text, until_meaning, waited_meaning};
+ghost use Rattle.run_views.specs.ReplyWords.{caller_of, finish_meaning, flag_meaning, pass_meaning, pend_meaning, predicate, refusal_meaning, reply_words, step_flag_meaning, subject_of, subject_text, until_meaning, waited_meaning};
 
-use bench_types::{Call, Header, Refusal, Reply, Step};
+use bench_types::{Call, Direction, Header, Refusal, Reply, Step};
 use std::alloc::AllocError;
 
 fn caller_of(step: Step) -> u32
@@ -10,7 +10,8 @@ fn caller_of(step: Step) -> u32
 {
     match step {
         Step::Call { task, .. } => task,
-        Step::Tick | Step::Switch { .. } | Step::Interrupt { .. } => 0,
+        Step::Tick | Step::Switch { .. } | Step::Interrupt { .. } | Step::QueueInterrupt { .. } =>
+            0,
     }
 }
 
@@ -97,8 +98,24 @@ fn either(flag: bool, yes: &'static str, no: &'static str) -> &'static str
     if flag { yes } else { no }
 }
 
-fn flag_meaning(call: Call, flag: bool) -> &'static str
-    ensures { result.now ≡ flag_meaning call flag }
+// What a yes or no of a call that was finished means: of a mutex, where there is nothing else to
+// wait for.
+fn finish_meaning(header: &Header, flag: bool) -> &'static str
+    ensures { result.now ≡ finish_meaning header.now flag }
+{
+    if header.queues.is_some() {
+        either(flag, "the call succeeded", "the call timed out")
+    } else {
+        either(
+            flag,
+            "the mutex was taken",
+            "the mutex was not taken in time",
+        )
+    }
+}
+
+fn flag_meaning(header: &Header, call: Call, flag: bool) -> &'static str
+    ensures { result.now ≡ flag_meaning header.now call flag }
 {
     match call {
         Call::Notify(_) => either(
@@ -113,21 +130,22 @@ fn flag_meaning(call: Call, flag: bool) -> &'static str
         ),
         Call::MutexTake { .. } => either(flag, "the mutex was taken", "the mutex was not taken"),
         Call::MutexGive(_) => either(flag, "the mutex was given", "nobody held the mutex"),
-        Call::Finish => either(
-            flag,
-            "the mutex was taken",
-            "the mutex was not taken in time",
-        ),
+        Call::QueueSend { .. } => either(flag, "the message was sent", "the queue is full"),
+        Call::QueueReceive { .. } => {
+            either(flag, "a message was received", "the queue is empty")
+        }
+        Call::Finish => finish_meaning(header, flag),
         _ => either(flag, "yes", "no"),
     }
 }
 
-fn step_flag_meaning(step: Step, flag: bool) -> &'static str
-    ensures { result.now ≡ step_flag_meaning step flag }
+fn step_flag_meaning(header: &Header, step: Step, flag: bool) -> &'static str
+    ensures { result.now ≡ step_flag_meaning header.now step flag }
 {
     match step {
-        Step::Call { call, .. } => flag_meaning(call, flag),
-        Step::Tick | Step::Switch { .. } | Step::Interrupt { .. } => either(flag, "yes", "no"),
+        Step::Call { call, .. } => flag_meaning(header, call, flag),
+        Step::Tick | Step::Switch { .. } | Step::Interrupt { .. } | Step::QueueInterrupt { .. } =>
+            either(flag, "yes", "no"),
     }
 }
 
@@ -151,14 +169,24 @@ fn until_meaning(delayed: bool) -> &'static str
     )
 }
 
-fn pass_meaning(pass: bool) -> &'static str
-    ensures { result.now ≡ pass_meaning pass }
+fn pass_meaning(step: Step, pass: bool) -> &'static str
+    ensures { result.now ≡ pass_meaning step pass }
 {
-    either(
-        pass,
-        ": the notification passed",
-        ": the notification did not pass",
-    )
+    match step {
+        Step::QueueInterrupt {
+            direction: Direction::Send,
+            ..
+        } => either(pass, ": the message was sent", ": the queue is full"),
+        Step::QueueInterrupt {
+            direction: Direction::Receive,
+            ..
+        } => either(pass, ": a message was received", ": the queue is empty"),
+        _ => either(
+            pass,
+            ": the notification passed",
+            ": the notification did not pass",
+        ),
+    }
 }
 
 fn pend_meaning(pend: bool) -> &'static str
@@ -183,7 +211,7 @@ pub fn push_reply(
         Reply::Blocked => text.push_str("blocked: the call was made, and its task waits"),
         Reply::Flag(flag) => {
             write!(text, "{flag}: ")?;
-            text.push_str(step_flag_meaning(step, flag))
+            text.push_str(step_flag_meaning(header, step, flag))
         }
         Reply::Value(value) => {
             write!(
@@ -201,7 +229,7 @@ pub fn push_reply(
         }
         Reply::Isr { pass, pend } => {
             write!(text, "isr {pass} {pend}")?;
-            text.push_str(pass_meaning(pass))?;
+            text.push_str(pass_meaning(step, pass))?;
             text.push_str(pend_meaning(pend))
         }
         Reply::Refused(why) => {

@@ -1,10 +1,10 @@
 //! Whether two values are the same.
 ghost use Rattle.std.specs.Prelude.{◌≡◌};
-ghost use Rattle.bench_model.specs.SameTest.{are_same_bools, are_same_options, are_same_holds, are_same_states};
+ghost use Rattle.bench_model.specs.SameTest.{are_same_bools, are_same_directions, are_same_options, are_same_holds, are_same_states};
 ghost use Rattle.run_views.specs.Changes.{are_same_causes, are_same_numbers, are_same_standings};
 
 use crate::Standing;
-use bench_types::{Cause, Hold, NoteState};
+use bench_types::{Cause, Direction, Hold, NoteState};
 
 pub(crate) fn is_same_flag(flag: bool, other: bool) -> bool
     ensures { result ≡ are_same_bools flag other }
@@ -22,6 +22,12 @@ pub(crate) fn is_same_number(number: Option<u32>, other: Option<u32>) -> bool
     }
 }
 
+fn is_same_direction(direction: Direction, other: Direction) -> bool
+    ensures { result ≡ are_same_directions direction other }
+{
+    direction == other
+}
+
 /// Whether the two are the same cause of a wait, or none.
 pub fn is_same_cause(cause: Option<Cause>, other: Option<Cause>) -> bool
     ensures { result ≡ are_same_options are_same_causes cause other }
@@ -31,6 +37,15 @@ pub fn is_same_cause(cause: Option<Cause>, other: Option<Cause>) -> bool
         | (Some(Cause::Delay), Some(Cause::Delay))
         | (Some(Cause::Notification), Some(Cause::Notification)) => true,
         (Some(Cause::Mutex(mutex)), Some(Cause::Mutex(other))) => mutex == other,
+        (
+            Some(Cause::Queue { queue, direction }),
+            Some(
+                Cause::Queue {
+                    queue: other,
+                    direction: way,
+                },
+            ),
+        ) => queue == other && is_same_direction(direction, way),
         _ => false,
     }
 }

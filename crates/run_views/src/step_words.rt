@@ -1,8 +1,8 @@
 //! A step in the words of a document.
 ghost use Rattle.std.specs.Prelude.{◌≡◌, ◌++◌, OnOk, codes, string_bytes};
-ghost use Rattle.run_views.specs.StepWords.{action_text, call_members, call_word, clear_text, core_text, index_text, note_text, number_text, step_text, task_text, to_text};
+ghost use Rattle.run_views.specs.StepWords.{action_text, call_members, call_word, clear_text, core_text, index_text, interrupt_word, note_text, number_text, step_text, task_text, to_text};
 
-use bench_types::{Call, Header, Note, NotifyAction, Step};
+use bench_types::{Call, Direction, Header, Note, NotifyAction, Step};
 use std::alloc::AllocError;
 
 fn push_number(text: &mut String, member: &str, n: u32) -> Result<(), AllocError>
@@ -84,6 +84,8 @@ fn call_word(call: Call) -> &'static str
         Call::ValueClear { .. } => "value_clear",
         Call::MutexTake { .. } => "mutex_take",
         Call::MutexGive(_) => "mutex_give",
+        Call::QueueSend { .. } => "queue_send",
+        Call::QueueReceive { .. } => "queue_receive",
         Call::Finish => "finish",
         Call::HoldOpen => "hold_open",
         Call::HoldClose => "hold_close",
@@ -137,6 +139,18 @@ fn push_members(text: &mut String, header: &Header, call: Call) -> Result<(), Al
         }
         Call::MutexTake { mutex, ticks } => write!(text, " mutex {mutex} ticks {ticks}"),
         Call::MutexGive(mutex) => push_number(text, "mutex", mutex),
+        Call::QueueSend { queue, ticks } | Call::QueueReceive { queue, ticks } => {
+            write!(text, " queue {queue} ticks {ticks}")
+        }
+    }
+}
+
+fn interrupt_word(direction: Direction) -> &'static str
+    ensures { result.now ≡ interrupt_word direction }
+{
+    match direction {
+        Direction::Send => "isr_send",
+        Direction::Receive => "isr_receive",
     }
 }
 
@@ -158,6 +172,15 @@ pub fn push_step(text: &mut String, header: &Header, step: Step) -> Result<(), A
         Step::Interrupt { core, note } => {
             write!(text, "isr_notify core {core}")?;
             push_note(text, header, note)
+        }
+        Step::QueueInterrupt {
+            core,
+            queue,
+            direction,
+        } => {
+            text.push_str(interrupt_word(direction))?;
+            push_number(text, "core", core)?;
+            push_number(text, "queue", queue)
         }
     }
 }

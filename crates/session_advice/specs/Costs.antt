@@ -2,7 +2,7 @@
 use Rattle.std.specs.Prelude.{◌≡◌, ℕ, ◌==◌, ◌&&◌, not, Bool, true, false, List, [], ◌++◌, length, flat_map, codes, Option, Some, None, slice_get, if◌then◌else◌}
 use Rattle.std.specs.Option.{option_map_or}
 use Rattle.list_orders.specs.Search.{numbers}
-use Rattle.run_numbers.specs.declared.subject.Cause.TheVariants.{AnyMutex}
+use Rattle.run_numbers.specs.declared.subject.Cause.TheVariants.{AnyMutex, AnyQueue}
 use Rattle.run_numbers.specs.declared.subject.Condition.TheVariants.{Running, WantsCore, Inverted, Blocked}
 use Rattle.run_numbers.specs.declared.subject.Event.TheVariants.{TimesOut}
 use Rattle.run_numbers.specs.declared.subject.Subject.{Subject}
@@ -20,13 +20,14 @@ use Rattle.session_reports.specs.Figures.{AreFigures}
 use Rattle.session_advice.specs.Basis.{Basis}
 use Rattle.session_advice.specs.Words.{number_words}
 
--- the task that bears what the subject tells: it runs, waits for a core or for a mutex, its wait
--- runs out, or its calls are not made
+-- the task that bears what the subject tells: it runs, waits for a core, for a mutex or at a queue,
+-- its wait runs out, or its calls are not made
 abbrev pub bearer : Subject → Option ℕ
 bearer (Ticks (Running task)) = Some task
 bearer (Ticks (WantsCore task)) = Some task
 bearer (Ticks (Inverted task)) = Some task
 bearer (Ticks (Blocked task AnyMutex)) = Some task
+bearer (Ticks (Blocked task AnyQueue)) = Some task
 bearer (Steps (TimesOut task)) = Some task
 bearer (NotMade task) = Some task
 bearer subject = None

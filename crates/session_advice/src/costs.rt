@@ -30,7 +30,7 @@ fn bearer(subject: Subject) -> Option<u32>
         | Subject::Ticks(
             Condition::Blocked {
                 task,
-                cause: Cause::AnyMutex,
+                cause: Cause::AnyMutex | Cause::AnyQueue,
             },
         )
         | Subject::Steps(Event::TimesOut { task })

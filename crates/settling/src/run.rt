@@ -211,7 +211,10 @@ pub fn settle(
 fn comes_from_outside(step: &Step) -> bool
     ensures { result ≡ comes_from_outside step.now }
 {
-    matches!(step, Step::Tick | Step::Interrupt { .. })
+    matches!(
+        step,
+        Step::Tick | Step::Interrupt { .. } | Step::QueueInterrupt { .. }
+    )
 }
 
 // The call of a step that begins one.

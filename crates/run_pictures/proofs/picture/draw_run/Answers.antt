@@ -1,7 +1,7 @@
 use Rattle.std.proofs.Common.{arith}
 use Rattle.bench_types.proofs.Passes.{header_facts, passes_whole}
 use Rattle.run_pictures.specs.RunLooks.{run_looks}
-use Rattle.run_pictures.proofs.Filming.{looks_counted, looks_few}
+use Rattle.run_pictures.proofs.Filming.{looks_counted, looks_few, queues_few}
 use Rattle.run_pictures.proofs.picture.draw_run.Goals as goal
 
 pub draw_panel-requires : goal.draw_panel-requires
@@ -22,6 +22,7 @@ draw_panel-requires c =
         looks = rw seen_run some;
         cores = rw same limits.few_cores;
         tasks = rw same limits.few_tasks;
+        queues = rw same (queues_few session.header checked.checked.header.passes);
       };
       count = omega (arith, checked.few);
     }

@@ -1,7 +1,7 @@
 use Rattle.std.proofs.Common.{arith}
 use Rattle.bench_types.proofs.Passes.{header_facts, passes_whole}
 use Rattle.run_pictures.specs.RunLooks.{run_looks}
-use Rattle.run_pictures.proofs.Filming.{looks_counted, looks_few}
+use Rattle.run_pictures.proofs.Filming.{looks_counted, looks_few, queues_few}
 use Rattle.run_pictures.proofs.picture.panel_of.Goals as goal
 
 pub returns-clause-numbered : goal.returns-clause-numbered
@@ -21,4 +21,5 @@ returns-clause-numbered c =
       looks = rw seen_run some;
       cores = rw same limits.few_cores;
       tasks = rw same limits.few_tasks;
+      queues = rw same (queues_few session.header checked.checked.header.passes);
     }

@@ -1,0 +1,8 @@
+use Rattle.std.proofs.Common.{◌≡◌, ◌++◌, flat_map}
+use Rattle.list_orders.specs.Search.{numbers}
+use Rattle.report_figures.specs.Subjects.{blocked_ways}
+use Rattle.report_figures.proofs.subjects.push_all_ways.Given as goal
+
+abbrev pub invariant-loop-queue : goal.invariant-loop-queue
+invariant-loop-queue l =
+    l.subjects.items ≡ l.fn.subjects.items ++ flat_map (blocked_ways l.task) (numbers l.queue)

@@ -37,6 +37,7 @@ own_entry : (core : ℕ) (core_action : CoreAction) (view : RecordingView) → c
     (act_on core core_action view) ≡ core
 own_entry core (core_actions.Call call) view checked = refl
 own_entry core (core_actions.Interrupt note) view checked = refl
+own_entry core (core_actions.QueueInterrupt queue direction) view checked = refl
 own_entry core core_actions.Tick view checked = at (eqb core 0) refl checked
   where
     at : (b : Bool) → eqb core 0 ≡ b → cond {A = Result ⊤ Fault} b (Ok tt) (Err BadCore) ≡ Ok tt → 0 ≡ core
@@ -254,6 +255,7 @@ task_stays old taken new core_action made start depth resting has is same =
 pub no_call : (core_action : CoreAction) → is_by_task core_action ≡ false → is_call core_action ≡ false
 no_call (core_actions.Call call) none = absurd (cc none)
 no_call (core_actions.Interrupt note) none = refl
+no_call (core_actions.QueueInterrupt queue direction) none = refl
 no_call core_actions.Tick none = refl
 no_call core_actions.Switch none = refl
 

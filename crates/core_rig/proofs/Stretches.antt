@@ -95,6 +95,10 @@ core_action_keeps_hold core (core_actions.Interrupt note) view sound none =
     let added = is_ok (answer_to_core_action core (core_actions.Interrupt note) view) in
     let step = steps.Interrupt core note in
     hold_stays step view added (sound_in step view added sound) refl
+core_action_keeps_hold core (core_actions.QueueInterrupt queue direction) view sound none =
+    let added = is_ok (answer_to_core_action core (core_actions.QueueInterrupt queue direction) view) in
+    let step = steps.QueueInterrupt core queue direction in
+    hold_stays step view added (sound_in step view added sound) refl
 core_action_keeps_hold core core_actions.Tick view sound none =
     let added = is_ok (answer_to_core_action core core_actions.Tick view) in
     hold_stays steps.Tick view added (sound_in steps.Tick view added sound) refl
@@ -134,6 +138,8 @@ module _ (core : ℕ) (view : RecordingView) (owns : Bool) where
       in_place step true is = is
       in_place step false is = is
   may_follow (core_actions.Interrupt note) growth sound free taken = record { growth = growth; hold = inl (unchanged (core_actions.Interrupt note) sound refl) }
+  may_follow (core_actions.QueueInterrupt queue direction) growth sound free taken =
+      record { growth = growth; hold = inl (unchanged (core_actions.QueueInterrupt queue direction) sound refl) }
   may_follow core_actions.Tick growth sound free taken = record { growth = growth; hold = inl (unchanged core_actions.Tick sound refl) }
   may_follow core_actions.Switch growth sound free taken = record { growth = growth; hold = inl (unchanged core_actions.Switch sound refl) }
 

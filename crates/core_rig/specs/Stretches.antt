@@ -28,6 +28,7 @@ pub record IsInHand (seat : SeatView RecordingView) : Type 0 where
 abbrev pub is_call : CoreAction → Bool
 is_call (core_actions.Call call) = true
 is_call (core_actions.Interrupt note) = false
+is_call (core_actions.QueueInterrupt queue direction) = false
 is_call core_actions.Tick = false
 is_call core_actions.Switch = false
 
@@ -35,6 +36,7 @@ is_call core_actions.Switch = false
 abbrev pub is_by_task : CoreAction → Bool
 is_by_task (core_actions.Call call) = true
 is_by_task (core_actions.Interrupt note) = false
+is_by_task (core_actions.QueueInterrupt queue direction) = false
 is_by_task core_actions.Tick = false
 is_by_task core_actions.Switch = true
 

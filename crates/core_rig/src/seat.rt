@@ -10,7 +10,7 @@ ghost use Rattle.core_rig.specs.Stretches.{is_by_task};
 use crate::fault::RigRefusal;
 use crate::rig::Rig;
 use crate::stretch::{act_and_leave, enter, enter_task, leave_task};
-use bench_types::{Call, CoreAction, Note};
+use bench_types::{Call, CoreAction, Direction, Note};
 use port_locks::{Seat, TryFault};
 use recordings::{Answer, Recording};
 use std::alloc::{AllocError, Global};
@@ -147,6 +147,26 @@ impl CoreSeat {
         self.act_by_interrupt(rt, rig, CoreAction::Tick)
     }
 
+    /// Interrupts the core, whose handler sends to the queue (`xQueueSendFromISR`,
+    /// `xSemaphoreGiveFromISR`) or receives from it (`xQueueReceiveFromISR`), and waits as
+    /// [`CoreSeat::interrupt`] does.
+    ///
+    /// F4 where there is no such queue, else G1 where there is no room.
+    pub fn interrupt_queue<R: Wait>(
+        &mut self,
+        rt: &R,
+        rig: &Rig,
+        queue: u32,
+        direction: Direction,
+    ) -> Result<Answer, RigRefusal>
+        requires own { IsSeatOf rig.now self.old }
+        ensures seat { IsSameSeat self.old self.new }
+        ensures answered { IsAnswered (core_actions.QueueInterrupt queue direction)
+            self.old self.new result }
+    {
+        self.act_by_interrupt(rt, rig, CoreAction::QueueInterrupt { queue, direction })
+    }
+
     /// Interrupts the core as [`CoreSeat::interrupt`] does, but never waits: G3 where another core
     /// was calling the kernel at the one moment when this one tried.
     ///
@@ -156,9 +176,38 @@ impl CoreSeat {
         ensures seat { IsSameSeat self.old self.new }
         ensures answered { IsAnsweredAtOnce (core_actions.Interrupt note) self.old self.new result }
     {
-        let core_action = CoreAction::Interrupt(note);
-        core_action
-            .check(self.core(), &rig.header)
+        self.try_act(rig, CoreAction::Interrupt(note))
+    }
+
+    /// Interrupts the core as [`CoreSeat::interrupt_queue`] does, but never waits: G3 as
+    /// [`CoreSeat::try_interrupt`].
+    ///
+    /// F4 where there is no such queue, else G3, else G1 where there is no room.
+    pub fn try_interrupt_queue(
+        &mut self,
+        rig: &Rig,
+        queue: u32,
+        direction: Direction,
+    ) -> Result<Answer, RigRefusal>
+        requires own { IsSeatOf rig.now self.old }
+        ensures seat { IsSameSeat self.old self.new }
+        ensures answered { IsAnsweredAtOnce (core_actions.QueueInterrupt queue direction)
+            self.old self.new result }
+    {
+        self.try_act(rig, CoreAction::QueueInterrupt { queue, direction })
+    }
+
+    // An interrupt of the core, or a tick, tried once.
+    #[inline(always)]
+    fn try_act(&mut self, rig: &Rig, core_action: CoreAction) -> Result<Answer, RigRefusal>
+        requires own { IsSeatOf rig.now self.old }
+        requires kind { is_by_task core_action ≡ false }
+        ensures seat { IsSameSeat self.old self.new }
+        ensures answered { IsAnsweredAtOnce core_action self.old self.new result }
+    {
+        // A copy goes out by reference, so that of the action itself it stays known which it is.
+        let copy = core_action;
+        copy.check(self.core(), &rig.header)
             .map_err(RigRefusal::Fault)?;
         match rig.pair.try_interrupt(&mut self.seat) {
             Ok(()) => {}

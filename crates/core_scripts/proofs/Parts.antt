@@ -74,6 +74,7 @@ module _ (core_action : CoreAction) (old new : CoreView) (result : Result Answer
 core_action_made : (core : ℕ) (core_action : CoreAction) (found : RecordingView) → core_action_of (act_on core core_action found) ≡ core_action
 core_action_made core (core_actions.Call call) found = refl
 core_action_made core (core_actions.Interrupt note) found = refl
+core_action_made core (core_actions.QueueInterrupt queue direction) found = refl
 core_action_made core core_actions.Tick found = refl
 core_action_made core core_actions.Switch found = refl
 
@@ -111,6 +112,8 @@ core_action_refused : (core : ℕ) (core_action : CoreAction) (from : RecordingV
     → (task_on core from < from.header.config.cores) ⊎ (room_of from < 2)
 core_action_refused core (core_actions.Call call) from why is = call_refused core call from why is
 core_action_refused core (core_actions.Interrupt note) from why is = inr (let less = no_room (steps.Interrupt core note) from why is in omega (arith, less))
+core_action_refused core (core_actions.QueueInterrupt queue direction) from why is = inr
+    (let less = no_room (steps.QueueInterrupt core queue direction) from why is in omega (arith, less))
 core_action_refused core core_actions.Tick from why is = inr (let less = no_room steps.Tick from why is in omega (arith, less))
 core_action_refused core core_actions.Switch from why is = inr (let less = no_room (steps.Switch core) from why is in omega (arith, less))
 
@@ -118,6 +121,8 @@ interrupt_refused : (core : ℕ) (core_action : CoreAction) (from : RecordingVie
     core core_action from ≡ Err why → room_of from < 1
 interrupt_refused core (core_actions.Call call) from why none is = absurd (cc none)
 interrupt_refused core (core_actions.Interrupt note) from why none is = no_room (steps.Interrupt core note) from why is
+interrupt_refused core (core_actions.QueueInterrupt queue direction) from why none is =
+    no_room (steps.QueueInterrupt core queue direction) from why is
 interrupt_refused core core_actions.Tick from why none is = no_room steps.Tick from why is
 interrupt_refused core core_actions.Switch from why none is = absurd (cc none)
 

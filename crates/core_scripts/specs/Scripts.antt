@@ -32,6 +32,8 @@ core_action_of steps.Tick = core_actions.Tick
 core_action_of (steps.Switch core) = core_actions.Switch
 core_action_of (steps.Call core task call) = core_actions.Call call
 core_action_of (steps.Interrupt core note) = core_actions.Interrupt note
+core_action_of (steps.QueueInterrupt core queue direction) =
+    core_actions.QueueInterrupt queue direction
 
 abbrev pub core_actions_of : List Entry → List CoreAction
 core_actions_of entries = map (λ entry. core_action_of entry.step) entries

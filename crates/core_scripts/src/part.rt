@@ -65,6 +65,9 @@ fn act_once<R: Wait>(
     match core_action {
         CoreAction::Call(call) => seat.call(rt, rig, call),
         CoreAction::Interrupt(note) => seat.interrupt(rt, rig, note),
+        CoreAction::QueueInterrupt { queue, direction } => {
+            seat.interrupt_queue(rt, rig, queue, direction)
+        }
         CoreAction::Tick => seat.tick(rt, rig),
         CoreAction::Switch => seat.switch(rt, rig),
     }

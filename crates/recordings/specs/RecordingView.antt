@@ -82,6 +82,8 @@ answer_to_call core call view =
 abbrev pub act_on : ℕ → CoreAction → RecordingView → Step
 act_on core (core_actions.Call call) view = call_on core call view
 act_on core (core_actions.Interrupt note) view = steps.Interrupt core note
+act_on core (core_actions.QueueInterrupt queue direction) view =
+    steps.QueueInterrupt core queue direction
 act_on core core_actions.Tick view = steps.Tick
 act_on core core_actions.Switch view = steps.Switch core
 
@@ -90,6 +92,8 @@ abbrev pub answer_to_core_action : ℕ → CoreAction → RecordingView → Resu
 answer_to_core_action core (core_actions.Call call) view = answer_to_call core call view
 answer_to_core_action core (core_actions.Interrupt note) view =
     answer_in_room (steps.Interrupt core note) view
+answer_to_core_action core (core_actions.QueueInterrupt queue direction) view =
+    answer_in_room (steps.QueueInterrupt core queue direction) view
 answer_to_core_action core core_actions.Tick view = answer_in_room steps.Tick view
 answer_to_core_action core core_actions.Switch view = answer_in_room (steps.Switch core) view
 

@@ -3,14 +3,14 @@ ghost use Rattle.std.specs.Prelude.{◌≡◌, ◌<◌, ◌≤◌, ◌+◌, ◌�
 ghost use Rattle.std.specs.Vec.{vec_capacity};
 ghost use Rattle.bench_types.specs.CoreAction.{IsCheckedCoreAction};
 ghost use Rattle.bench_types.specs.Header.{header_check};
-ghost use Rattle.bench_types.specs.Step.{settings_of, note_check, IsNotifyActionOfWord, IsCheckedCall, IsCheckedStep};
+ghost use Rattle.bench_types.specs.Step.{settings_of, note_check, queue_check, IsNotifyActionOfWord, IsCheckedCall, IsCheckedStep};
 ghost use Rattle.bench_model.specs.History.{is_kept_out, places_of, AreByCurrent, IsByCurrent, IsGrowthBy, IsLegal, IsNext};
 ghost use Rattle.bench_model.specs.Holds.{depth_of, depth_by, is_held_by, is_held_elsewhere};
 ghost use Rattle.history_laws.specs.SoundHistories.{IsSoundHistory};
 ghost use Rattle.recordings.specs.Kept.{IsRecording};
 ghost use Rattle.recordings.specs.RecordingView.{empty_recording, entry_of, table_of, hold_of, task_on, room_of, with_step, answer_to, answer_in_room, call_on, answer_to_call, act_on, answer_to_core_action, after_core_action};
 
-use bench_types::{Call, CoreAction, Entry, Header, Note, Reply, Settings, Step};
+use bench_types::{Call, CoreAction, Direction, Entry, Header, Note, Reply, Settings, Step};
 use smp_kernel::{Kernel, Meter, StartFault};
 use std::alloc::{AllocError, Global};
 use std::marker::Model;
@@ -206,6 +206,32 @@ impl Recording {
         self.record_in_room(Step::Interrupt { core, note })
     }
 
+    /// Interrupts the core, whose handler sends to the queue (`xQueueSendFromISR`,
+    /// `xSemaphoreGiveFromISR`) or receives from it (`xQueueReceiveFromISR`), and records it; G1
+    /// where there is no room for that, which changes nothing.
+    #[inline(always)]
+    pub fn interrupt_queue(
+        &mut self,
+        core: u32,
+        queue: u32,
+        direction: Direction,
+    ) -> Result<Answer, RecordRefusal>
+        requires core { core < self.old.header.config.cores }
+        requires queue { queue_check (settings_of self.old.header) queue ≡ Ok tt }
+        ensures answer { result
+            ≡ answer_in_room (Step.QueueInterrupt core queue direction) self.old }
+        ensures history { OnOk result
+            (self.new ≡ with_step (Step.QueueInterrupt core queue direction) self.old) }
+        ensures unchanged { OnErr result (self.new ≡ self.old) }
+        ensures growth { IsGrowthBy core self.old.entries self.new.entries }
+    {
+        self.record_in_room(Step::QueueInterrupt {
+            core,
+            queue,
+            direction,
+        })
+    }
+
     /// Makes the tick interrupt, which core 0 serves (`xTaskIncrementTick`), and records it; G1
     /// where there is no room for that, which changes nothing.
     #[inline(always)]
@@ -233,7 +259,8 @@ impl Recording {
     }
 
     /// Does what the core would do next, as [`Recording::call`], [`Recording::interrupt`],
-    /// [`Recording::tick`] or [`Recording::switch`], with their refusals.
+    /// [`Recording::interrupt_queue`], [`Recording::tick`] or [`Recording::switch`], with their
+    /// refusals.
     #[inline(always)]
     pub fn perform(&mut self, core: u32, core_action: CoreAction) -> Result<Answer, RecordRefusal>
         requires core { core < self.old.header.config.cores }
@@ -247,6 +274,9 @@ impl Recording {
         match core_action {
             CoreAction::Call(call) => self.call(core, call),
             CoreAction::Interrupt(note) => self.interrupt(core, note),
+            CoreAction::QueueInterrupt { queue, direction } => {
+                self.interrupt_queue(core, queue, direction)
+            }
             CoreAction::Tick => self.tick(),
             CoreAction::Switch => self.switch(core),
         }
@@ -342,7 +372,10 @@ impl Recording {
         ensures { result ≡ places_of (hold_of self.now) step.now }
     {
         match *step {
-            Step::Tick | Step::Switch { .. } | Step::Interrupt { .. } => 1,
+            Step::Tick
+            | Step::Switch { .. }
+            | Step::Interrupt { .. }
+            | Step::QueueInterrupt { .. } => 1,
             Step::Call { core, call, .. } => match call {
                 Call::HoldOpen => 2,
                 Call::HoldClose if self.holder() == Some(core) => 0,
@@ -358,7 +391,13 @@ impl Recording {
         match (*step, self.holder()) {
             (Step::Switch { .. }, holder) => holder.is_some(),
             (Step::Call { core, .. }, Some(holder)) => holder != core,
-            (Step::Tick | Step::Interrupt { .. } | Step::Call { .. }, _) => false,
+            (
+                Step::Tick
+                | Step::Interrupt { .. }
+                | Step::QueueInterrupt { .. }
+                | Step::Call { .. },
+                _,
+            ) => false,
         }
     }
 

@@ -16,7 +16,7 @@ import sys
 import report
 import settle
 
-COSTS = ("run", "ready", "ready.inverted", "blocked.mutex", "timeouts", "not_made")
+COSTS = ("run", "ready", "ready.inverted", "blocked.mutex", "blocked.queue", "timeouts", "not_made")
 NO_CALLS = (*settle.NOT_CALLS, *settle.BY_THEMSELVES)
 
 
@@ -90,6 +90,7 @@ def names_of(session):
         found = ["run", *(f"run.{core}" for core in cores), "ready", "ready.inverted"]
         found += ["blocked.delay", "blocked.notification", "blocked.mutex", "blocked.mutex.held_up"]
         found += [f"blocked.mutex.{mutex}" for mutex in range(session["mutexes"])]
+        found += report.queue_waits(session)
         for one in found:
             yield from (f"{name}.{one}", f"{name}.{one}.longest")
         counts = ["switches", "inheritances", "top_priority", "timeouts"]
@@ -100,6 +101,9 @@ def names_of(session):
             yield from (f"core.{core}.{one}", f"core.{core}.{one}.longest")
     for mutex in range(session["mutexes"]):
         yield from (f"mutex.{mutex}.held", f"mutex.{mutex}.held.longest", f"mutex.{mutex}.waits")
+    for queue in report.queues_of(session):
+        rest = ["messages", "empty", "empty.longest", "full", "full.longest", "waits"]
+        yield from (f"queue.{queue}.{one}" for one in rest)
 
 
 def unknown(session, name):
@@ -133,7 +137,7 @@ def costs(session, task, before, after):
             continue
         for one in COSTS:
             name = f"{other['name']}.{one}"
-            if before[name] != after[name]:
+            if before.get(name) != after.get(name):
                 yield f"   {name} {difference(before[name], after[name])}\n"
 
 

@@ -20,7 +20,8 @@ import report
 import settle
 
 documents = importlib.import_module("check-settled")
-NUMBERS = ("ready", "ready.longest", "blocked.mutex", "run", "timeouts", "switches", "not_made")
+NUMBERS = ("ready", "ready.longest", "blocked.mutex", "blocked.queue", "run", "timeouts")
+NUMBERS += ("switches", "not_made")
 
 
 def told(text, words):

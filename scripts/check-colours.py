@@ -27,6 +27,7 @@ BARS = TASKS + ["i"]
 # Colours that have to be told apart: their classes, and how far they lie apart at least.
 APART = [
     ("bars of tasks", BARS, 12),
+    ("bars of tasks and of queues", BARS + ["q"], 10),
     ("lines of a core", ["d", "h"], 20),
     ("lines of a task", ["w", "u", "e"], 9),
     ("marks", ["x", "n"], 20),
@@ -35,8 +36,9 @@ APART = [
 # What stands on what: the classes, those below them, and the least contrast.
 ON = [
     ("words on the ground", ["text", "s"], ["b"], 4.5),
-    ("words on bars", ["l"], BARS + ["t", "v"], 4.5),
+    ("words on bars", ["l"], BARS + ["t", "v", "q"], 4.5),
     ("lines on the ground", ["w", "u", "e", "m"], ["b"], 3),
+    ("bars of queues on the ground", ["q"], ["b"], 3),
     ("marks on the ground", ["x", "n"], ["b"], 3),
     ("lines on bars", ["d", "h"], BARS, 2),
 ]
@@ -54,10 +56,10 @@ def rules_in(text):
 
 
 def schemes():
-    style = re.search(r"<style>(.*?)</style>", STYLE.read_text(), re.S).group(1).replace("\\\n", "")
+    style, of_queues = (text.replace("\\\n", "") for text in re.findall(r"<style>(.*?)</style>", STYLE.read_text(), re.S))
     light, dark = style.split("@media(prefers-color-scheme:dark){")
     # The bars have a stroke in common, which is no colour of theirs.
-    base = rules_in(re.sub(r"\.i,\.c0[^}]*\}", "", light))
+    base = rules_in(re.sub(r"\.i,\.c0[^}]*\}", "", light) + of_queues)
     return {"light": base, "dark": {**base, **rules_in(dark)}}
 
 

@@ -16,14 +16,16 @@ cd "$(dirname -- "${BASH_SOURCE[0]}")/.." || exit 2
 # Words of other programs, which the code has not.
 others=(
     # FreeRTOS: settings of FreeRTOSConfig.h
-    configIDLE_SHOULD_YIELD configRUN_MULTIPLE_PRIORITIES configTICK_TYPE_WIDTH_IN_BITS configUSE_CORE_AFFINITY configUSE_MUTEXES
-    configUSE_PREEMPTION configUSE_TASK_NOTIFICATIONS configUSE_TASK_PREEMPTION_DISABLE
+    configIDLE_SHOULD_YIELD configRUN_MULTIPLE_PRIORITIES configTICK_TYPE_WIDTH_IN_BITS configUSE_CORE_AFFINITY
+    configUSE_COUNTING_SEMAPHORES configUSE_MUTEXES configUSE_PREEMPTION configUSE_TASK_NOTIFICATIONS configUSE_TASK_PREEMPTION_DISABLE
     INCLUDE_vTaskDelay INCLUDE_vTaskPrioritySet INCLUDE_vTaskSuspend INCLUDE_xTaskDelayUntil
     # FreeRTOS: functions, fields and types of task.h, tasks.c, queue.c and list.c
     prvCreateIdleTasks prvGetDisinheritPriorityAfterTimeout pxDelayedTaskList taskTASK_SCHEDULED_TO_YIELD TickType_t
-    ulTaskGenericNotifyValueClear vListInsert vTaskResume vTaskSuspend vTaskSuspendAll xMutexHolder xQueueGenericSend
-    xQueueSemaphoreTake xSemaphoreCreateBinary xShouldDelay xSuspendedTaskList xTaskAbortDelay xTaskGenericNotifyFromISR xTaskGenericNotifyStateClear
-    xTaskNotifyIndexedFromISR xTaskResumeAll xTickCount xTicksToWait portGET_CORE_ID
+    ulTaskGenericNotifyValueClear vListInsert vTaskResume vTaskSuspend vTaskSuspendAll xMutexHolder xQueueGenericSendFromISR
+    xQueueGiveFromISR xQueueOverwrite xQueuePeek xQueueReset xQueueSemaphoreTake xQueueSendToBack xQueueSendToFront
+    xSemaphoreCreateBinary xSemaphoreGiveFromISR xSemaphoreTakeFromISR xShouldDelay xSuspendedTaskList xTaskAbortDelay
+    xTaskGenericNotifyFromISR xTaskGenericNotifyStateClear xTaskNotifyIndexedFromISR xTaskResumeAll xTickCount xTicksToWait
+    portGET_CORE_ID
     # zsh; `rt plant`; a tool; a word for the title of an issue
     fpath proves valgrind security
 )

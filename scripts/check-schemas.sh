@@ -1,5 +1,5 @@
 #!/usr/bin/env bash
-# Holds the schemas of docs/schema/ against the program: 1,000 random documents that it accepts have to be valid, and 500 of wrong
+# Holds the schemas of docs/schema/ against the program: 1,000 random documents that it accepts have to be valid, and 600 of wrong
 # shape invalid, but for those that a schema can't tell (docs/FORMATS.md, "Schemas"). So have the documents of examples/ and the
 # blocks of JSON in docs/. It needs Python's module jsonschema 4.18 or later (Debian's python3-jsonschema) and the built program, and
 # takes about a minute. Status 1 where one differs, 2 where something that it needs is not there.

@@ -24,6 +24,7 @@ KINDS = (
     *("priority_set", "affinity_set", "preempt_off", "preempt_on", "notify", "notify"),
     *("notify_wait", "notify_take", "state_clear", "value_clear", "mutex_take", "mutex_give"),
 )
+OF_QUEUES = ("queue_send", "queue_send", "queue_receive", "queue_receive")
 TARGETED = (
     *("priority_set", "affinity_set", "preempt_off", "preempt_on"),
     *("state_clear", "value_clear"),
@@ -33,8 +34,9 @@ TARGETED = (
 def header(rng):
     """A session without steps."""
     cores, priorities = rng.choice((2, 2, 3, 4, 8)), rng.randint(1, 6)
-    queues = [{"length": 2, "messages": 1}]
-    form, several = rng.choice(((1, {}), (2, {"notes": 3}), (3, {"notes": 1, "queues": queues})))
+    queues = [{"length": 2, "messages": 1}, {"length": 1, "messages": 0}]
+    third = (3, {"notes": 1, "queues": queues[: rng.randint(0, 2)]})
+    form, several = rng.choice(((1, {}), (2, {"notes": 3}), third, third))
     tasks = [
         {
             "name": f"t{number}",
@@ -80,9 +82,14 @@ def ticks(rng):
     return {"ticks": rng.choice((0, 1, 1, 2, 3, 4, 7, LAST))}
 
 
+def queue(rng, session):
+    return {"queue": rng.randrange(len(session["queues"]))}
+
+
 def call(rng, session):
     """A call of any kind, by any task on any core."""
-    do, cores = rng.choice(KINDS), session["cores"]
+    kinds = KINDS + (OF_QUEUES if session.get("queues") else ())
+    do, cores = rng.choice(kinds), session["cores"]
     members = {
         "delay": lambda: ticks(rng),
         "delay_until": lambda: {"prev": prev(rng, session), "inc": rng.randint(1, 9)},
@@ -95,6 +102,8 @@ def call(rng, session):
         "value_clear": lambda: {"bits": rng.choice((1, LAST))} | index(rng, session),
         "mutex_take": lambda: {"mutex": rng.randrange(session["mutexes"])} | ticks(rng),
         "mutex_give": lambda: {"mutex": rng.randrange(session["mutexes"])},
+        "queue_send": lambda: queue(rng, session) | ticks(rng),
+        "queue_receive": lambda: queue(rng, session) | ticks(rng),
     }
     target = {"to": name(rng, session)} if do in TARGETED else {}
     head = {"do": do, "core": rng.randrange(cores), "by": name(rng, session)}
@@ -106,8 +115,11 @@ def step(rng, session):
     core, draw = rng.randrange(session["cores"]), rng.random()
     if draw < 0.25:
         return {"do": "tick"}
-    if draw < 0.4:
+    if draw < 0.33 or draw < 0.4 and not session.get("queues"):
         return {"do": "isr_notify", "core": core} | note(rng, session)
+    if draw < 0.4:
+        do = rng.choice(("isr_send", "isr_receive"))
+        return {"do": do, "core": core} | queue(rng, session)
     if draw < 0.5:
         return {"do": "switch", "core": core}
     return call(rng, session)

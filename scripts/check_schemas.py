@@ -13,18 +13,20 @@ from referencing import Registry, Resource
 
 SEED = 38
 ACCEPTED = {"session": 400, "bench": 400, "rig": 200}
-WRONG = {"session": 240, "bench": 90, "rig": 150}
+WRONG = {"session": 300, "bench": 90, "rig": 190}
 UNTELLABLE = {"session": 15, "bench": 15}
 NUMBERS = [0, 0, 1, 2, 3, 5, 7, 31, 4294967294, 4294967295]
-# The members of a step after `core` and `by`, or after `core` for an interrupt.
+# The members of a step after `core` and `by`, or after `core` for an interrupt. Those for queues are steps of format 3 alone.
 STEPS = {
     "tick": [], "switch": [], "isr_notify": ["to", "action"], "yield": [], "delay": ["ticks"],
     "delay_until": ["prev", "inc"], "priority_set": ["to", "priority"], "affinity_set": ["to", "mask"],
     "preempt_off": ["to"], "preempt_on": ["to"], "notify": ["to", "action"],
     "notify_wait": ["entry", "exit", "ticks"], "notify_take": ["clear", "ticks"], "state_clear": ["to"],
     "value_clear": ["to", "bits"], "mutex_take": ["mutex", "ticks"], "mutex_give": ["mutex"],
+    "queue_send": ["queue", "ticks"], "queue_receive": ["queue", "ticks"], "isr_send": ["queue"], "isr_receive": ["queue"],
     "finish": [], "hold_open": [], "hold_close": [],
 }
+INTERRUPTS = ("isr_notify", "isr_send", "isr_receive")
 # The steps that are for a notification: in formats 2 and 3 they may have its index.
 INDEXED = ("isr_notify", "notify", "notify_wait", "notify_take", "state_clear", "value_clear")
 ACTIONS = {"none": False, "set_bits": True, "increment": False, "set": True, "set_new": True}
@@ -70,6 +72,8 @@ def member(rng, name, head):
         return rng.choice(head["tasks"])["name"]
     if name == "mutex":
         return rng.randrange(head["mutexes"])
+    if name == "queue":
+        return rng.randrange(len(head["queues"]))
     if name == "mask":
         return mask(rng, head["cores"])
     if name == "inc":
@@ -81,9 +85,14 @@ def member(rng, name, head):
     return rng.choice(NUMBERS)
 
 
+def has_step(head, do):
+    """Whether a session of these settings may have such a step."""
+    return not ("mutex" in STEPS[do] and not head["mutexes"] or "queue" in STEPS[do] and not head.get("queues"))
+
+
 def action(rng, head, kinds):
     """A step without `core` and `by`."""
-    do = rng.choice([k for k in kinds if head["mutexes"] or "mutex" not in k])
+    do = rng.choice([k for k in kinds if has_step(head, k)])
     step = {"do": do}
     for name in STEPS[do]:
         step[name] = member(rng, name, head)
@@ -98,7 +107,7 @@ def step(rng, head, kinds=tuple(STEPS)):
     made = action(rng, head, kinds)
     if made["do"] != "tick":
         made["core"] = rng.randrange(head["cores"])
-    if made["do"] not in ("tick", "switch", "isr_notify"):
+    if made["do"] not in ("tick", "switch", *INTERRUPTS):
         made["by"] = rng.choice(head["tasks"])["name"]
     return mixed(rng, made)
 
@@ -209,18 +218,18 @@ def parts_of(rng, kind, head):
     """A step, edit or action of each kind, and what makes a document that has it."""
     bare = {**head, "steps": []}
     if kind == "session":
-        return ([step(rng, head, (do,)) for do in STEPS],
+        return ([step(rng, head, (do,)) for do in STEPS if has_step(head, do)],
                 lambda piece: {**head, "steps": [step(rng, head), piece, step(rng, head)]})
     if kind == "bench":
         return ([edit(rng, head, (name,)) for name in EDITS],
                 lambda piece: {"session": bare, "edits": [edit(rng, head), piece]})
-    return ([action(rng, head, (do,)) for do in STEPS],
+    return ([action(rng, head, (do,)) for do in STEPS if has_step(head, do)],
             lambda piece: {"session": bare, "limit": 5, "scripts": [[piece]] + [[]] * (head["cores"] - 1)})
 
 
 def faults_of_parts(rng, kind):
     """Documents of which one step, edit, action, task or the outermost object has each fault."""
-    head = {**header(rng), "mutexes": 2}
+    head = {**header(rng), "mutexes": 2, "format": 3, "notes": 2, "queues": [queue(rng)]}
     pieces, whole = parts_of(rng, kind, head)
     yield from faults(rng, document(rng, kind))
     if kind == "session":
@@ -247,6 +256,23 @@ def faults_of_format(rng, kind):
             yield whole({**piece, "index": 0})
         if "step" in piece:
             yield whole({**piece, "step": {"do": "isr_notify", "core": 0, "to": name, "action": "none", "index": 0}})
+            yield whole({**piece, "step": {"do": "isr_send", "core": 0, "queue": 0}})
+    yield from steps_of_queues(rng, kind)
+
+
+def steps_of_queues(rng, kind):
+    """Documents of formats 1 and 2 with a step that only format 3 has."""
+    head = {**header(rng), "mutexes": 2, "format": 3, "notes": 2, "queues": [queue(rng)]}
+    first = {key: value for key, value in head.items() if key not in ("notes", "queues")}
+    second = {**first, "notes": 2}
+    queued = [do for do in STEPS if "queue" in STEPS[do]]
+    if kind == "bench":
+        pieces = [{"edit": "insert", "at": 0, "step": step(rng, head, (do,))} for do in queued]
+    else:
+        pieces = [(step if kind == "session" else action)(rng, head, (do,)) for do in queued]
+    for piece in pieces:
+        yield parts_of(rng, kind, {**first, "format": 1})[1](piece)
+        yield parts_of(rng, kind, {**second, "format": 2})[1](piece)
 
 
 def with_odd_number(rng, good):

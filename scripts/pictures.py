@@ -19,6 +19,7 @@ PICTURES = {
     "shared-mutex": ["examples/questions/shared-mutex.json"],
     "shorter-timeout": ["--settle", "examples/settled/shorter-timeout.json"],
     "shorter-timeout-by-ticks": ["--settle", "--axis", "tick", "examples/settled/shorter-timeout.json"],
+    "producer-and-consumer": ["--settle", "examples/settled/producer-and-consumer.json"],
 }
 # And of other examples that a browser is shown.
 EXAMPLES = {name: [f"examples/{name}.json"] for name in ("first-run", "periodic-task", "another-call", "two-notifications")}
@@ -27,8 +28,10 @@ SCHEMES = {"dark": 0, "light": 1}
 SVG = "{http://www.w3.org/2000/svg}"
 LEGEND = {
     "running", "ready", "blocked", "idle task", "core due to switch", "core holds the kernel", "priority inherited",
-    "preemption off", "mutex held", "interrupt", "refused",
+    "preemption off", "mutex held", "messages in a queue", "interrupt", "refused",
 }
+
+INTERRUPT = r"step \d+: isr_(notify|send|receive) "
 
 passed = failed = 0
 
@@ -53,14 +56,16 @@ def view(words, text):
 class Run:
     """What a trace tells of each place, as lists by place."""
 
-    def __init__(self, trace, tasks):
+    def __init__(self, trace, tasks, queues):
         self.ticks, self.cores, self.holds, self.steps = [], [], [], []
         self.tasks = tasks
         self.blocked, self.priorities, self.masks, self.unpreempted, self.holders = [], [], [], [], []
         blocked = {}
         masks = {task["name"]: task["mask"] for task in tasks}
         priority = {task["name"]: (task["priority"], task["priority"]) for task in tasks}
+        self.messages = []
         unpreempted, holders = set(), {}
+        messages = dict(enumerate(queue["messages"] for queue in queues))
         for line in trace.splitlines():
             if line.startswith("place "):
                 parts = line.split("; ")
@@ -73,6 +78,7 @@ class Run:
                 self.masks.append(dict(masks))
                 self.unpreempted.append(set(unpreempted))
                 self.holders.append(dict(holders))
+                self.messages.append(dict(messages))
             elif line.startswith("step "):
                 self.steps.append([line])
             else:
@@ -97,9 +103,16 @@ class Run:
                     holders[int(words[1])] = words[4]
                 elif words[0] == "mutex" and words[2:4] == ["given", "by"]:
                     del holders[int(words[1])]
+                elif words[0] == "queue" and words[2:3] == ["messages"]:
+                    assert messages[int(words[1])] == int(words[3])
+                    messages[int(words[1])] = int(words[5])
 
     def current(self, place, core):
         return self.cores[place][core].split(", due by ")[0]
+
+    def changed_queues(self):
+        """The queues that have not the same number of messages at all places."""
+        return [queue for queue in self.messages[0] if len({messages[queue] for messages in self.messages}) > 1]
 
     def due(self, place, core):
         return (self.cores[place][core].split(", due by ") + [None])[1]
@@ -189,6 +202,8 @@ def wanted(run):
         bars["priority", name] = stretches([x if x[0] != x[1] else None for x in (run.priorities[p][name] for p in places)])
     for mutex in range(64):
         bars["mutex", mutex] = stretches([run.holders[p].get(mutex) for p in places])
+    for queue in run.changed_queues():
+        bars["queue", queue] = stretches([run.messages[p][queue] or None for p in places])
     return {key: value for key, value in bars.items() if value}
 
 
@@ -214,8 +229,10 @@ def legend_of(run):
     for step in run.steps:
         if step[1].startswith("refused "):
             used.add("refused")
-        elif re.match(r"step \d+: isr_notify ", step[0]):
+        elif re.match(INTERRUPT, step[0]):
             used.add("interrupt")
+    if run.changed_queues():
+        used.add("messages in a queue")
     return used
 
 
@@ -241,6 +258,7 @@ def shown(elements):
             (r"core (\d+) (\S+)$", lambda m: (("current", int(m[1])), m[2])),
             (r"(held by core \d+ depth \d+)$", lambda m: (("hold",), m[1])),
             (r"mutex (\d+) held by (\S+)$", lambda m: (("mutex", int(m[1])), m[2])),
+            (r"queue (\d+) messages (\d+)$", lambda m: (("queue", int(m[1])), int(m[2]))),
             (r"(\S+) priority in use (\d+), base priority (\d+)$", lambda m: (("priority", m[1]), (int(m[2]), int(m[3])))),
             (r"(\S+) (runs on core \d+)$", lambda m: (("stance", m[1]), m[2])),
             (r"(\S+) (blocked (?:until tick \d+|without end))(?: \([^)]*\))?$", lambda m: (("stance", m[1]), m[2])),
@@ -279,7 +297,7 @@ def check_panel(what, elements, run):
     hold(f"{what}: steps", cells == run.steps, f"{cells[:2]} and not {run.steps[:2]}")
     marks = [(title(e).split("\n"), e.get("class")) for e in elements if e.tag == SVG + "path" and e.get("class") in ("x", "n")]
     steps = [(step, "x" if step[1].startswith("refused ") else "n") for step in run.steps
-             if step[1].startswith("refused ") or re.match(r"step \d+: isr_notify ", step[0])]
+             if step[1].startswith("refused ") or re.match(INTERRUPT, step[0])]
     hold(f"{what}: marks", marks == steps, f"{marks[:2]} and not {steps[:2]}")
     # A place begins at one column in all rows, and ends where the next one begins.
     begins = {}
@@ -292,6 +310,14 @@ def check_panel(what, elements, run):
             end = number(element, "x") + number(element, "width")
             alike &= begins.setdefault(last + 1, end) == end
     hold(f"{what}: columns", alike and [begins[p] for p in sorted(begins)] == sorted(set(begins.values())), str(begins))
+    numbered = {(number(e, "x"), number(e, "y")): e.text for e in elements if e.get("class") == "l"}
+    labels = [(numbered.get((number(e, "x") + 3, number(e, "y") + 11), ""), title(e).split()[-1], number(e, "width"))
+              for e in elements if e.get("class") == "q"]
+    told = all(label == (words if 8 * len(words) + 4 <= width else "") for label, words, width in labels)
+    hold(f"{what}: numbers of messages", told, str(labels))
+    names = [e.text for e in elements if e.tag == SVG + "text" and e.get("x") == "8" and (e.text or "").startswith("queue ")]
+    wanted_names = [f"queue {queue}" for queue in run.changed_queues()]
+    hold(f"{what}: rows of queues", names == wanted_names, f"{names} and not {wanted_names}")
     check_rows(what, elements)
     rules = [int(re.match(r"M(\d+) ", e.get("d"))[1]) for e in elements if e.get("class") == "g"]
     ticks = [begins[first] for first, _, _ in want[("tick",)]]
@@ -327,10 +353,10 @@ def check_rows(what, elements):
     hold(f"{what}: a bar covers what stands beside it", not any(meet(a, b) for a in bars for b in names))
     words.sort()
     hold(f"{what}: names run into one another", not any(meet(a, b) for k, a in enumerate(words) for b in words[k + 1 : k + 40]))
-    # Rows: what is told of one core, task or mutex keeps out of what is told of another.
+    # Rows: what is told of one core, task, mutex or queue keeps out of what is told of another.
     rows = collections.defaultdict(list)
     for element in elements:
-        told = re.match(r"places? \d+(?: to \d+)?: (core \d+|tick|mutex \d+|\S+)", title(element) or "")
+        told = re.match(r"places? \d+(?: to \d+)?: (core \d+|tick|mutex \d+|queue \d+|\S+)", title(element) or "")
         if told and element.tag == SVG + "rect" and not told[1].startswith("held"):
             rows[told[1]].append(box(element))
     spans = sorted((min(b[1] for b in boxes), max(b[3] for b in boxes), name) for name, boxes in rows.items())
@@ -385,8 +411,8 @@ def check_document(name, document, modes):
         runs = []
         for given in [{"session": session, "edits": []}] + [{"session": session, "edits": edits}] * bool(edits):
             trace = view(["trace", *settle], json.dumps(given))[1]
-            tasks = json.loads(view(["session"], json.dumps(given))[1])["tasks"]
-            runs.append(Run(trace, tasks))
+            checked = json.loads(view(["session"], json.dumps(given))[1])
+            runs.append(Run(trace, checked["tasks"], checked.get("queues", [])))
         check_picture(what, svg, runs)
 
 

@@ -19,7 +19,10 @@ import settle
 BLOCKED_BY = {
     **{"delay": "delay", "delay_until": "delay", "mutex_take": "mutex"},
     **{"notify_wait": "notification", "notify_take": "notification"},
+    **{"queue_send": "queue", "queue_receive": "queue"},
 }
+# How a wait at a queue is called after the queue.
+WAYS = {"queue_send": "send", "queue_receive": "receive"}
 CODES = [f"E{number}" for number in range(1, 10)]
 
 
@@ -46,8 +49,8 @@ def refusal(table, core, task, call):
 def runs_out(table, task):
     """Whether the return from the task's call tells that its ticks ran out."""
     call = table.unfinished[task]
-    if call["do"] == "mutex_take":
-        return table.holder[call["mutex"]] is not None and settle.is_over(table, task)
+    if settle.waits_in_vain(table, call):
+        return settle.is_over(table, task)
     if call["do"] in ("notify_wait", "notify_take"):
         return not settle.has_notification(table, task, call)
     return False
@@ -62,7 +65,9 @@ def call_events(table, task, call, code):
             yield ("timeouts", task)
     elif call["do"] == "mutex_take" and call["ticks"] > 0:
         if table.holder[call["mutex"]] is not None:
-            yield ("waits", call["mutex"])
+            yield ("waits", f"mutex.{call['mutex']}")
+    elif call["do"] in WAYS and settle.would_block(table, task, call):
+        yield ("waits", f"queue.{call['queue']}")
 
 
 def made(table, step):
@@ -72,8 +77,8 @@ def made(table, step):
     events = []
     if do == "tick":
         settle.tick(table)
-    elif do == "isr_notify":
-        settle.notify(table, core, None, step)
+    elif do in settle.NOT_CALLS:
+        settle.interrupt(table, step)
     elif do == "switch":
         if table.hold_core is None and settle.is_due(table, core):
             settle.switch(table, core)
@@ -117,12 +122,16 @@ def task_conditions(table, task):
                 yield "ready.inverted"
         return
     call = table.unfinished[task]
-    cause = BLOCKED_BY[call["do"]]
+    cause = BLOCKED_BY.get(call["do"])
+    if cause is None:
+        return
     yield f"blocked.{cause}"
     if cause == "mutex":
         yield f"blocked.mutex.{call['mutex']}"
         if held_up(table, task):
             yield "blocked.mutex.held_up"
+    if cause == "queue":
+        yield f"blocked.queue.{call['queue']}.{WAYS[call['do']]}"
 
 
 def conditions(table, names):
@@ -136,17 +145,33 @@ def conditions(table, names):
     for mutex, holder in enumerate(table.holder):
         if holder is not None:
             yield f"mutex.{mutex}.held"
+    for queue, (length, messages) in enumerate(zip(table.length, table.messages)):
+        if messages == 0:
+            yield f"queue.{queue}.empty"
+        if messages == length:
+            yield f"queue.{queue}.full"
 
 
 def event_name(event, names):
     """The name of what an event is counted by; none of an idle task."""
     kind, of, *code = event
     if kind == "waits":
-        return f"mutex.{of}.waits"
+        return f"{of}.waits"
     return ".".join([names[of], kind, *code]) if of in names else None
 
 
 # Numbers.
+
+
+def queues_of(session):
+    """The numbers of the queues."""
+    return range(len(session.get("queues", [])))
+
+
+def queue_waits(session):
+    """The names of waits at queues; none where there are no queues."""
+    ways = [f"blocked.queue.{queue}.{way}" for queue in queues_of(session) for way in WAYS.values()]
+    return ["blocked.queue", *ways] if ways else []
 
 
 def all_conditions(session):
@@ -156,10 +181,12 @@ def all_conditions(session):
         rest = ["run", *(f"run.{core}" for core in cores), "ready", "ready.inverted"]
         rest += ["blocked.delay", "blocked.notification", "blocked.mutex", "blocked.mutex.held_up"]
         rest += [f"blocked.mutex.{mutex}" for mutex in mutexes]
+        rest += queue_waits(session)
         yield from (f"{task['name']}.{one}" for one in rest)
     for core in cores:
         yield from (f"core.{core}.{one}" for one in ("user", "idle", "due"))
     yield from (f"mutex.{mutex}.held" for mutex in mutexes)
+    yield from (f"queue.{queue}.{one}" for queue in queues_of(session) for one in ("empty", "full"))
 
 
 def all_counts(session):
@@ -169,6 +196,8 @@ def all_counts(session):
         rest += [f"refused.{code}" for code in CODES]
         yield from (f"{task['name']}.{one}" for one in rest)
     yield from (f"mutex.{mutex}.waits" for mutex in range(session["mutexes"]))
+    for queue in queues_of(session):
+        yield from (f"queue.{queue}.{one}" for one in ("messages", "waits"))
 
 
 def measured(session, steps, left):
@@ -180,6 +209,7 @@ def measured(session, steps, left):
         values[name] = values[f"{name}.longest"] = 0
     places, stretches = {}, {}
     tops = {task: table.in_use[task] for task in names}
+    most = list(table.messages)
     for place, step in enumerate(steps):
         found = set(conditions(table, names))
         stretches = {name: began for name, began in stretches.items() if name in found}
@@ -194,9 +224,12 @@ def measured(session, steps, left):
             if event_name(event, names):
                 values[event_name(event, names)] += 1
         tops = {task: max(top, table.in_use[task]) for task, top in tops.items()}
+        most = [max(pair) for pair in zip(most, table.messages)]
     for task, name in names.items():
         values[f"{name}.top_priority"] = tops[task]
         values[f"{name}.not_made"] = sum(call["by"] == name for call in left)
+    for queue, messages in enumerate(most):
+        values[f"queue.{queue}.messages"] = messages
     return {"places": places, "values": values}
 
 

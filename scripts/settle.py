@@ -32,8 +32,11 @@ ENDLESS = WORD - 1
 DEEPEST = 255
 MOST_STEPS = 1_000_000
 BY_THEMSELVES = ("switch", "finish")
-NOT_CALLS = ("tick", "isr_notify")
+NOT_CALLS = ("tick", "isr_notify", "isr_send", "isr_receive")
 OF_NOTES = ("isr_notify", "notify", "notify_wait", "notify_take", "state_clear", "value_clear")
+# Of each step at a queue the way that its message goes, and the way that one goes the other way.
+WAYS = {"queue_send": "in", "isr_send": "in", "queue_receive": "out", "isr_receive": "out"}
+OTHER_WAY = {"in": "out", "out": "in"}
 
 
 @dataclass
@@ -52,9 +55,14 @@ class Table:
     current: list[int]
     pend: list[bool]
     asked: list[bool]
-    # Of each mutex, with the tasks that wait for it, the first one first.
+    # Of each mutex.
     holder: list[int | None]
-    waiting: list[list[int]]
+    # Of each queue: how many messages it holds at most, and how many it has.
+    length: list[int]
+    messages: list[int]
+    # Of each event list the tasks that wait in it, the first one first. A mutex has one, and a
+    # queue one for each way.
+    waiting: dict[tuple, list[int]]
     # Of each task.
     base: list[int]
     in_use: list[int]
@@ -63,7 +71,7 @@ class Table:
     ready: list[bool]
     stamp: list[int]
     wake: list[int | None]
-    awaited: list[int | None]
+    awaited: list[tuple | None]
     wait_priority: list[int]
     # In format 3 each task has a list value.
     values: list[int] | None
@@ -145,7 +153,7 @@ def seek(table, acting, task, among):
 
 
 def leave(table, task):
-    """Let a task wait for no mutex."""
+    """Let a task wait in no event list."""
     if table.awaited[task] is not None:
         table.waiting[table.awaited[task]].remove(task)
         table.awaited[task] = None
@@ -370,12 +378,12 @@ def hold_close(table, _core, _task, _call):
         table.hold_core = None
 
 
-# Mutexes.
+# Event lists.
 
 
-def first_waiter(table, mutex):
-    """The first of a mutex's waiters, or none."""
-    return next(iter(table.waiting[mutex]), None)
+def first_waiter(table, event):
+    """The first task of an event list, or none."""
+    return next(iter(table.waiting[event]), None)
 
 
 def revalue(table, task, value):
@@ -384,13 +392,29 @@ def revalue(table, task, value):
         table.values[task] = table.wait_priority[task] = value
 
 
-def begin_to_wait(table, task, mutex):
-    """Put a task before the first waiter with a lesser priority, as it is now."""
+def begin_to_wait(table, core, task, event, call, ticks):
+    """Put a task before the first of an event list with a lesser priority, as it is now."""
     rank = table.in_use[task] if table.values is None else table.values[task]
-    others = table.waiting[mutex]
+    others = table.waiting[event]
     lesser = (place for place, other in enumerate(others) if table.wait_priority[other] < rank)
     others.insert(next(lesser, len(others)), task)
-    table.awaited[task], table.wait_priority[task] = mutex, rank
+    table.awaited[task], table.wait_priority[task] = event, rank
+    table.deadline[task] = None if ticks is None else table.tick + ticks
+    block(table, core, task, call, ticks)
+
+
+def is_over(table, task):
+    """Whether the deadline of a task's wait in an event list is reached."""
+    return table.deadline[task] is not None and table.deadline[task] <= table.tick
+
+
+def ticks_left(table, task):
+    """The ticks that are left to the deadline of a wait, or none where it has no end."""
+    deadline = table.deadline[task]
+    return None if deadline is None else deadline - table.tick
+
+
+# Mutexes.
 
 
 def lower(table, core, task, new):
@@ -421,9 +445,7 @@ def wait_for(table, core, task, call, ticks):
     """Wait for a mutex that is held."""
     mutex = call["mutex"]
     table.mark[task] = inherit(table, core, task, table.holder[mutex])
-    table.deadline[task] = None if ticks is None else table.tick + ticks
-    begin_to_wait(table, task, mutex)
-    block(table, core, task, call, ticks)
+    begin_to_wait(table, core, task, ("mutex", mutex), call, ticks)
 
 
 def mutex_take(table, core, task, call):
@@ -434,20 +456,15 @@ def mutex_take(table, core, task, call):
         wait_for(table, core, task, call, bounded(call["ticks"]))
 
 
-def is_over(table, task):
-    """Whether the deadline of a task's wait for a mutex is reached."""
-    return table.deadline[task] is not None and table.deadline[task] <= table.tick
-
-
 def finish_take(table, core, task, call):
     """End a wait for a mutex by taking it or in vain, or go on waiting to the same deadline."""
-    mutex, deadline = call["mutex"], table.deadline[task]
+    mutex = call["mutex"]
     if table.holder[mutex] is None:
         table.holder[mutex] = task
     elif is_over(table, task):
         time_out(table, core, task, mutex)
     else:
-        wait_for(table, core, task, call, None if deadline is None else deadline - table.tick)
+        wait_for(table, core, task, call, ticks_left(table, task))
         return
     table.unfinished[task] = None
 
@@ -456,7 +473,7 @@ def time_out(table, core, task, mutex):
     """Take back from a holder what it inherited from a task that waits no longer."""
     holder = table.holder[mutex]
     if table.mark[task] and holder != task and table.holder.count(holder) == 1:
-        first = first_waiter(table, mutex)
+        first = first_waiter(table, ("mutex", mutex))
         base = table.base[holder]
         lower(table, core, holder, base if first is None else max(base, table.wait_priority[first]))
 
@@ -468,12 +485,61 @@ def mutex_give(table, core, task, call):
     table.holder[call["mutex"]] = None
     if task not in table.holder:
         lower(table, core, task, table.base[task])
-    first = first_waiter(table, call["mutex"])
+    first = first_waiter(table, ("mutex", call["mutex"]))
     if first is not None:
         wake(table, core, first)
 
 
+# Queues.
+
+
+def can_pass(table, step):
+    """Whether a message can go at once: into a queue that is not full, out of one that has any."""
+    queue = step["queue"]
+    if WAYS[step["do"]] == "in":
+        return table.messages[queue] < table.length[queue]
+    return table.messages[queue] > 0
+
+
+def pass_message(table, core, _task, step):
+    """Let a message go where it can, and wake the first task that waits for one the other way."""
+    if not can_pass(table, step):
+        return
+    queue, way = step["queue"], WAYS[step["do"]]
+    table.messages[queue] += 1 if way == "in" else -1
+    first = first_waiter(table, (OTHER_WAY[way], queue))
+    if first is not None:
+        wake(table, core, first)
+
+
+def wait_to_pass(table, core, task, call, ticks):
+    """Wait until a message can go."""
+    begin_to_wait(table, core, task, (WAYS[call["do"]], call["queue"]), call, ticks)
+
+
+def queue_call(table, core, task, call):
+    """Send or receive at once, or wait where there are ticks."""
+    if can_pass(table, call):
+        pass_message(table, core, task, call)
+    elif call["ticks"] > 0:
+        wait_to_pass(table, core, task, call, bounded(call["ticks"]))
+
+
+def finish_queue(table, core, task, call):
+    """End a wait at a queue with a message or in vain, or go on waiting to the same deadline."""
+    if can_pass(table, call) or is_over(table, task):
+        table.unfinished[task] = None
+        pass_message(table, core, task, call)
+    else:
+        wait_to_pass(table, core, task, call, ticks_left(table, task))
+
+
 # Steps.
+
+
+def interrupt(table, step):
+    """Make an interrupt of a core."""
+    (notify if step["do"] == "isr_notify" else pass_message)(table, step["core"], None, step)
 
 
 def finish(table, core, task, _call):
@@ -482,24 +548,32 @@ def finish(table, core, task, _call):
     if call["do"] == "mutex_take":
         finish_take(table, core, task, call)
         return
+    if call["do"] in WAYS:
+        finish_queue(table, core, task, call)
+        return
     if call["do"] in ("notify_wait", "notify_take"):
         complete(table, task, call)
     table.unfinished[task] = None
+
+
+def waits_in_vain(table, call):
+    """Whether a call waits in an event list, for what is not there now."""
+    if call["do"] == "mutex_take":
+        return table.holder[call["mutex"]] is not None
+    return call["do"] in WAYS and not can_pass(table, call)
 
 
 def would_block(table, task, call):
     """Whether a call would block its task."""
     do = call["do"]
     if do == "finish":
-        call = table.unfinished[task]
-        held = call["do"] == "mutex_take" and table.holder[call["mutex"]] is not None
-        return held and not is_over(table, task)
+        return not is_over(table, task) and waits_in_vain(table, table.unfinished[task])
     if do == "delay_until":
         return ticks_until(table, call) > 0
     if do in ("notify_wait", "notify_take"):
         return call["ticks"] > 0 and not has_notification(table, task, call)
-    if do == "mutex_take":
-        return call["ticks"] > 0 and table.holder[call["mutex"]] is not None
+    if do == "mutex_take" or do in WAYS:
+        return call["ticks"] > 0 and waits_in_vain(table, call)
     return do == "delay" and call["ticks"] > 0
 
 
@@ -547,6 +621,8 @@ CALLS = {
     "hold_close": hold_close,
     "mutex_take": mutex_take,
     "mutex_give": mutex_give,
+    "queue_send": queue_call,
+    "queue_receive": queue_call,
     "finish": finish,
 }
 
@@ -556,13 +632,19 @@ def start(session):
     cores, tasks = session["cores"], session["tasks"]
     count, notes = cores + len(tasks), session.get("notes", 1)
     every = (1 << cores) - 1
+    queues = session.get("queues", [])
+    events = [("mutex", mutex) for mutex in range(session["mutexes"])]
+    events += [(way, queue) for queue in range(len(queues)) for way in OTHER_WAY]
     listed = [0] * cores + [task["priority"] for task in tasks]
     table = Table(
         cores=cores, priorities=session["priorities"], slicing=session["slicing"],
         tick=session["tick"], stamps=count, hold_core=None, depth=0,
         number={task["name"]: cores + place for place, task in enumerate(tasks)},
         current=list(range(cores)), pend=[False] * cores, asked=[False] * cores,
-        holder=[None] * session["mutexes"], waiting=[[] for _ in range(session["mutexes"])],
+        holder=[None] * session["mutexes"],
+        length=[queue["length"] for queue in queues],
+        messages=[queue["messages"] for queue in queues],
+        waiting={event: [] for event in events},
         base=[0] * cores + [task["priority"] for task in tasks],
         in_use=[0] * cores + [task["priority"] for task in tasks],
         mask=[every] * cores + [task["mask"] & every for task in tasks],
@@ -634,8 +716,8 @@ def settle(session):
             continue
         if step["do"] == "tick":
             tick(table)
-        elif step["do"] == "isr_notify":
-            notify(table, step["core"], None, step)
+        elif step["do"] in NOT_CALLS:
+            interrupt(table, step)
         else:
             waiting.append(step)
         if step["do"] in NOT_CALLS:

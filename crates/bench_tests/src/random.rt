@@ -3,7 +3,9 @@ ghost use Rattle.std.specs.Prelude.{◌≡◌, ◌<◌, ◌^◌, IfOk};
 ghost use Rattle.bench_types.specs.Step.{settings_of};
 
 use bench_samples::numbered_header;
-use bench_types::{Call, Config, Header, Note, NotifyAction, Reply, Row, Step};
+use bench_types::{
+    Call, Config, Direction, Header, Items, Note, NotifyAction, QueueArgs, Reply, Row, Step,
+};
 use smp_kernel::{Kernel, Meter};
 use std::alloc::{AllocError, Global};
 use std::process::Abort;
@@ -49,6 +51,8 @@ pub enum Mix {
     Mutexes,
     /// Some set something of a task, and some delay until a tick count, or open or close a hold.
     Holds,
+    /// Some set something of a task, and some send to one of four queues or receive from it.
+    Queues,
 }
 
 impl Mix {
@@ -78,7 +82,7 @@ pub fn random_session(
 
 impl Played {
     fn new(host: &HostRuntime, mix: Mix) -> Result<Self, Fail> {
-        let header = large_header(host.alloc(), mix.notes())?;
+        let header = large_header(host.alloc(), mix)?;
         let kernel = Kernel::start(host.alloc(), &header)?;
         Ok(Played {
             header,
@@ -105,6 +109,7 @@ impl Played {
             }
             Mix::Mutexes => with_mutex(kernel, step, number(&mut self.seed)),
             Mix::Holds => with_hold(kernel, step, number(&mut self.seed)),
+            Mix::Queues => with_queue(step, number(&mut self.seed)),
         }
     }
 
@@ -118,9 +123,9 @@ impl Played {
     }
 }
 
-// A header of 8 cores and 64 tasks with time slicing and so many notifications a task, with the
-// last 96 ticks before the tick count wraps.
-fn large_header(alloc: Global, notes: u32) -> Result<Header, Fail>
+// A header of 8 cores and 64 tasks with time slicing, and with the notifications and queues that
+// the steps need, with the last 96 ticks before the tick count wraps.
+fn large_header(alloc: Global, mix: Mix) -> Result<Header, Fail>
     ensures { IfOk result (λ header. (header.config.cores ≡ 8) × (header.config.mutexes ≡ 4)) }
 {
     let config = Config {
@@ -129,13 +134,32 @@ fn large_header(alloc: Global, notes: u32) -> Result<Header, Fail>
         slicing: true,
         tick: 4_294_967_200,
         mutexes: 4,
-        notes,
+        notes: mix.notes(),
     };
     let mut tasks = [(0, 0); 64];
     for task in 0..64 {
         tasks[task as usize] = some_task(task);
     }
-    Ok(numbered_header(alloc, config, &tasks)?)
+    let mut header = numbered_header(alloc, config, &tasks)?;
+    header.queues = some_queues(alloc, mix)?;
+    Ok(header)
+}
+
+// Four queues, of sessions whose steps send and receive.
+fn some_queues(alloc: Global, mix: Mix) -> Result<Option<Items<QueueArgs>>, AllocError> {
+    if mix != Mix::Queues {
+        return Ok(None);
+    }
+    let empty = QueueArgs {
+        length: 1,
+        messages: 0,
+    };
+    let full = QueueArgs {
+        length: 2,
+        messages: 2,
+    };
+    let queues = Vec::from_slice(alloc, &[empty, full, empty, full])?;
+    Ok(Some(Items::new(queues)))
 }
 
 // Some priority and mask for each task.
@@ -323,6 +347,47 @@ fn some_hold_call(kernel: &Kernel, choice: u32) -> Call
             prev,
             inc: 1 + choice / 4096,
         },
+    }
+}
+
+// The step, or an interrupt that sends or receives in place of a yield and of some switches, and a
+// call that does in place of most calls that set something, chosen by a number of 16 bits.
+fn with_queue(step: Step, choice: u32) -> Step
+    requires { choice < 2 ^ 16 }
+{
+    match step {
+        Step::Switch { core } if choice > 60_000 => queue_interrupt(core, choice),
+        Step::Call { core, call, .. } if is_yield(call) => queue_interrupt(core, choice),
+        _ => in_place_of(step, choice, some_queue_call(choice)),
+    }
+}
+
+fn queue_interrupt(core: u32, choice: u32) -> Step {
+    let direction = if choice / 64 % 2 == 0 {
+        Direction::Send
+    } else {
+        Direction::Receive
+    };
+    Step::QueueInterrupt {
+        core,
+        queue: choice / 16 % 4,
+        direction,
+    }
+}
+
+// Waits are for 0 ticks, for some, or without end.
+fn some_queue_call(choice: u32) -> Call
+    requires { choice < 2 ^ 16 }
+{
+    let queue = choice / 16 % 4;
+    let ticks = match choice / 8192 {
+        0 => 4_294_967_295,
+        ticks => ticks - 1,
+    };
+    if choice / 64 % 2 == 0 {
+        Call::QueueSend { queue, ticks }
+    } else {
+        Call::QueueReceive { queue, ticks }
     }
 }
 

@@ -98,6 +98,11 @@ fn as_the_definitions_replay_holds(rt: HostRuntime) -> Result<(), Fail> {
     check_random(&rt, &rt, Mix::Holds)
 }
 
+#[test]
+fn as_the_definitions_replay_queues(rt: HostRuntime) -> Result<(), Fail> {
+    check_random(&rt, &rt, Mix::Queues)
+}
+
 // The steps of the store are these, and their replies and current tasks those of the definitions.
 pub(crate) fn check_store(
     rt: &impl Abort,

@@ -14,6 +14,7 @@ mod largest;
 mod mutexes;
 mod names;
 mod notes;
+mod queue_steps;
 mod queues;
 mod refused;
 mod rigs;

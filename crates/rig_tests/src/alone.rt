@@ -3,15 +3,18 @@ ghost use Rattle.core_rig.specs.Seats.{IsSeatOf};
 
 use crate::checks::{
     ISR, assert_call, assert_counts, assert_depth, assert_interrupt, assert_made, assert_reply,
-    assert_same, assert_switch, assert_tick, assert_tried, at, one_more,
+    assert_same, assert_send_tried, assert_sent, assert_switch, assert_tick, assert_tried, at,
+    one_more,
 };
 use crate::faults::check_arguments;
 use crate::many::fill;
 use crate::rigs::{closed, one_missing, one_task, refused, rig_of, turn};
 use crate::scenes::{Scene, play_alone, recorded, recorded_over};
 use crate::stopped::make_call;
-use bench_samples::PLAIN;
-use bench_types::{Call, Config, Fault, Note, NotifyAction, Refusal, Reply, Step};
+use bench_samples::{PLAIN, three_tasks};
+use bench_types::{
+    Call, Config, Fault, Items, Note, NotifyAction, QueueArgs, Refusal, Reply, Step,
+};
 use core_rig::{CloseFault, CoreSeat, Recorded, Rig, RigRefusal};
 use std::alloc::Global;
 use std::process::Abort;
@@ -39,6 +42,8 @@ pub enum Alone {
     Idle,
     /// Arguments that are at fault.
     Arguments,
+    /// A call receives what an interrupt of the other core sent.
+    Queue,
     /// Ticks and interrupts in the hold of the other core.
     OtherHold,
     /// An interrupt is tried in an own hold.
@@ -74,6 +79,7 @@ pub fn act(
         Alone::Close => close_hold(rt, rig, zero),
         Alone::Idle => assert_call(rt, rig, one, Call::Yield, Err(RigRefusal::IdleHere)),
         Alone::Arguments => check_arguments(rt, rig, zero, one),
+        Alone::Queue => check_queue(rt, rig, zero, one),
         Alone::OtherHold => check_other_hold(rt, rig, zero, one),
         Alone::OwnHold => check_own_hold(rt, rig, zero),
         Alone::NoRoom => check_no_room(rt, rig, zero),
@@ -100,6 +106,53 @@ fn check_tries(rt: &impl Abort, rig: &Rig, one: &mut CoreSeat)
     assert_counts(rt, one, 1, 1);
     assert_tried(rt, rig, one, one_more(2), Err(RigRefusal::Full));
     assert_counts(rt, one, 1, 1);
+}
+
+#[test]
+fn a_call_receives_what_an_interrupt_sent(rt: HostRuntime) -> Result<(), Fail> {
+    let mut header = three_tasks(rt.alloc(), false)?;
+    let queue = QueueArgs {
+        length: 1,
+        messages: 0,
+    };
+    header.queues = Some(Items::new(Vec::from_slice(rt.alloc(), &[queue])?));
+    let recorded = recorded_over(&rt, &rt, &header, 10, Scene::Alone(Alone::Queue))?;
+    assert_made(&rt, &recorded, &[2, 4]);
+    Ok(())
+}
+
+fn check_queue(rt: &(impl Wait + Abort), rig: &Rig, zero: &mut CoreSeat, one: &mut CoreSeat)
+    requires zero { IsSeatOf rig.now zero.old }
+    requires one { IsSeatOf rig.now one.old }
+    ensures zero { IsSeatOf rig.now zero.new }
+    ensures one { IsSeatOf rig.now one.new }
+{
+    let receive = Call::QueueReceive { queue: 0, ticks: 5 };
+    assert_call(rt, rig, zero, receive, at(0, Reply::Blocked));
+    assert_switch(rt, rig, zero, Ok(1));
+    check_sends(rt, rig, one);
+    assert_switch(rt, rig, one, Ok(4));
+    assert_call(rt, rig, one, Call::Finish, at(5, Reply::Flag(true)));
+}
+
+// The queue has room for one message. There is no queue 1.
+fn check_sends(rt: &(impl Wait + Abort), rig: &Rig, one: &mut CoreSeat)
+    requires { IsSeatOf rig.now one.old }
+    ensures { IsSeatOf rig.now one.new }
+{
+    let sent = Reply::Isr {
+        pass: true,
+        pend: true,
+    };
+    let full = Reply::Isr {
+        pass: false,
+        pend: true,
+    };
+    let no_queue = Err(RigRefusal::Fault(Fault::BadMutex));
+    assert_sent(rt, rig, one, 0, at(2, sent));
+    assert_send_tried(rt, rig, one, 0, at(3, full));
+    assert_sent(rt, rig, one, 1, no_queue);
+    assert_send_tried(rt, rig, one, 1, no_queue);
 }
 
 #[test]

@@ -2,7 +2,7 @@
 //! assertion is dear to prove where it stands.
 ghost use Rattle.core_rig.specs.Seats.{IsSeatOf};
 
-use bench_types::{Call, Entry, Note, NotifyAction, Reply};
+use bench_types::{Call, Direction, Entry, Note, NotifyAction, Reply};
 use core_rig::{Answer, CoreSeat, Recorded, Rig, RigRefusal};
 use std::fmt::Debug;
 use std::process::Abort;
@@ -83,6 +83,36 @@ pub fn assert_tried(
     ensures { IsSeatOf rig.now seat.new }
 {
     let answer = seat.try_interrupt(rig, note);
+    assert_answer(rt, answer, wanted);
+}
+
+/// Makes an interrupt that sends to the queue, which has to be answered so.
+pub fn assert_sent(
+    rt: &(impl Wait + Abort),
+    rig: &Rig,
+    seat: &mut CoreSeat,
+    queue: u32,
+    wanted: Result<Answer, RigRefusal>,
+)
+    requires { IsSeatOf rig.now seat.old }
+    ensures { IsSeatOf rig.now seat.new }
+{
+    let answer = seat.interrupt_queue(rt, rig, queue, Direction::Send);
+    assert_answer(rt, answer, wanted);
+}
+
+/// Tries an interrupt that sends to the queue, which has to be answered so.
+pub fn assert_send_tried(
+    rt: &impl Abort,
+    rig: &Rig,
+    seat: &mut CoreSeat,
+    queue: u32,
+    wanted: Result<Answer, RigRefusal>,
+)
+    requires { IsSeatOf rig.now seat.old }
+    ensures { IsSeatOf rig.now seat.new }
+{
+    let answer = seat.try_interrupt_queue(rig, queue, Direction::Send);
     assert_answer(rt, answer, wanted);
 }
 

@@ -1,7 +1,7 @@
 //! The numbers of runs, and limits of them. Each was counted by hand.
 use crate::settled::{TICK, call, session_of, switch};
 use bench_samples::three_tasks;
-use bench_types::{Call, CheckedSession};
+use bench_types::{Call, CheckedSession, Direction, Items, QueueArgs, Step};
 use report_figures::{Bound, figure_called, figures_of, subjects_of};
 use session_reports::{CheckStatus, Checked, Wanted, check, figures_of_session};
 use smp_kernel::Meter;
@@ -62,6 +62,95 @@ fn numbers_of_runs(rt: HostRuntime) -> Result<(), Fail> {
         ("A.switches", Some(1)),
     ];
     check_values(&rt, &rt, true, &settled)
+}
+
+const fn passes(queue: u32, direction: Direction) -> Step {
+    Step::QueueInterrupt {
+        core: 0,
+        queue,
+        direction,
+    }
+}
+
+/// A waits at queue 0 for a message, and B until queue 1 has room: in vain first, since an
+/// interrupt is faster, and then once more. The message for A comes before the sixth tick.
+fn session_of_queues(rt: &impl Abort, host: &HostRuntime) -> Result<CheckedSession, Fail> {
+    let steps = [
+        TICK,
+        call(0, 2, Call::QueueReceive { queue: 0, ticks: 5 }),
+        switch(0),
+        TICK,
+        call(1, 3, Call::QueueSend { queue: 1, ticks: 3 }),
+        switch(1),
+        TICK,
+        passes(1, Direction::Receive),
+        TICK,
+        passes(1, Direction::Send),
+        switch(1),
+        call(1, 3, Call::Finish),
+        switch(1),
+        TICK,
+        passes(0, Direction::Send),
+        TICK,
+        switch(0),
+        call(0, 2, Call::Finish),
+        TICK,
+    ];
+    let queues = [
+        QueueArgs {
+            length: 1,
+            messages: 0,
+        },
+        QueueArgs {
+            length: 2,
+            messages: 2,
+        },
+    ];
+    let mut header = three_tasks(host.alloc(), false)?;
+    header.queues = Some(Items::new(Vec::from_slice(host.alloc(), &queues)?));
+    session_of(rt, header, Vec::from_slice(host.alloc(), &steps)?)
+}
+
+#[test]
+fn numbers_of_queues(rt: HostRuntime) -> Result<(), Fail> {
+    let session = session_of_queues(&rt, &rt)?;
+    let wanted = [
+        ("A.blocked.queue", 4),
+        ("A.blocked.queue.0.receive", 4),
+        ("A.blocked.queue.0.send", 0),
+        ("B.blocked.queue", 2),
+        ("B.blocked.queue.1.send", 2),
+        ("B.blocked.queue.1.send.longest", 1),
+        ("B.blocked.queue.1.receive", 0),
+        ("queue.0.messages", 1),
+        ("queue.0.empty", 6),
+        ("queue.0.empty.longest", 5),
+        ("queue.0.full", 1),
+        ("queue.0.waits", 1),
+        ("queue.1.messages", 2),
+        ("queue.1.empty", 0),
+        ("queue.1.full", 6),
+        ("queue.1.full.longest", 3),
+        ("queue.1.waits", 1),
+    ];
+    for (name, number) in &wanted {
+        let found = value(&rt, &session, false, name)?;
+        assert_eq!(&rt; found, Some(*number), "{name}");
+    }
+    let subjects = subjects_of(rt.alloc(), session.header())?;
+    assert_eq!(&rt; subjects.len(), 3 * (23 + 5) + 2 * 3 + 2 * 4);
+    Ok(())
+}
+
+/// A session that says that there are no queues has no numbers of queues.
+#[test]
+fn numbers_without_queues(rt: HostRuntime) -> Result<(), Fail> {
+    let mut header = three_tasks(rt.alloc(), false)?;
+    header.queues = Some(Items::new(Vec::new(rt.alloc())));
+    header.check()?;
+    let subjects = subjects_of(rt.alloc(), &header)?;
+    assert_eq!(&rt; subjects.len(), 3 * 23 + 2 * 3);
+    Ok(())
 }
 
 fn checked(rt: &impl Abort, host: &HostRuntime, name: &str, bound: Bound) -> Result<Checked, Fail> {

@@ -22,6 +22,16 @@ pub const FIRST_RUN: &str = "{\"format\": 1, \"cores\": 2, \"priorities\": 5, \"
     {\"do\": \"switch\", \"core\": 0}, {\"do\": \"tick\"}, \
     {\"do\": \"yield\", \"core\": 0, \"by\": \"C\"}, {\"do\": \"switch\", \"core\": 0}]}";
 
+/// A waits for a message, which an interrupt of core 1 sends; a second one finds the queue full.
+pub const ONE_QUEUE: &str = "{\"format\": 3, \"cores\": 2, \"priorities\": 5, \"slicing\": false, \
+    \"tick\": 0, \"mutexes\": 0, \"notes\": 1, \"queues\": [{\"length\": 1, \"messages\": 0}], \
+    \"tasks\": [{\"name\": \"A\", \"priority\": 2, \"mask\": 3}, \
+    {\"name\": \"B\", \"priority\": 1, \"mask\": 3}, {\"name\": \"C\", \"priority\": 1, \"mask\": 3}], \
+    \"steps\": [{\"do\": \"queue_receive\", \"core\": 0, \"by\": \"A\", \"queue\": 0, \"ticks\": 5}, \
+    {\"do\": \"switch\", \"core\": 0}, {\"do\": \"isr_send\", \"core\": 1, \"queue\": 0}, \
+    {\"do\": \"isr_send\", \"core\": 1, \"queue\": 0}, {\"do\": \"switch\", \"core\": 1}, \
+    {\"do\": \"finish\", \"core\": 1, \"by\": \"A\"}]}";
+
 /// B is kept from both cores, in turn by higher tasks, a hold, preemption that is off, its mask and
 /// a switch that is to come; then A is, and C while one core alone is asked for it.
 pub const HINDERED: &str = "{\"format\": 1, \"cores\": 2, \"priorities\": 8, \"slicing\": false, \

@@ -1,6 +1,6 @@
 //! The text of a trace.
 
-use crate::samples::{FIRST_RUN, TWO_NOTES, session_in};
+use crate::samples::{FIRST_RUN, ONE_QUEUE, TWO_NOTES, session_in};
 use bench_types::Items;
 use run_views::{Interest, Places, trace};
 use smp_kernel::Meter;
@@ -63,6 +63,39 @@ step 4: finish core 0 by A
 place 5, tick 0; core 0 A; core 1 B
 ";
 
+const QUEUED: &str = "place 0, tick 0; core 0 A; core 1 B
+step 0: queue_receive core 0 by A queue 0 ticks 5
+  blocked: the call was made, and its task waits
+  core 0 pend set
+  A blocked until tick 5
+  A call begun
+place 1, tick 0; core 0 A, due by pend; core 1 B
+step 1: switch core 0
+  done: the step was made
+  core 0 current A to C
+  core 0 pend cleared
+place 2, tick 0; core 0 C; core 1 B
+step 2: isr_send core 1 queue 0
+  isr true true: the message was sent, and the core has to switch
+  core 1 pend set
+  A woken
+  queue 0 messages 0 to 1
+place 3, tick 0; core 0 C; core 1 B, due by pend
+step 3: isr_send core 1 queue 0
+  isr false true: the queue is full, and the core has to switch
+place 4, tick 0; core 0 C; core 1 B, due by pend
+step 4: switch core 1
+  done: the step was made
+  core 1 current B to A
+  core 1 pend cleared
+place 5, tick 0; core 0 C; core 1 A
+step 5: finish core 1 by A
+  true: the call succeeded
+  A call ended
+  queue 0 messages 1 to 0
+place 6, tick 0; core 0 C; core 1 A
+";
+
 #[test]
 fn a_whole_run(rt: HostRuntime) -> Result<(), Fail> {
     let text = trace_of(&rt, FIRST_RUN, 0, u32::MAX)?;
@@ -74,6 +107,13 @@ fn a_whole_run(rt: HostRuntime) -> Result<(), Fail> {
 fn a_run_with_two_notifications(rt: HostRuntime) -> Result<(), Fail> {
     let text = trace_of(&rt, TWO_NOTES, 0, u32::MAX)?;
     expect_text(&rt, text.as_str(), INDEXED);
+    Ok(())
+}
+
+#[test]
+fn a_run_with_a_queue(rt: HostRuntime) -> Result<(), Fail> {
+    let text = trace_of(&rt, ONE_QUEUE, 0, u32::MAX)?;
+    expect_text(&rt, text.as_str(), QUEUED);
     Ok(())
 }
 

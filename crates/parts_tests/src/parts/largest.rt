@@ -8,7 +8,8 @@ use crate::parts::ready::{expect_mask, expect_priorities};
 use crate::parts::started::is_checked;
 use bench_samples::{LARGEST, crowd};
 use bench_types::{
-    Header, MAX_CORES, MAX_MUTEXES, MAX_NOTES, MAX_PRIORITIES, MAX_TASKS, NoteState, NotifyAction,
+    Header, MAX_CORES, MAX_MUTEXES, MAX_NOTES, MAX_PRIORITIES, MAX_QUEUES, MAX_TASKS, NoteState,
+    NotifyAction,
 };
 use mutex_inherit::Mutexes;
 use notify_core::Notes;
@@ -22,6 +23,9 @@ use tick_delay::Delays;
 const TASKS: u32 = MAX_CORES + MAX_TASKS;
 
 const LAST: u32 = TASKS - 1;
+
+// The event lists of all mutexes and all queues.
+const LISTS: u32 = MAX_MUTEXES + 2 * MAX_QUEUES;
 
 // The copy is the same as the cores of the largest header.
 fn check_cores(rt: &impl Abort, cores: &Cores, copy: &Cores) {
@@ -123,6 +127,7 @@ fn mutexes(rt: HostRuntime) -> Result<(), Fail> {
         TASKS,
         MAX_PRIORITIES,
         MAX_MUTEXES,
+        LISTS,
         Vec::new(rt.alloc()),
     )?;
     take(&rt, &mut mutexes, LAST, MAX_MUTEXES - 1);

@@ -1,4 +1,6 @@
-//! Mutexes, and the priorities that their holders inherit.
+//! Mutexes, and the priorities that their holders inherit; and event lists.
+//!
+//! There are two mutexes, with event lists 0 and 1. Event lists 2 and 3 are those of a queue.
 ghost use Rattle.std.specs.Prelude.{◌≡◌, ◌<◌, length, IsTrue};
 
 use crate::expected::{expect_is, expect_same};
@@ -37,6 +39,7 @@ fn wait(
     ensures tasks { mutexes.new.tasks ≡ tasks }
     ensures priorities { mutexes.new.priorities ≡ 5 }
     ensures mutexes { length mutexes.new.holders ≡ 2 }
+    ensures lists { mutexes.new.lists ≡ mutexes.old.lists }
     ensures values { length mutexes.new.values ≡ length mutexes.old.values }
 {
     assert!(rt; has_tasks(cores, tasks));
@@ -44,7 +47,7 @@ fn wait(
     assert!(rt; task < tasks && mutex < 2);
     let is_held = mutexes.holder(mutex).is_some();
     assert!(rt; is_held);
-    let is_free = mutexes.waits_on(task).is_none();
+    let is_free = mutexes.waits_in(task).is_none();
     assert!(rt; is_free);
     mutexes.wait_on(cores, 0, task, mutex)
 }
@@ -97,6 +100,7 @@ fn check_wait(rt: &impl Abort, cores: &mut Cores, mutexes: &mut Mutexes)
     ensures tasks { mutexes.new.tasks ≡ 4 }
     ensures priorities { mutexes.new.priorities ≡ 5 }
     ensures mutexes { length mutexes.new.holders ≡ 2 }
+    ensures lists { mutexes.new.lists ≡ mutexes.old.lists }
     ensures values { length mutexes.new.values ≡ length mutexes.old.values }
 {
     expect_same(rt, mutexes.holder(0), None);
@@ -116,10 +120,10 @@ fn check_give(rt: &impl Abort, cores: &mut Cores, mutexes: &mut Mutexes, copy: &
     expect_same(rt, give(rt, cores, mutexes, 2, 0), Some(3));
     expect_same(rt, in_use(rt, cores, 2), 1);
     expect_is(rt, !copy.same(mutexes));
-    assert_eq!(rt; mutexes.waits_on(3), Some(0));
+    assert_eq!(rt; mutexes.waits_in(3), Some(0));
 
     mutexes.leave(3);
-    expect_same(rt, mutexes.waits_on(3), None);
+    expect_same(rt, mutexes.waits_in(3), None);
 }
 
 fn check_holder(
@@ -131,6 +135,7 @@ fn check_holder(
     requires tasks { mutexes.old.tasks ≡ 4 }
     requires priorities { mutexes.old.priorities ≡ 5 }
     requires mutexes { length mutexes.old.holders ≡ 2 }
+    requires lists { mutexes.old.lists ≡ 4 }
     requires values { length mutexes.old.values ≡ 0 }
 {
     check_wait(rt, cores, mutexes);
@@ -143,9 +148,10 @@ fn check_holder(
 fn check_copied(rt: &impl Abort, alloc: Global, mutexes: &Mutexes) -> Result<(), Fail>
     requires tasks { mutexes.now.tasks ≡ 4 }
     requires mutexes { length mutexes.now.holders ≡ 2 }
+    requires lists { mutexes.now.lists ≡ 4 }
     requires values { length mutexes.now.values ≡ 0 }
 {
-    let mut others = Mutexes::new(alloc, 4, 5, 2, Vec::new(alloc))?;
+    let mut others = Mutexes::new(alloc, 4, 5, 2, 4, Vec::new(alloc))?;
     expect_is(rt, !others.same(mutexes));
     others.copy_from(mutexes);
     expect_is(rt, others.same(mutexes));
@@ -155,7 +161,7 @@ fn check_copied(rt: &impl Abort, alloc: Global, mutexes: &Mutexes) -> Result<(),
 #[test]
 fn holder_inherits(rt: HostRuntime) -> Result<(), Fail> {
     let mut cores = started(&rt, rt.alloc(), false, &[(1, 3), (3, 3)])?;
-    let mut mutexes = Mutexes::new(rt.alloc(), 4, 5, 2, Vec::new(rt.alloc()))?;
+    let mut mutexes = Mutexes::new(rt.alloc(), 4, 5, 2, 4, Vec::new(rt.alloc()))?;
     check_holder(&rt, rt.alloc(), &mut cores, &mut mutexes)
 }
 
@@ -181,7 +187,7 @@ fn check_timeout(rt: &impl Abort, cores: &mut Cores, mutexes: &mut Mutexes)
 #[test]
 fn holder_is_lowered(rt: HostRuntime) -> Result<(), Fail> {
     let mut cores = started(&rt, rt.alloc(), false, &[(1, 3), (3, 3)])?;
-    let mut mutexes = Mutexes::new(rt.alloc(), 4, 5, 2, Vec::new(rt.alloc()))?;
+    let mut mutexes = Mutexes::new(rt.alloc(), 4, 5, 2, 4, Vec::new(rt.alloc()))?;
     check_timeout(&rt, &mut cores, &mut mutexes);
     Ok(())
 }
@@ -192,7 +198,7 @@ fn queue(rt: &impl Abort, cores: &mut Cores, mutexes: &mut Mutexes)
     requires priorities { mutexes.old.priorities ≡ 5 }
     requires mutexes { length mutexes.old.holders ≡ 2 }
     ensures tasks { mutexes.new.tasks ≡ 5 }
-    ensures mutexes { length mutexes.new.holders ≡ 2 }
+    ensures lists { mutexes.new.lists ≡ mutexes.old.lists }
 {
     wait(rt, cores, mutexes, 5, 3, 1);
     wait(rt, cores, mutexes, 5, 2, 1);
@@ -208,7 +214,7 @@ fn next(lists: &Lists, task: u32) -> Option<u32>
 // The waiters of mutex 1 stand by their priorities, and then in the order in which they came.
 fn check_queue(rt: &impl Abort, mutexes: &Mutexes)
     requires tasks { mutexes.now.tasks ≡ 5 }
-    requires mutexes { length mutexes.now.holders ≡ 2 }
+    requires lists { mutexes.now.lists ≡ 4 }
 {
     let lists = mutexes.lists();
     expect_same(rt, lists.len(0), 0);
@@ -222,7 +228,7 @@ fn check_queue(rt: &impl Abort, mutexes: &Mutexes)
 #[test]
 fn equal_waiters_stand_in_turn(rt: HostRuntime) -> Result<(), Fail> {
     let mut cores = started(&rt, rt.alloc(), false, &[(1, 3), (1, 3), (3, 3)])?;
-    let mut mutexes = Mutexes::new(rt.alloc(), 5, 5, 2, Vec::new(rt.alloc()))?;
+    let mut mutexes = Mutexes::new(rt.alloc(), 5, 5, 2, 4, Vec::new(rt.alloc()))?;
     expect_is(&rt, mutexes.try_take(0, 1));
     queue(&rt, &mut cores, &mut mutexes);
     check_queue(&rt, &mutexes);
@@ -236,7 +242,7 @@ fn queue_by_values(rt: &impl Abort, cores: &mut Cores, mutexes: &mut Mutexes)
     requires priorities { mutexes.old.priorities ≡ 5 }
     requires mutexes { length mutexes.old.holders ≡ 2 }
     ensures tasks { mutexes.new.tasks ≡ 5 }
-    ensures mutexes { length mutexes.new.holders ≡ 2 }
+    ensures lists { mutexes.new.lists ≡ mutexes.old.lists }
 {
     wait(rt, cores, mutexes, 5, 3, 1);
     wait(rt, cores, mutexes, 5, 2, 1);
@@ -250,9 +256,77 @@ fn queue_by_values(rt: &impl Abort, cores: &mut Cores, mutexes: &mut Mutexes)
 fn revalued_waiter_stays_in_its_place(rt: HostRuntime) -> Result<(), Fail> {
     let mut cores = started(&rt, rt.alloc(), false, &[(1, 3), (1, 3), (3, 3)])?;
     let values = vec![in rt.alloc(); 0, 0, 2, 3, 1]?;
-    let mut mutexes = Mutexes::new(rt.alloc(), 5, 5, 2, values)?;
+    let mut mutexes = Mutexes::new(rt.alloc(), 5, 5, 2, 4, values)?;
     expect_is(&rt, mutexes.try_take(0, 1));
     queue_by_values(&rt, &mut cores, &mut mutexes);
     check_queue(&rt, &mutexes);
+    Ok(())
+}
+
+// The task begins to wait in the event list, with this priority in use.
+fn wait_in(rt: &impl Abort, mutexes: &mut Mutexes, task: u32, list: u32, in_use: u32)
+    requires tasks { mutexes.old.tasks ≡ 5 }
+    requires priorities { mutexes.old.priorities ≡ 5 }
+    requires lists { mutexes.old.lists ≡ 4 }
+    ensures tasks { mutexes.new.tasks ≡ 5 }
+    ensures priorities { mutexes.new.priorities ≡ 5 }
+    ensures lists { mutexes.new.lists ≡ 4 }
+{
+    assert!(rt; task < 5 && list < 4 && in_use < 5);
+    let is_free = mutexes.waits_in(task).is_none();
+    assert!(rt; is_free);
+    mutexes.wait_in(task, list, in_use);
+    expect_same(rt, mutexes.waits_in(task), Some(list));
+}
+
+// Tasks 2, 3 and 4 wait to send to the queue, in this order, and task 0 waits to receive from it.
+fn queue_in_lists(rt: &impl Abort, mutexes: &mut Mutexes)
+    requires tasks { mutexes.old.tasks ≡ 5 }
+    requires priorities { mutexes.old.priorities ≡ 5 }
+    requires lists { mutexes.old.lists ≡ 4 }
+    ensures tasks { mutexes.new.tasks ≡ 5 }
+    ensures lists { mutexes.new.lists ≡ 4 }
+{
+    wait_in(rt, mutexes, 2, 2, 1);
+    wait_in(rt, mutexes, 3, 2, 3);
+    wait_in(rt, mutexes, 4, 2, 1);
+    wait_in(rt, mutexes, 0, 3, 4);
+}
+
+// They stand by the priorities, and then in the order in which they came.
+fn check_lists(rt: &impl Abort, mutexes: &Mutexes)
+    requires tasks { mutexes.now.tasks ≡ 5 }
+    requires lists { mutexes.now.lists ≡ 4 }
+{
+    expect_same(rt, mutexes.first_task(0), None);
+    expect_same(rt, mutexes.first_task(2), Some(3));
+    expect_same(rt, mutexes.first_task(3), Some(0));
+    let lists = mutexes.lists();
+    expect_same(rt, lists.len(2), 3);
+    expect_same(rt, next(lists, 3), Some(2));
+    expect_same(rt, next(lists, 2), Some(4));
+    expect_same(rt, next(lists, 4), None);
+}
+
+#[test]
+fn tasks_wait_at_a_queue(rt: HostRuntime) -> Result<(), Fail> {
+    let mut mutexes = Mutexes::new(rt.alloc(), 5, 5, 2, 4, Vec::new(rt.alloc()))?;
+    let copy = mutexes.copy(rt.alloc())?;
+    queue_in_lists(&rt, &mut mutexes);
+    check_lists(&rt, &mutexes);
+    expect_is(&rt, !copy.same(&mutexes));
+    Ok(())
+}
+
+// They stand by their list values, whatever their priorities in use.
+#[test]
+fn tasks_wait_at_a_queue_by_list_values(rt: HostRuntime) -> Result<(), Fail> {
+    let values = vec![in rt.alloc(); 4, 0, 2, 3, 2]?;
+    let mut mutexes = Mutexes::new(rt.alloc(), 5, 5, 2, 4, values)?;
+    wait_in(&rt, &mut mutexes, 2, 2, 4);
+    wait_in(&rt, &mut mutexes, 3, 2, 0);
+    wait_in(&rt, &mut mutexes, 4, 2, 4);
+    wait_in(&rt, &mut mutexes, 0, 3, 0);
+    check_lists(&rt, &mutexes);
     Ok(())
 }

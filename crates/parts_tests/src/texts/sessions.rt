@@ -26,6 +26,13 @@ pub fn with_notes(alloc: Global, notes: u32, steps: &str) -> Result<String, Allo
     )
 }
 
+/// A session of format 3 of two queues and these steps.
+pub fn with_two_queues(alloc: Global, steps: &str) -> Result<String, AllocError> {
+    format!(in alloc;
+        "{{\"format\":3,\"cores\":2,\"priorities\":5,\"slicing\":false,\"tick\":0,\"mutexes\":0,\"notes\":1,\"queues\":[{{\"length\":2,\"messages\":1}},{{\"length\":1,\"messages\":0}}],\"tasks\":[{{\"name\":\"A\",\"priority\":2,\"mask\":3}},{{\"name\":\"B\",\"priority\":1,\"mask\":3}}],\"steps\":[{steps}]}}"
+    )
+}
+
 /// The session that the text is.
 pub fn session_of(alloc: Global, text: &str) -> Result<(Header, Vec<Step>), Fail>
     ensures { IfOk result

@@ -2,19 +2,24 @@
 //! it, and what a value is in place of a number. The nearest words were counted by hand.
 
 use crate::expected::expect_same;
-use crate::texts::sessions::with_steps;
+use crate::texts::sessions::{with_steps, with_two_queues};
 use session_text::{Detail, Expected, Found, Shown, Stray, Words, read_session};
 use std::alloc::Global;
 use std::process::Abort;
 use std::test::Fail;
 
-/// What a step of a session with the tasks A and B is refused for.
-fn detail_of(alloc: Global, step: &str) -> Result<Detail, Fail> {
-    let text = with_steps(alloc, 0, step)?;
+/// What the text of a session is refused for.
+fn detail_in(alloc: Global, text: &str) -> Result<Detail, Fail> {
     match read_session(alloc, text.as_bytes()) {
         Ok(_) => Err(Fail::from("the text is a session")),
         Err(fault) => Ok(fault.detail),
     }
+}
+
+/// What a step of a session with the tasks A and B is refused for.
+fn detail_of(alloc: Global, step: &str) -> Result<Detail, Fail> {
+    let text = with_steps(alloc, 0, step)?;
+    detail_in(alloc, text.as_str())
 }
 
 /// The text that is told, the nearest word, and all words.
@@ -102,6 +107,32 @@ fn texts_that_are_no_words(rt: HostRuntime) -> Result<(), Fail> {
             "{{\"do\":\"isr_notify\",\"core\":0,\"to\":\"A\",\"action\":\"{word}\"}}"
         )?;
         match detail_of(rt.alloc(), step.as_str())? {
+            Detail::NoWord(stray) => check_stray(&rt, &stray, printed),
+            _ => return Err(Fail::from("the text is no word")),
+        }
+    }
+    Ok(())
+}
+
+/// The words of `do` in format 3.
+const KINDS: &str =
+    "tick, switch, isr_notify, yield, delay, delay_until, priority_set, affinity_set, preempt_off, preempt_on, notify, notify_wait, notify_take, state_clear, value_clear, mutex_take, mutex_give, finish, hold_open, hold_close, queue_send, queue_receive, isr_send, isr_receive";
+
+/// Words of `do` that are none, each nearest to one that format 3 alone has.
+const NO_KINDS: &[(&str, Printed)] = &[
+    ("isr_sent", (Some("isr_sent"), Some("isr_send"), KINDS)),
+    (
+        "queue_recieve",
+        (Some("queue_recieve"), Some("queue_receive"), KINDS),
+    ),
+];
+
+#[test]
+fn words_of_queues_that_are_none(rt: HostRuntime) -> Result<(), Fail> {
+    for (word, printed) in NO_KINDS {
+        let step = format!(in rt.alloc(); "{{\"do\":\"{word}\",\"core\":0,\"queue\":0}}")?;
+        let text = with_two_queues(rt.alloc(), step.as_str())?;
+        match detail_in(rt.alloc(), text.as_str())? {
             Detail::NoWord(stray) => check_stray(&rt, &stray, printed),
             _ => return Err(Fail::from("the text is no word")),
         }

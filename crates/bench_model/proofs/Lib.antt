@@ -1,3 +1,4 @@
 pub mod Ranks
 pub mod Slots
 pub mod Untils
+pub mod Waits

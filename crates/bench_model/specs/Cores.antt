@@ -34,6 +34,7 @@ bare_view cores = record {
     mutexes = 0;
     notes = 0;
     queues = None;
+    units = 1;
     tasks = length cores.control.tasks;
   };
   control = cores.control;

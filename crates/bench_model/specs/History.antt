@@ -9,7 +9,7 @@ use Rattle.bench_types.specs.declared.reply.Reply.TheVariants.{Refused}
 use Rattle.bench_types.specs.declared.step.Call.{Call}
 use Rattle.bench_types.specs.declared.step.Call.TheVariants.{HoldOpen, HoldClose}
 use Rattle.bench_types.specs.declared.step.Step.{Step}
-use Rattle.bench_types.specs.declared.step.Step.TheVariants.{Tick, Switch, Interrupt, QueueInterrupt}
+use Rattle.bench_types.specs.declared.step.Step.TheVariants.{Tick, Switch, Interrupt, QueueInterrupt, ResumeInterrupt, Pass}
 use Rattle.bench_types.specs.declared.step.Step.TheVariants as steps
 use Rattle.bench_types.specs.Step.{core_of, settings_of, IsCheckedStep}
 use Rattle.bench_model.specs.Control.{Control, current}
@@ -64,6 +64,8 @@ is_kept_out hold (Switch core) = is_some hold
 is_kept_out hold (steps.Call core task call) = is_held_elsewhere core hold
 is_kept_out hold (Interrupt core note) = false
 is_kept_out hold (QueueInterrupt core queue direction) = false
+is_kept_out hold (ResumeInterrupt core task) = false
+is_kept_out hold (Pass units) = false
 
 -- How many entries more there is room for: each time that the kernel is held keeps one place, for
 -- the call that closes it.
@@ -83,6 +85,8 @@ places_of hold (Switch core) = 1
 places_of hold (steps.Call core task call) = places_for hold core call
 places_of hold (Interrupt core note) = 1
 places_of hold (QueueInterrupt core queue direction) = 1
+places_of hold (ResumeInterrupt core task) = 1
+places_of hold (Pass units) = 1
 
 -- a call is made by the current task of its core
 abbrev pub IsByCurrent : Control → Step → Type 0
@@ -91,6 +95,8 @@ IsByCurrent control (Switch core) = ⊤
 IsByCurrent control (steps.Call core task call) = current control core ≡ task
 IsByCurrent control (Interrupt core note) = ⊤
 IsByCurrent control (QueueInterrupt core queue direction) = ⊤
+IsByCurrent control (ResumeInterrupt core task) = ⊤
+IsByCurrent control (Pass units) = ⊤
 
 -- each call of a history is made by the current task of its core at that place
 abbrev pub AreByCurrent : Header → List Entry → Type 0

@@ -22,6 +22,7 @@ pub mod Shifted
 pub mod Sound
 pub mod Start
 pub mod State
+pub mod Suspending
 pub mod Steps
 pub mod Table
 pub mod Tallied

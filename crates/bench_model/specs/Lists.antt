@@ -1,7 +1,7 @@
 -- What can be seen of a kernel: its orders as lists, the tick count as 32 bits, and how long each
 -- task still waits.
 use Rattle.bench_types.specs.declared.reply.Reply.{Reply}
-use Rattle.std.specs.Prelude.{ℕ, ◌+◌, ◌-◌, ◌%◌, ◌^◌, List, map, filter, find, Bool, not, ◌==◌, nat_le, Option, None, option_map, unwrap_or, is_some}
+use Rattle.std.specs.Prelude.{ℕ, ◌+◌, ◌-◌, ◌%◌, ◌^◌, List, map, filter, find, Bool, not, ◌||◌, ◌==◌, nat_le, Option, None, option_map, unwrap_or, is_some}
 use Rattle.std.specs.Prelude.{if◌then◌else◌, slice_index_or, slice_set}
 use Rattle.std.specs.Option.{option_map_or}
 use Rattle.bench_types.specs.declared.kernel_data.Delayed.{Delayed}
@@ -11,7 +11,7 @@ use Rattle.bench_model.specs.Control.{Control, task_at, may_select}
 use Rattle.bench_model.specs.State.{State, QueueOps}
 use Rattle.list_orders.specs.Search.{by_stamp, placed, ranked, without, has}
 use Rattle.bench_model.specs.Table.{Stamps, Table, row_at, stamp_of, tasks_of, stands_ready, wake_in}
-use Rattle.bench_model.specs.Waiters.{first_of, list_value_of, revalued, with_wait, without_waiter}
+use Rattle.bench_model.specs.Waiters.{first_of, list_value_of, revalued, list_awaited, with_wait, without_waiter}
 
 pub record Lists : Type 0 where
   -- the ready tasks, running ones too: the greatest priority in use first, each priority in the
@@ -84,6 +84,21 @@ delay task ticks wait lists = record lists {
   deadlines = slice_set lists.deadlines task (if is_some wait then ticks else None);
 }
 
+-- the ticks that are left in the entry of the task, if there is one
+abbrev pub left_in : ℕ → List Delayed → Option ℕ
+left_in task delayed = option_map (λ entry. entry.left) (find (λ entry. entry.task == task) delayed)
+
+abbrev pub waits : ℕ → Lists → Bool
+waits task lists =
+    is_some (left_in task lists.delayed) || is_some (list_awaited task lists.waiters)
+
+unfoldable pub suspend : ℕ → Lists → Lists
+suspend task lists = record lists {
+  ready = without task lists.ready;
+  delayed = without_delay task lists.delayed;
+  waiters = without_waiter task lists.waiters;
+}
+
 abbrev pub tick_count : Lists → ℕ
 tick_count lists = lists.tick
 
@@ -123,6 +138,8 @@ list_queues = record {
   pick = pick;
   add_to_ready_list = add_to_ready_list;
   delay = delay;
+  waits = waits;
+  suspend = suspend;
   tick_count = tick_count;
   advance = advance;
   due = due;

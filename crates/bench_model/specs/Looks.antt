@@ -8,11 +8,13 @@ use Rattle.bench_model.specs.Mutexes.{held_by}
 use Rattle.bench_model.specs.Notes.{note_at, slot_of}
 use Rattle.bench_model.specs.State.{State, call_at}
 use Rattle.list_orders.specs.Search.{has}
-use Rattle.bench_model.specs.Table.{Stamps, Table, row_at, wake_in, is_ready}
-use Rattle.bench_model.specs.Lists.{View}
+use Rattle.bench_model.specs.Table.{Stamps, Table, stamp_queues, row_at, wake_in, is_ready}
+use Rattle.bench_model.specs.Lists.{View, list_queues}
+pub use Rattle.bench_model.specs.Lists.{left_in}
+use Rattle.bench_model.specs.Suspending.{is_suspended}
 
--- the ticks to the wake of a blocked task, none for a ready task and for one that waits without end
--- (FreeRTOS Reference Manual, vTaskDelay)
+-- the ticks to the wake of a blocked task, none for a ready task, for one that waits without end
+-- and for a suspended one (FreeRTOS Reference Manual, vTaskDelay)
 abbrev pub ticks_left : ℕ → Stamps → Option ℕ
 ticks_left task stamps =
     option_map (λ wake. wake - stamps.tick) (wake_in (row_at stamps task).standing)
@@ -29,16 +31,13 @@ task_look table task = let block = task_at table.control task in record {
   mask = block.mask;
   preempt = block.preempt;
   ready = is_ready task table.orders;
+  suspended = is_suspended stamp_queues task table;
   left = ticks_left task table.orders;
   held = held_by table.holders task;
   in_call = is_some (call_at table.calls task);
   value = (note_look table task 0).value;
   state = (note_look table task 0).state;
 }
-
--- the ticks that are left in the entry of the task, if there is one
-abbrev pub left_in : ℕ → List Delayed → Option ℕ
-left_in task delayed = option_map (λ entry. entry.left) (find (λ entry. entry.task == task) delayed)
 
 -- what lists show of a task
 unfoldable pub look_in : View → ℕ → TaskLook
@@ -48,6 +47,7 @@ look_in view task = let block = task_at view.control task in record {
   mask = block.mask;
   preempt = block.preempt;
   ready = has task view.orders.ready;
+  suspended = is_suspended list_queues task view;
   left = left_in task view.orders.delayed;
   held = held_by view.holders task;
   in_call = is_some (call_at view.calls task);

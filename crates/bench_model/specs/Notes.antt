@@ -101,6 +101,10 @@ state_cleared note =
 unfoldable pub value_cleared : ℕ → Notification → ℕ × Notification
 value_cleared bits note = (note.value, record note { value = without_bits bits note.value })
 
+-- Nobody waits for it any more (V11 tasks.c, vTaskSuspend).
+unfoldable pub unawaited : Notification → Notification
+unawaited note = record note { state = if is_waiting note.state then NotWaiting else note.state }
+
 -- what a rule answers of one notification, and all of them with what it makes of it
 abbrev pub of_slot :
     {A : Type 0} → ℕ → (Notification → A × Notification) → List Notification → A × List Notification

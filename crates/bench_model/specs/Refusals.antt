@@ -4,10 +4,10 @@ use Rattle.std.specs.Option.{option_or, option_map_or}
 use Rattle.bench_types.specs.declared.reply.Refusal.{Refusal}
 use Rattle.bench_types.specs.declared.reply.Refusal.TheVariants.{Held, Displaced, SwitchDue, InCall, NotInCall, HoldBlock, NoHold, HoldDeep, NotHolder, NotDue}
 use Rattle.bench_types.specs.declared.step.Step.{Step}
-use Rattle.bench_types.specs.declared.step.Step.TheVariants.{Tick, Switch, Interrupt, QueueInterrupt}
+use Rattle.bench_types.specs.declared.step.Step.TheVariants.{Tick, Switch, Interrupt, QueueInterrupt, ResumeInterrupt, Pass}
 use Rattle.bench_types.specs.declared.step.Step.TheVariants as steps
 use Rattle.bench_types.specs.declared.step.Call.{Call}
-use Rattle.bench_types.specs.declared.step.Call.TheVariants.{Delay, DelayUntil, NotifyWait, NotifyTake, MutexTake, MutexGive, QueueSend, QueueReceive, Finish, HoldOpen, HoldClose}
+use Rattle.bench_types.specs.declared.step.Call.TheVariants.{Delay, DelayUntil, NotifyWait, NotifyTake, MutexTake, MutexGive, QueueSend, QueueReceive, Suspend, Finish, HoldOpen, HoldClose}
 use Rattle.bench_types.specs.declared.step.Direction.TheVariants.{Send, Receive}
 use Rattle.bench_types.specs.declared.step.Unfinished.{Unfinished}
 use Rattle.bench_types.specs.Limits.{max_depth}
@@ -41,9 +41,9 @@ give_refusal holders task (MutexGive mutex) =
 give_refusal holders task call = None
 
 module _ {Orders : Type 0} (ops : QueueOps Orders) where
-  -- A call of the task would make it wait: it delays for some ticks, or it has nothing to complete
-  -- with and some ticks to wait for it. (A task that holds the kernel has no unfinished call that
-  -- could wait again.)
+  -- A call of the task would make it wait: it delays for some ticks, it has nothing to complete
+  -- with and some ticks to wait for it, or it suspends itself. (A task that holds the kernel has no
+  -- unfinished call that could wait again.)
   unfoldable pub would_block : ℕ → Call → State Orders → Bool
   would_block task (Delay ticks) state = nat_lt 0 ticks
   would_block task (DelayUntil prev inc) state =
@@ -59,6 +59,7 @@ module _ {Orders : Type 0} (ops : QueueOps Orders) where
       not (can_pass Send (queue_at state.queues queue)) && nat_lt 0 ticks
   would_block task (QueueReceive queue ticks) state =
       not (can_pass Receive (queue_at state.queues queue)) && nat_lt 0 ticks
+  would_block task (Suspend other) state = other == task
   would_block task call state = false
 
   -- a core that holds the kernel lets no task wait and holds it at most `max_depth` times over, and
@@ -86,6 +87,8 @@ module _ {Orders : Type 0} (ops : QueueOps Orders) where
   refusal Tick state = None
   refusal (Interrupt core note) state = None
   refusal (QueueInterrupt core queue direction) state = None
+  refusal (ResumeInterrupt core task) state = None
+  refusal (Pass units) state = None
   refusal (Switch core) state =
       if is_some state.hold then Some Held
       else (if is_due state.control core then None else Some NotDue)

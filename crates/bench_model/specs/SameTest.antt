@@ -15,7 +15,7 @@ use Rattle.bench_types.specs.declared.note.NoteState.TheVariants.{NotWaiting, Wa
 use Rattle.bench_types.specs.declared.note.Notification.{Notification}
 use Rattle.bench_types.specs.declared.step.Call.{Call}
 use Rattle.bench_types.specs.declared.step.Call.TheVariants.{Yield, Delay, DelayUntil, PrioritySet, AffinitySet, PreemptOff, PreemptOn, Notify, NotifyWait}
-use Rattle.bench_types.specs.declared.step.Call.TheVariants.{NotifyTake, StateClear, ValueClear, MutexTake, MutexGive, QueueSend, QueueReceive, Finish, HoldOpen, HoldClose}
+use Rattle.bench_types.specs.declared.step.Call.TheVariants.{NotifyTake, StateClear, ValueClear, MutexTake, MutexGive, QueueSend, QueueReceive, Suspend, Resume, Finish, HoldOpen, HoldClose}
 use Rattle.bench_types.specs.declared.step.Direction.{Direction}
 use Rattle.bench_types.specs.declared.step.Direction.TheVariants.{Send, Receive}
 use Rattle.bench_types.specs.declared.step.Unfinished.{Unfinished}
@@ -43,7 +43,8 @@ abbrev pub are_same_settings : Settings → Settings → Bool
 are_same_settings a b =
     a.cores == b.cores && a.priorities == b.priorities && are_same_bools a.slicing b.slicing
     && a.mutexes == b.mutexes && a.notes == b.notes
-    && are_same_options (λ m n. m == n) a.queues b.queues && a.tasks == b.tasks
+    && are_same_options (λ m n. m == n) a.queues b.queues && a.units == b.units
+    && a.tasks == b.tasks
 
 abbrev pub are_same_looks : CoreLook → CoreLook → Bool
 are_same_looks a b =
@@ -97,6 +98,8 @@ are_same_calls (MutexGive mutex) (MutexGive other) = mutex == other
 are_same_calls (QueueSend queue ticks) (QueueSend other others) = queue == other && ticks == others
 are_same_calls (QueueReceive queue ticks) (QueueReceive other others) =
     queue == other && ticks == others
+are_same_calls (Suspend task) (Suspend other) = task == other
+are_same_calls (Resume task) (Resume other) = task == other
 are_same_calls Finish Finish = true
 are_same_calls HoldOpen HoldOpen = true
 are_same_calls HoldClose HoldClose = true

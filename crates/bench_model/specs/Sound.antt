@@ -6,7 +6,7 @@ use Rattle.bench_types.specs.declared.kernel_data.Hold.{Hold}
 use Rattle.bench_types.specs.declared.kernel_data.TaskControl.{TaskControl}
 use Rattle.bench_types.specs.declared.note.Notification.{Notification}
 use Rattle.bench_types.specs.declared.step.Step.{Step}
-use Rattle.bench_types.specs.declared.step.Step.TheVariants.{Tick, Switch, Interrupt, QueueInterrupt}
+use Rattle.bench_types.specs.declared.step.Step.TheVariants.{Tick, Switch, Interrupt, QueueInterrupt, ResumeInterrupt, Pass}
 use Rattle.bench_types.specs.declared.step.Step.TheVariants as steps
 use Rattle.bench_types.specs.declared.kernel_data.EventWait.{EventWait}
 use Rattle.bench_types.specs.declared.kernel_data.Settings.{Settings}
@@ -20,7 +20,7 @@ use Rattle.bench_model.specs.Notes.{note_at}
 use Rattle.bench_model.specs.State.{call_at, holder_at}
 use Rattle.bench_model.specs.Turns.{AreByList, AreInTurn, WaitOnce}
 use Rattle.bench_model.specs.Waiters.{event_list, event_lists, list_awaited}
-use Rattle.bench_model.specs.Table.{Stamps, Table, row_at, stamp_of, wake_in, deadline_at, is_ready}
+use Rattle.bench_model.specs.Table.{Stamps, Table, row_at, stamp_of, wake_in, deadline_at, is_ready, waits}
 
 -- each task has a list value in a session with queues, and none in another
 abbrev pub list_values : Settings → ℕ
@@ -50,8 +50,8 @@ pub record IsStamped (stamps : Stamps) : Type 0 where
       (i j : ℕ) → i < length stamps.rows → j < length stamps.rows
       → stamp_of stamps i ≡ stamp_of stamps j → i ≡ j
 
--- each core has one current task, no task is on two cores, and a core whose current task is blocked
--- is due
+-- each core has one current task, no task is on two cores, and a core whose current task is not
+-- ready is due
 pub record HasCurrentTasks (control : Control) (stamps : Stamps) : Type 0 where
   pub is_task : (c : ℕ) → c < length control.cores → current control c < length stamps.rows
   pub on_one_core :
@@ -93,7 +93,7 @@ abbrev pub IsEventWait : Settings → EventWait → Type 0
 IsEventWait settings wait =
     (wait.list < event_lists settings) × (wait.priority < settings.priorities)
 
--- a waiter is a blocked task
+-- a waiter is a task that is not ready
 abbrev pub IsWaiter : Settings → Stamps → Waiter → Type 0
 IsWaiter settings stamps waiter =
     (waiter.task < length stamps.rows) × (is_ready waiter.task stamps ≡ false)
@@ -106,10 +106,11 @@ list_of_call settings (Some (Transfer queue direction)) =
     Some (event_list settings direction queue)
 list_of_call settings unfinished = None
 
--- a blocked task waits in the event list of its unfinished call, or in none
+-- a task that waits for some ticks or in an event list does so in the event list of its unfinished
+-- call, or in none
 abbrev pub WaitForTheirCalls : Settings → List (Option Unfinished) → Stamps → Type 0
 WaitForTheirCalls settings calls stamps =
-    (i : ℕ) → i < length stamps.rows → is_ready i stamps ≡ false
+    (i : ℕ) → i < length stamps.rows → waits i stamps ≡ true
     → list_awaited i stamps.waiters ≡ list_of_call settings (call_at calls i)
 
 -- what is kept of mutexes and event lists: tasks hold mutexes, tasks wait, each in one list, and
@@ -179,4 +180,7 @@ StepFits table (Interrupt core note) =
     × (note.index < table.settings.notes)
 StepFits table (QueueInterrupt core queue direction) =
     (core < length table.control.cores) × (queue < queue_total table.settings)
+StepFits table (ResumeInterrupt core task) =
+    (core < length table.control.cores) × (task < table.settings.tasks)
+StepFits table (Pass units) = Unit {0}
 StepFits table (steps.Call core task call) = IsCaller table core task

@@ -36,6 +36,10 @@ pub record QueueOps (Orders : Type 0) : Type 0 where
   -- the task leaves the ready lists and waits, for so many ticks or without end, in an event list
   -- or in none
   pub delay : ℕ → Option ℕ → Option EventWait → Orders → Orders
+  -- the task waits for some ticks, or in an event list
+  pub waits : ℕ → Orders → Bool
+  -- the task leaves the ready lists, waits for no tick and in no event list; its deadline stays
+  pub suspend : ℕ → Orders → Orders
   -- the tick count, as a number of 32 bits
   pub tick_count : Orders → ℕ
   -- one tick more, and the tasks that have waited long enough then, in the order in which they

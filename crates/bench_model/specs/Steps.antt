@@ -4,18 +4,19 @@ use Rattle.std.specs.Option.{option_map_or}
 use Rattle.bench_types.specs.declared.reply.Reply.{Reply}
 use Rattle.bench_types.specs.declared.reply.Reply.TheVariants.{Done, Blocked, Flag, Until, Refused}
 use Rattle.bench_types.specs.declared.step.Step.{Step}
-use Rattle.bench_types.specs.declared.step.Step.TheVariants.{Tick, Switch, Interrupt, QueueInterrupt}
+use Rattle.bench_types.specs.declared.step.Step.TheVariants.{Tick, Switch, Interrupt, QueueInterrupt, ResumeInterrupt, Pass}
 use Rattle.bench_types.specs.declared.step.Step.TheVariants as steps
 use Rattle.bench_types.specs.declared.step.BlockingCall.TheVariants as blocking
 use Rattle.bench_types.specs.declared.step.Unfinished.{Unfinished}
 use Rattle.bench_types.specs.declared.step.Unfinished.TheVariants.{Made, Take, Transfer}
 use Rattle.bench_types.specs.declared.step.Call.{Call}
 use Rattle.bench_types.specs.declared.step.Call.TheVariants.{Yield, Delay, DelayUntil, Finish, PrioritySet, AffinitySet, PreemptOff, PreemptOn, Notify}
-use Rattle.bench_types.specs.declared.step.Call.TheVariants.{NotifyWait, NotifyTake, StateClear, ValueClear, MutexTake, MutexGive, QueueSend, QueueReceive, HoldOpen, HoldClose}
+use Rattle.bench_types.specs.declared.step.Call.TheVariants.{NotifyWait, NotifyTake, StateClear, ValueClear, MutexTake, MutexGive, QueueSend, QueueReceive, Suspend, Resume, HoldOpen, HoldClose}
 use Rattle.bench_types.specs.declared.step.Direction.TheVariants.{Send, Receive}
 use Rattle.bench_model.specs.Holds.{hold_opened, hold_closed}
 use Rattle.bench_model.specs.Queues.{queue_called, queue_finished, queue_interrupted}
 use Rattle.bench_model.specs.Refusals.{refusal}
+use Rattle.bench_model.specs.Suspending.{suspended, resumed, resume_interrupted}
 use Rattle.bench_model.specs.State.{State, QueueOps, after_return, call_at, yielded, blocked}
 use Rattle.bench_model.specs.Until.{next_wake, is_ahead, ticks_to}
 use Rattle.bench_model.specs.Seek.{wake, after_switch, sliced}
@@ -89,10 +90,12 @@ module _ {Orders : Type 0} (ops : QueueOps Orders) where
       queue_called ops core task Send queue ticks state
   called core task (QueueReceive queue ticks) state =
       queue_called ops core task Receive queue ticks state
+  called core task (Suspend other) state = (Done, suspended ops core other state)
+  called core task (Resume other) state = (Done, resumed ops core other state)
   called core task HoldOpen state = (Done, hold_opened core state)
   called core task HoldClose state = (Done, hold_closed core state)
 
-  -- what a step that is not refused answers and does
+  -- what a step that is not refused answers and does; in a pass time goes by and nothing happens
   unfoldable pub performed : Step → State Orders → Reply × State Orders
   performed Tick state = (Done, ticked state)
   performed (Switch core) state = (Done, after_switch ops core state)
@@ -100,6 +103,8 @@ module _ {Orders : Type 0} (ops : QueueOps Orders) where
   performed (Interrupt core note) state = interrupted ops core note state
   performed (QueueInterrupt core queue direction) state =
       queue_interrupted ops core direction queue state
+  performed (ResumeInterrupt core task) state = resume_interrupted ops core task state
+  performed (Pass units) state = (Done, state)
 
   -- The step: its reply and the state afterwards. A refused step changes nothing.
   unfoldable pub after : Step → State Orders → Reply × State Orders

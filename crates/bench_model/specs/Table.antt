@@ -10,7 +10,7 @@ use Rattle.bench_model.specs.declared.row.TaskState.{TaskState}
 use Rattle.bench_model.specs.declared.row.TaskState.TheVariants.{Ready, Blocked}
 use Rattle.bench_model.specs.Control.{Control, task_at, may_select}
 use Rattle.bench_model.specs.State.{State, QueueOps}
-use Rattle.bench_model.specs.Waiters.{first_of, list_value_of, revalued, with_wait, without_waiter}
+use Rattle.bench_model.specs.Waiters.{first_of, list_value_of, revalued, list_awaited, with_wait, without_waiter}
 use Rattle.list_orders.specs.Search.{numbers, best, by_stamp}
 
 pub record Stamps : Type 0 where
@@ -40,8 +40,8 @@ stamp_of stamps task = (row_at stamps task).stamp
 abbrev pub tasks_of : Stamps → List ℕ
 tasks_of stamps = numbers (length stamps.rows)
 
--- the tick count at which the task is to be woken, none for a ready task and for one that waits
--- without end
+-- the tick count at which the task is to be woken, none for a ready task, for one that waits
+-- without end and for a suspended one
 abbrev pub wake_in : TaskState → Option ℕ
 wake_in Ready = None
 wake_in (Blocked wake) = wake
@@ -103,6 +103,18 @@ delay task ticks wait stamps =
     (restamped task (Blocked (ahead stamps ticks))
     (record stamps { waiters = with_wait task wait stamps.waiters }))
 
+-- the task waits for some ticks, or in an event list
+abbrev pub waits : ℕ → Stamps → Bool
+waits task stamps =
+    is_some (wake_in (row_at stamps task).standing)
+    || is_some (list_awaited task stamps.waiters)
+
+-- Suspending a task: it is neither ready nor does it wait (V11 tasks.c, vTaskSuspend).
+unfoldable pub suspend : ℕ → Stamps → Stamps
+suspend task stamps =
+    restamped task (Blocked None)
+    (record stamps { waiters = without_waiter task stamps.waiters })
+
 -- the ticks that are left to the deadline, 0 where it is reached
 unfoldable pub deadline_left : ℕ → Stamps → Option ℕ
 deadline_left task stamps =
@@ -147,6 +159,8 @@ stamp_queues = record {
   pick = pick;
   add_to_ready_list = λ control. add_to_ready_list;
   delay = delay;
+  waits = waits;
+  suspend = suspend;
   tick_count = tick_count;
   advance = advance;
   due = due;

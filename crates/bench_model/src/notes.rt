@@ -1,6 +1,6 @@
 //! The parts of the rules of one notification, computed.
 ghost use Rattle.std.specs.Prelude.{◌≡◌};
-ghost use Rattle.bench_model.specs.Notes.{is_received, is_waiting, without_bits, passes, acted, notified};
+ghost use Rattle.bench_model.specs.Notes.{is_received, is_waiting, without_bits, passes, acted, notified, unawaited};
 
 use bench_types::{NoteState, Notification, NotifyAction};
 
@@ -71,4 +71,17 @@ pub fn notified(action: NotifyAction, note: Notification) -> Notification
         value,
         state: NoteState::Received,
     }
+}
+
+/// A notification for which nobody waits any more (`vTaskSuspend`).
+#[tactic(auto, unfolding(crate::specs::Notes::unawaited))]
+pub fn unawaited(note: Notification) -> Notification
+    ensures { result ≡ unawaited note }
+{
+    let state = if is_waiting(note.state) {
+        NoteState::NotWaiting
+    } else {
+        note.state
+    };
+    Notification { state, ..note }
 }

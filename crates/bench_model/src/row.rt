@@ -1,10 +1,10 @@
 //! A task's row in the table of the rules.
-/// Whether a task is ready or blocked.
+/// Whether a task is ready.
 #[derive(Clone, Copy, Debug, PartialEq, Eq)]
 pub enum TaskState {
     Ready,
-    /// Blocked until the tick count of the table is `wake`, in ticks; without end where there is
-    /// none.
+    /// Blocked until the tick count of the table is `wake`, in ticks; without end, or suspended,
+    /// where there is none.
     Blocked { wake: Option<u128> },
 }
 

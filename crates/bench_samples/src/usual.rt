@@ -6,7 +6,8 @@ use crate::{SampleFault, header_of, numbered_header};
 use bench_types::{Config, Header, MAX_CORES, MAX_MUTEXES, MAX_NOTES, MAX_PRIORITIES};
 use std::alloc::Global;
 
-/// Two cores, 5 priorities, no time slices, no mutexes and one notification a task, from tick 0.
+/// Two cores, 5 priorities, no time slices, no mutexes, one notification a task and one unit of
+/// time a tick, from tick 0.
 pub const PLAIN: Config = Config {
     cores: 2,
     priorities: 5,
@@ -14,6 +15,7 @@ pub const PLAIN: Config = Config {
     tick: 0,
     mutexes: 0,
     notes: 1,
+    units: 1,
 };
 
 /// The most cores, priorities, mutexes and notifications a task, with time slices, from the last
@@ -25,6 +27,7 @@ pub const LARGEST: Config = Config {
     tick: u32::MAX,
     mutexes: MAX_MUTEXES,
     notes: MAX_NOTES,
+    units: 1,
 };
 
 /// Two cores and the tasks A, B and C on both, of the priorities 2, 1 and 1.

@@ -10,14 +10,14 @@ use Rattle.std.proofs.lemmas.Bool.Decides.{nat_tests}
 use Rattle.bench_types.specs.declared.fault.Fault.{Fault}
 use Rattle.bench_types.specs.declared.fault.Fault.TheVariants.{BadHeader}
 use Rattle.bench_types.specs.declared.flaw.HeaderFlaw.{HeaderFlaw}
-use Rattle.bench_types.specs.declared.flaw.HeaderFlaw.TheVariants.{Cores, Priorities, Mutexes, Notes, Queues, QueueLength, QueueMessages, TaskCount, NoName, Priority, Mask, SharedName}
+use Rattle.bench_types.specs.declared.flaw.HeaderFlaw.TheVariants.{Cores, Priorities, Mutexes, Notes, Queues, QueueLength, QueueMessages, Units, TaskCount, NoName, Priority, Mask, SharedName}
 use Rattle.bench_types.specs.declared.header.Config.{Config}
 use Rattle.bench_types.specs.declared.header.Header.{Header}
 use Rattle.bench_types.specs.declared.header.QueueArgs.{QueueArgs}
 use Rattle.bench_types.specs.declared.header.TaskArgs.{TaskArgs}
 use Rattle.bench_types.specs.declared.kernel_data.Settings.{Settings}
 use Rattle.bench_types.specs.declared.note.Note.{Note}
-use Rattle.bench_types.specs.Flaw.{args_flaw, config_flaw, count_of_name, header_flaw, length_flaw, limits_flaw, location_of_length, location_of_messages, mask_flaw, messages_flaw, name_flaw, numbers_flaw, queue_list_flaw, queues_flaw, location_of_mask}
+use Rattle.bench_types.specs.Flaw.{args_flaw, config_flaw, count_of_name, header_flaw, length_flaw, limits_flaw, location_of_length, location_of_messages, mask_flaw, messages_flaw, name_flaw, most_units, numbers_flaw, queue_list_flaw, queues_flaw, units_flaw, location_of_mask}
 use Rattle.bench_types.specs.Flaw.{location_of_no_name, location_of_priority, location_of_shared_name, priority_flaw, shared_flaw}
 use Rattle.bench_types.specs.Header.{header_check, is_header, has_valid_numbers, IsCheckedHeader}
 use Rattle.bench_types.specs.Limits.{min_cores, max_cores, max_priorities, max_tasks, max_messages, max_mutexes, max_notes, max_queues}
@@ -188,8 +188,9 @@ no_flaw_facts header none =
     let low = priority_flaw config.priorities tasks in
     let masks = mask_flaw config.cores tasks in
     let whole = neither (numbers_flaw config header.queues (length tasks)) (args_flaw config tasks) none in
-    let numbers = neither (option_or (config_flaw config) (queues_flaw header.queues)) count whole.0 in
-    let settings = neither (config_flaw config) (queues_flaw header.queues) numbers.0 in
+    let numbers = neither (option_or (option_or (config_flaw config) (queues_flaw header.queues)) (units_flaw config.units header.queues)) count whole.0 in
+    let timed = neither (option_or (config_flaw config) (queues_flaw header.queues)) (units_flaw config.units header.queues) numbers.0 in
+    let settings = neither (config_flaw config) (queues_flaw header.queues) timed.0 in
     let three = neither (option_or (option_or cores priorities) mutexes) notes settings.0 in
     let two = neither (option_or cores priorities) mutexes three.0 in
     let one = neither cores priorities two.0 in
@@ -223,10 +224,10 @@ no_flaw_facts header none =
 pub header_facts : (header : Header) → is_header header ≡ true → IsWithinLimits header
 header_facts header is = no_flaw_facts header (flawless header is)
 
--- a header within its limits, whose queues have no flaw, has none
-pub header_from : (header : Header) → IsWithinLimits header → queues_flaw header.queues ≡ None → header_flaw header ≡ None
+-- a header within its limits, whose queues and units have no flaw, has none
+pub header_from : (header : Header) → IsWithinLimits header → queues_flaw header.queues ≡ None → units_flaw header.config.units header.queues ≡ None → header_flaw header ≡ None
 unfolding header_flaw
-header_from header limits flawless =
+header_from header limits flawless timed =
     let config = header.config in
     let tasks = header.tasks in
     let args = valid_all config tasks limits.args in
@@ -236,6 +237,7 @@ header_from header limits flawless =
       no_limits_flaw 0 max_mutexes config.mutexes (Mutexes config.mutexes) (omega arith) limits.few_mutexes,
       no_limits_flaw 1 max_notes config.notes (Notes config.notes) (omega (arith, limits.some_note)) limits.few_notes,
       flawless,
+      timed,
       no_limits_flaw 1 max_tasks (length tasks) (TaskCount (length tasks)) (omega (arith, limits.some_task)) limits.few_tasks,
       none_found (λ task. not (is_name task.name)) tasks (named_all tasks limits.named),
       none_found (no_priority config) tasks args.0,
@@ -264,12 +266,28 @@ flawless_queues header none =
     let config = header.config in
     let count = length header.tasks in
     let whole = neither (numbers_flaw config header.queues count) (args_flaw config header.tasks) none in
-    let numbers = neither (option_or (config_flaw config) (queues_flaw header.queues)) (limits_flaw 1 max_tasks count (TaskCount count)) whole.0 in
-    (neither (config_flaw config) (queues_flaw header.queues) numbers.0).1
+    let units = units_flaw config.units header.queues in
+    let numbers = neither (option_or (option_or (config_flaw config) (queues_flaw header.queues)) units) (limits_flaw 1 max_tasks count (TaskCount count)) whole.0 in
+    let timed = neither (option_or (config_flaw config) (queues_flaw header.queues)) units numbers.0 in
+    (neither (config_flaw config) (queues_flaw header.queues) timed.0).1
 
 -- nor have those of a header that passes its check
 pub checked_queues : (header : Header) → header_check header ≡ Ok tt → queues_flaw header.queues ≡ None
 checked_queues header passes = flawless_queues header (checked_flaw header passes)
+
+-- nor has the number of units
+flawless_units : (header : Header) → header_flaw header ≡ None → units_flaw header.config.units header.queues ≡ None
+unfolding header_flaw
+flawless_units header none =
+    let count = length header.tasks in
+    let queues = option_or (config_flaw header.config) (queues_flaw header.queues) in
+    let units = units_flaw header.config.units header.queues in
+    let whole = neither (numbers_flaw header.config header.queues count) (args_flaw header.config header.tasks) none in
+    let numbers = neither (option_or queues units) (limits_flaw 1 max_tasks count (TaskCount count)) whole.0 in
+    (neither queues units numbers.0).1
+
+pub checked_units : (header : Header) → header_check header ≡ Ok tt → units_flaw header.config.units header.queues ≡ None
+checked_units header passes = flawless_units header (checked_flaw header passes)
 
 -- there are not too many queues
 few_in : (queues : List QueueArgs) → queue_list_flaw queues ≡ None → length queues ≤ max_queues

@@ -1,12 +1,12 @@
 -- There is a flaw exactly where a check is a fault, and it is that fault.
-use Rattle.std.proofs.Common.{◌≡◌, ℕ, Bool, true, false, ◌==◌, ◌&&◌, cond, ltb, leb, Option, Some, None, Result, Ok, Err, refl, sym, ap, ap₂, ◌∙◌}
+use Rattle.std.proofs.Common.{◌≡◌, ℕ, Bool, true, false, ◌==◌, ◌&&◌, cond, ltb, leb, Option, Some, None, is_some, Result, Ok, Err, refl, sym, ap, ap₂, ◌∙◌}
 use Rattle.std.specs.Option.{option_or}
 use Rattle.bench_types.specs.declared.core_action.CoreAction.{CoreAction}
 use Rattle.bench_types.specs.declared.core_action.CoreAction.TheVariants as core_action
 use Rattle.bench_types.specs.declared.edit.Edit.{Edit}
 use Rattle.bench_types.specs.declared.edit.Edit.TheVariants as edit
 use Rattle.bench_types.specs.declared.fault.Fault.{Fault}
-use Rattle.bench_types.specs.declared.fault.Fault.TheVariants.{BadHeader}
+use Rattle.bench_types.specs.declared.fault.Fault.TheVariants.{BadHeader, BadArgument}
 use Rattle.bench_types.specs.declared.header.Config.{Config}
 use Rattle.bench_types.specs.declared.header.Header.{Header}
 use Rattle.bench_types.specs.declared.kernel_data.Settings.{Settings}
@@ -16,13 +16,13 @@ use Rattle.bench_types.specs.declared.step.Call.TheVariants as call
 use Rattle.bench_types.specs.declared.step.Step.{Step}
 use Rattle.bench_types.specs.declared.step.Step.TheVariants as step
 use Rattle.bench_types.specs.declared.step_flaw.StepFlaw.{StepFlaw}
-use Rattle.bench_types.specs.declared.step_flaw.StepFlaw.TheVariants.{Core, TickCore, Task, Mutex, Queue, Mask, Increment, Index, NewPriority, NewMask}
+use Rattle.bench_types.specs.declared.step_flaw.StepFlaw.TheVariants.{Core, TickCore, Task, Mutex, Queue, Mask, Increment, Suspending, NoUnits, NoTime, Index, NewPriority, NewMask}
 use Rattle.bench_types.specs.CoreAction.{core_action_check}
 use Rattle.bench_types.specs.Edit.{edit_check, numbers_check}
 use Rattle.bench_types.specs.Mask.{cores_of_mask}
-use Rattle.bench_types.specs.Step.{settings_of, queue_total, core_check, task_check, mutex_check, queue_check, mask_check, index_check, increment_check, note_check, call_check}
+use Rattle.bench_types.specs.Step.{settings_of, queue_total, core_check, task_check, mutex_check, queue_check, mask_check, index_check, increment_check, note_check, suspending_check, resume_check, pass_check, call_check}
 use Rattle.bench_types.specs.Step.{step_check, ◌>>◌}
-use Rattle.bench_types.specs.StepFlaw.{flaw_fault, check_of, core_flaw, task_flaw, mutex_flaw, queue_flaw, mask_flaw, index_flaw, increment_flaw, note_flaw, call_flaw}
+use Rattle.bench_types.specs.StepFlaw.{flaw_fault, check_of, core_flaw, task_flaw, mutex_flaw, queue_flaw, mask_flaw, index_flaw, increment_flaw, note_flaw, suspending_flaw, resume_flaw, pass_flaw, call_flaw}
 use Rattle.bench_types.specs.StepFlaw.{step_flaw, core_action_flaw, numbers_flaw, edit_flaw}
 
 -- a flaw where the test fails
@@ -69,6 +69,20 @@ module _ (s : Settings) where
   note_check_of note = then (task_check s note.task) (index_check s note.index) (task_flaw s note.task) (index_flaw s note.index) (task_check_of note.task)
       (index_check_of note.index)
 
+  suspending_check_of : suspending_check s ≡ check_of (suspending_flaw s)
+  suspending_check_of = one (is_some s.queues) Suspending
+
+  resume_check_of : (task : ℕ) → resume_check s task ≡ check_of (resume_flaw s task)
+  resume_check_of task = then (task_check s task) (suspending_check s) (task_flaw s task) (suspending_flaw s) (task_check_of task) suspending_check_of
+
+  pass_check_of : (units : ℕ) → pass_check s units ≡ check_of (pass_flaw s units)
+  pass_check_of units = at (s.units == 1) (units == 0)
+    where
+      at : (a b : Bool) → cond a (Err BadArgument) (cond b (Err BadArgument) (Ok tt)) ≡ check_of (cond a (Some NoUnits) (cond b (Some NoTime) None))
+      at true b = refl
+      at false true = refl
+      at false false = refl
+
   pub call_check_of : (made : Call) → call_check s made ≡ check_of (call_flaw s made)
   call_check_of call.Yield = refl
   call_check_of (call.Delay ticks) = refl
@@ -81,6 +95,8 @@ module _ (s : Settings) where
       (mask_check_of mask)
   call_check_of (call.PreemptOff task) = task_check_of task
   call_check_of (call.PreemptOn task) = task_check_of task
+  call_check_of (call.Suspend task) = resume_check_of task
+  call_check_of (call.Resume task) = resume_check_of task
   call_check_of (call.Notify note) = note_check_of note
   call_check_of (call.NotifyWait entry exit ticks index) = index_check_of index
   call_check_of (call.NotifyTake clear ticks index) = index_check_of index
@@ -103,11 +119,15 @@ module _ (s : Settings) where
       (note_check_of note)
   step_check_of (step.QueueInterrupt core queue direction) = then (core_check s core) (queue_check s queue) (core_flaw s core) (queue_flaw s queue)
       (core_check_of core) (queue_check_of queue)
+  step_check_of (step.ResumeInterrupt core task) = then (core_check s core) (resume_check s task) (core_flaw s core) (resume_flaw s task)
+      (core_check_of core) (resume_check_of task)
+  step_check_of (step.Pass units) = pass_check_of units
 
   pub core_action_check_of : (core : ℕ) (made : CoreAction) → core_action_check s core made ≡ check_of (core_action_flaw s core made)
   core_action_check_of core (core_action.Call made) = call_check_of made
   core_action_check_of core (core_action.Interrupt note) = note_check_of note
   core_action_check_of core (core_action.QueueInterrupt queue direction) = queue_check_of queue
+  core_action_check_of core (core_action.ResumeInterrupt task) = resume_check_of task
   core_action_check_of core core_action.Tick = one (core == 0) (TickCore core)
   core_action_check_of core core_action.Switch = refl
 

@@ -5,7 +5,7 @@ use Rattle.bench_types.specs.declared.core_action.CoreAction.TheVariants as core
 use Rattle.bench_types.specs.declared.fault.Fault.{Fault}
 use Rattle.bench_types.specs.declared.fault.Fault.TheVariants.{BadCore}
 use Rattle.bench_types.specs.declared.kernel_data.Settings.{Settings}
-use Rattle.bench_types.specs.Step.{call_check, note_check, queue_check, IsNotifyActionOfWord, IsOfWords}
+use Rattle.bench_types.specs.Step.{call_check, note_check, queue_check, resume_check, IsNotifyActionOfWord, IsOfWords}
 
 -- the fault of what the core would do: F2 for a tick of another core than 0
 abbrev pub core_action_check : Settings → ℕ → CoreAction → Result ⊤ Fault
@@ -13,6 +13,7 @@ core_action_check settings core (core_actions.Call call) = call_check settings c
 core_action_check settings core (core_actions.Interrupt note) = note_check settings note
 core_action_check settings core (core_actions.QueueInterrupt queue direction) =
     queue_check settings queue
+core_action_check settings core (core_actions.ResumeInterrupt task) = resume_check settings task
 core_action_check settings core core_actions.Tick = if core == 0 then Ok tt else Err BadCore
 core_action_check settings core core_actions.Switch = Ok tt
 
@@ -21,6 +22,7 @@ abbrev pub IsCoreActionOfWords : CoreAction → Type 0
 IsCoreActionOfWords (core_actions.Call call) = IsOfWords call
 IsCoreActionOfWords (core_actions.Interrupt note) = IsNotifyActionOfWord note.action
 IsCoreActionOfWords (core_actions.QueueInterrupt queue direction) = ⊤
+IsCoreActionOfWords (core_actions.ResumeInterrupt task) = ⊤
 IsCoreActionOfWords core_actions.Tick = ⊤
 IsCoreActionOfWords core_actions.Switch = ⊤
 

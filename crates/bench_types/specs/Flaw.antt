@@ -1,17 +1,17 @@
 -- For what a header is not accepted: the first of these things, the numbers of its settings, its
--- queues, how many user tasks there are, then their names, priorities and masks, and names that
--- come twice.
+-- queues, the units of a tick, how many user tasks there are, then their names, priorities and
+-- masks, and names that come twice.
 -- The limits are those of `configNUMBER_OF_CORES`, `configMAX_PRIORITIES` and the arguments of
 -- `xTaskCreateAffinitySet` (FreeRTOS SMP documentation).
 use Rattle.std.specs.Prelude.{ℕ, ◌==◌, List, length, count_by, position, bytes_eq, not, nat_lt, nat_le, Option, Some, None, option_map, if◌then◌else◌}
 use Rattle.std.specs.Option.{option_or}
 use Rattle.bench_types.specs.declared.flaw.HeaderFlaw.{HeaderFlaw}
-use Rattle.bench_types.specs.declared.flaw.HeaderFlaw.TheVariants.{Cores, Priorities, Mutexes, Notes, Queues, QueueLength, QueueMessages, TaskCount, NoName, Priority, Mask, SharedName}
+use Rattle.bench_types.specs.declared.flaw.HeaderFlaw.TheVariants.{Cores, Priorities, Mutexes, Notes, Queues, QueueLength, QueueMessages, Units, TaskCount, NoName, Priority, Mask, SharedName}
 use Rattle.bench_types.specs.declared.header.Config.{Config}
 use Rattle.bench_types.specs.declared.header.Header.{Header}
 use Rattle.bench_types.specs.declared.header.QueueArgs.{QueueArgs}
 use Rattle.bench_types.specs.declared.header.TaskArgs.{TaskArgs}
-use Rattle.bench_types.specs.Limits.{min_cores, max_cores, max_priorities, max_tasks, max_messages, max_mutexes, max_notes, max_queues}
+use Rattle.bench_types.specs.Limits.{min_cores, max_cores, max_priorities, max_tasks, max_messages, max_mutexes, max_notes, max_queues, max_units}
 use Rattle.bench_types.specs.Mask.{cores_of_mask}
 use Rattle.bench_types.specs.Name.{is_name, is_within}
 
@@ -55,10 +55,20 @@ abbrev pub queues_flaw : Option (List QueueArgs) → Option HeaderFlaw
 queues_flaw None = None
 queues_flaw (Some queues) = queue_list_flaw queues
 
--- the first flaw of the settings, of the queues and of the number of user tasks
+-- in a session that says nothing of queues a tick has one unit of time
+abbrev pub most_units : Option (List QueueArgs) → ℕ
+most_units None = 1
+most_units (Some queues) = max_units
+
+abbrev pub units_flaw : ℕ → Option (List QueueArgs) → Option HeaderFlaw
+units_flaw units queues = limits_flaw 1 (most_units queues) units (Units units)
+
+-- the first flaw of the settings, of the queues, of the units and of the number of user tasks
 abbrev pub numbers_flaw : Config → Option (List QueueArgs) → ℕ → Option HeaderFlaw
 numbers_flaw config queues count =
-    option_or (option_or (config_flaw config) (queues_flaw queues))
+    option_or
+    (option_or (option_or (config_flaw config) (queues_flaw queues))
+    (units_flaw config.units queues))
     (limits_flaw 1 max_tasks count (TaskCount count))
 
 -- the place of the first task whose name is none

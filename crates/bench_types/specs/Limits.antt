@@ -31,6 +31,10 @@ max_messages = 4294967295
 abbrev pub max_notes : ℕ
 max_notes = 8
 
+-- the units of time that a tick has
+abbrev pub max_units : ℕ
+max_units = 1000000
+
 -- the steps of a session
 abbrev pub max_steps : ℕ
 max_steps = 1000000

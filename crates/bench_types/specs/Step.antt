@@ -1,5 +1,5 @@
 -- Which steps a session of a header may have.
-use Rattle.std.specs.Prelude.{◌≡◌, ℕ, ◌+◌, ◌^◌, ◌<◌, ◌==◌, length, nat_lt, nat_le, ◌&&◌, Result, Ok, Err, unwrap_or, if◌then◌else◌, ⊤}
+use Rattle.std.specs.Prelude.{◌≡◌, ℕ, ◌+◌, ◌^◌, ◌<◌, ◌==◌, length, nat_lt, nat_le, ◌&&◌, Result, Ok, Err, is_some, unwrap_or, if◌then◌else◌, ⊤}
 use Rattle.bench_types.specs.declared.fault.Fault.{Fault}
 use Rattle.bench_types.specs.declared.fault.Fault.TheVariants.{BadCore, BadTask, BadMutex, BadArgument}
 use Rattle.bench_types.specs.Header.{cores_of_mask, queue_count}
@@ -17,13 +17,16 @@ use Rattle.bench_types.specs.declared.step.BlockingCall.TheVariants as blocking
 use Rattle.bench_types.specs.declared.step.Unfinished.{Unfinished}
 use Rattle.bench_types.specs.declared.step.Unfinished.TheVariants as unfinished
 
--- the core that makes the step; a tick is made by core 0
+-- the core that makes the step; a tick is made by core 0, and a pass, which no core makes, counts
+-- as one of core 0
 abbrev pub core_of : Step → ℕ
 core_of step.Tick = 0
 core_of (step.Switch core) = core
 core_of (step.Call core task call) = core
 core_of (step.Interrupt core note) = core
 core_of (step.QueueInterrupt core queue direction) = core
+core_of (step.ResumeInterrupt core task) = core
+core_of (step.Pass units) = 0
 
 -- what a kernel keeps of its header's settings; the number of tasks counts the idle tasks too
 abbrev pub settings_of : Header → Settings
@@ -34,6 +37,7 @@ settings_of header = record {
   mutexes = header.config.mutexes;
   notes = header.config.notes;
   queues = queue_count header;
+  units = header.config.units;
   tasks = header.config.cores + length header.tasks;
 }
 
@@ -71,6 +75,16 @@ index_check settings index = if nat_lt index settings.notes then Ok tt else Err 
 abbrev pub increment_check : ℕ → Result ⊤ Fault
 increment_check inc = if inc == 0 then Err BadArgument else Ok tt
 
+-- F5: a session that says nothing of queues suspends no task
+abbrev pub suspending_check : Settings → Result ⊤ Fault
+suspending_check settings = if is_some settings.queues then Ok tt else Err BadArgument
+
+-- F5: no time goes by, or a tick has no units that could
+abbrev pub pass_check : Settings → ℕ → Result ⊤ Fault
+pass_check settings units =
+    if settings.units == 1 then Err BadArgument
+    else (if units == 0 then Err BadArgument else Ok tt)
+
 -- the second where the first is no fault
 infixl 10 ◌>>◌
 abbrev pub ◌>>◌ : {Why : Type 0} → Result ⊤ Why → Result ⊤ Why → Result ⊤ Why
@@ -81,8 +95,12 @@ Err fault >> next = Err fault
 abbrev pub note_check : Settings → Note → Result ⊤ Fault
 note_check settings note = task_check settings note.task >> index_check settings note.index
 
--- the fault of a call's arguments: the task that it is for, then the mask, the ticks between wakes
--- or the index of a notification
+-- the fault of the task that is suspended or resumed
+abbrev pub resume_check : Settings → ℕ → Result ⊤ Fault
+resume_check settings task = task_check settings task >> suspending_check settings
+
+-- the fault of a call's arguments: the task that it is for, then the mask, the ticks between wakes,
+-- the index of a notification, or that tasks are suspended
 abbrev pub call_check : Settings → Call → Result ⊤ Fault
 call_check settings call.Yield = Ok tt
 call_check settings (call.Delay ticks) = Ok tt
@@ -95,6 +113,8 @@ call_check settings (call.AffinitySet task mask) =
     task_check settings task >> mask_check settings mask
 call_check settings (call.PreemptOff task) = task_check settings task
 call_check settings (call.PreemptOn task) = task_check settings task
+call_check settings (call.Suspend task) = resume_check settings task
+call_check settings (call.Resume task) = resume_check settings task
 call_check settings (call.Notify note) = note_check settings note
 call_check settings (call.NotifyWait entry exit ticks index) = index_check settings index
 call_check settings (call.NotifyTake clear ticks index) = index_check settings index
@@ -117,6 +137,9 @@ step_check settings (step.Interrupt core note) =
     core_check settings core >> note_check settings note
 step_check settings (step.QueueInterrupt core queue direction) =
     core_check settings core >> queue_check settings queue
+step_check settings (step.ResumeInterrupt core task) =
+    core_check settings core >> resume_check settings task
+step_check settings (step.Pass units) = pass_check settings units
 
 -- the number of an action is one of 32 bits
 abbrev pub IsNotifyActionOfWord : NotifyAction → Type 0
@@ -138,6 +161,8 @@ IsOfWords (call.PrioritySet task priority) = priority < 2 ^ 32
 IsOfWords (call.AffinitySet task mask) = mask < 2 ^ 32
 IsOfWords (call.PreemptOff task) = ⊤
 IsOfWords (call.PreemptOn task) = ⊤
+IsOfWords (call.Suspend task) = ⊤
+IsOfWords (call.Resume task) = ⊤
 IsOfWords (call.Notify note) = IsNotifyActionOfWord note.action
 IsOfWords (call.NotifyWait entry exit ticks index) =
     (entry < 2 ^ 32) × (exit < 2 ^ 32) × (ticks < 2 ^ 32)
@@ -155,6 +180,8 @@ IsStepOfWords (step.Switch core) = core < 2 ^ 32
 IsStepOfWords (step.Call core task call) = IsOfWords call
 IsStepOfWords (step.Interrupt core note) = IsNotifyActionOfWord note.action
 IsStepOfWords (step.QueueInterrupt core queue direction) = ⊤
+IsStepOfWords (step.ResumeInterrupt core task) = ⊤
+IsStepOfWords (step.Pass units) = units < 2 ^ 32
 
 -- a call and a step that were checked against the settings
 pub record IsCheckedCall (settings : Settings) (call : Call) : Type 0 where

@@ -1,6 +1,6 @@
 -- For what a step, an action or an edit is not accepted: the first of these things, in the order in
 -- which its faults are tried.
-use Rattle.std.specs.Prelude.{ℕ, ◌==◌, ◌&&◌, nat_lt, nat_le, Option, Some, None, Result, Ok, Err, if◌then◌else◌, ⊤}
+use Rattle.std.specs.Prelude.{ℕ, ◌==◌, ◌&&◌, nat_lt, nat_le, Option, Some, None, is_some, Result, Ok, Err, if◌then◌else◌, ⊤}
 use Rattle.std.specs.Option.{option_or}
 use Rattle.bench_types.specs.declared.core_action.CoreAction.{CoreAction}
 use Rattle.bench_types.specs.declared.core_action.CoreAction.TheVariants as core_action
@@ -17,7 +17,7 @@ use Rattle.bench_types.specs.declared.step.Call.TheVariants as call
 use Rattle.bench_types.specs.declared.step.Step.{Step}
 use Rattle.bench_types.specs.declared.step.Step.TheVariants as step
 use Rattle.bench_types.specs.declared.step_flaw.StepFlaw.{StepFlaw}
-use Rattle.bench_types.specs.declared.step_flaw.StepFlaw.TheVariants.{Core, TickCore, Task, Mutex, Queue, Mask, Increment, Index, NewPriority, NewMask}
+use Rattle.bench_types.specs.declared.step_flaw.StepFlaw.TheVariants.{Core, TickCore, Task, Mutex, Queue, Mask, Increment, Suspending, NoUnits, NoTime, Index, NewPriority, NewMask}
 use Rattle.bench_types.specs.Mask.{cores_of_mask}
 use Rattle.bench_types.specs.Step.{queue_total, settings_of}
 
@@ -30,6 +30,9 @@ flaw_fault (Mutex mutex mutexes) = BadMutex
 flaw_fault (Queue queue queues) = BadMutex
 flaw_fault (Mask mask cores) = BadArgument
 flaw_fault Increment = BadArgument
+flaw_fault Suspending = BadArgument
+flaw_fault NoUnits = BadArgument
+flaw_fault NoTime = BadArgument
 flaw_fault (Index index notes) = BadArgument
 flaw_fault (NewPriority priority priorities) = BadHeader
 flaw_fault (NewMask mask cores) = BadHeader
@@ -66,6 +69,17 @@ index_flaw settings index =
 abbrev pub increment_flaw : ℕ → Option StepFlaw
 increment_flaw inc = if inc == 0 then Some Increment else None
 
+abbrev pub suspending_flaw : Settings → Option StepFlaw
+suspending_flaw settings = if is_some settings.queues then None else Some Suspending
+
+-- of the task that is suspended or resumed
+abbrev pub resume_flaw : Settings → ℕ → Option StepFlaw
+resume_flaw settings task = option_or (task_flaw settings task) (suspending_flaw settings)
+
+abbrev pub pass_flaw : Settings → ℕ → Option StepFlaw
+pass_flaw settings units =
+    if settings.units == 1 then Some NoUnits else (if units == 0 then Some NoTime else None)
+
 abbrev pub note_flaw : Settings → Note → Option StepFlaw
 note_flaw settings note = option_or (task_flaw settings note.task) (index_flaw settings note.index)
 
@@ -82,6 +96,8 @@ call_flaw settings (call.AffinitySet task mask) =
     option_or (task_flaw settings task) (mask_flaw settings mask)
 call_flaw settings (call.PreemptOff task) = task_flaw settings task
 call_flaw settings (call.PreemptOn task) = task_flaw settings task
+call_flaw settings (call.Suspend task) = resume_flaw settings task
+call_flaw settings (call.Resume task) = resume_flaw settings task
 call_flaw settings (call.Notify note) = note_flaw settings note
 call_flaw settings (call.NotifyWait entry exit ticks index) = index_flaw settings index
 call_flaw settings (call.NotifyTake clear ticks index) = index_flaw settings index
@@ -105,6 +121,9 @@ step_flaw settings (step.Interrupt core note) =
     option_or (core_flaw settings core) (note_flaw settings note)
 step_flaw settings (step.QueueInterrupt core queue direction) =
     option_or (core_flaw settings core) (queue_flaw settings queue)
+step_flaw settings (step.ResumeInterrupt core task) =
+    option_or (core_flaw settings core) (resume_flaw settings task)
+step_flaw settings (step.Pass units) = pass_flaw settings units
 
 -- of what the core would do
 abbrev pub core_action_flaw : Settings → ℕ → CoreAction → Option StepFlaw
@@ -112,6 +131,7 @@ core_action_flaw settings core (core_action.Call call) = call_flaw settings call
 core_action_flaw settings core (core_action.Interrupt note) = note_flaw settings note
 core_action_flaw settings core (core_action.QueueInterrupt queue direction) =
     queue_flaw settings queue
+core_action_flaw settings core (core_action.ResumeInterrupt task) = resume_flaw settings task
 core_action_flaw settings core core_action.Tick = if core == 0 then None else Some (TickCore core)
 core_action_flaw settings core core_action.Switch = None
 

@@ -4,7 +4,7 @@ ghost use Rattle.bench_types.specs.CoreAction.{core_action_check, IsCoreActionOf
 ghost use Rattle.bench_types.specs.Step.{settings_of};
 ghost use Rattle.bench_types.specs.StepFlaw.{core_action_flaw, check_of};
 
-use crate::step::{note_flaw, queue_flaw};
+use crate::step::{note_flaw, queue_flaw, resume_flaw};
 use crate::step_flaw::check_of;
 use crate::{Call, Direction, Fault, Header, Note, StepFlaw};
 
@@ -18,6 +18,8 @@ pub enum CoreAction {
     /// An interrupt of the core, whose handler sends a message to the queue or receives one from it
     /// (`xQueueSendFromISR`, `xQueueReceiveFromISR`).
     QueueInterrupt { queue: u32, direction: Direction },
+    /// An interrupt of the core, whose handler resumes a task (`xTaskResumeFromISR`).
+    ResumeInterrupt { task: u32 },
     /// The tick interrupt (`xTaskIncrementTick`), which core 0 serves.
     Tick,
     /// The core switches to the task that it selects (`vTaskSwitchContext`).
@@ -37,13 +39,14 @@ impl CoreAction {
             CoreAction::Call(call) => call.flaw(header),
             CoreAction::Interrupt(note) => note_flaw(note, header),
             CoreAction::QueueInterrupt { queue, .. } => queue_flaw(queue, header),
+            CoreAction::ResumeInterrupt { task } => resume_flaw(task, header),
             CoreAction::Tick if core != 0 => Some(StepFlaw::TickCore(core)),
             CoreAction::Tick | CoreAction::Switch => None,
         }
     }
 
     /// F2 where a core other than 0 makes a tick, else the fault of the call, or for an interrupt
-    /// F3 where the task that it notifies is no user task, and then F5 where it has no such
+    /// F3 where the task that it is for is no user task, and then F5 where it has no such
     /// notification, or F4 where its queue is none.
     pub fn check(&self, core: u32, header: &Header) -> Result<(), Fault>
         ensures value { result ≡ core_action_check (settings_of header.now) core self.now }

@@ -1,6 +1,6 @@
 //! For what a header is not accepted.
 ghost use Rattle.std.specs.Prelude.{◌≡◌, ◌==◌, ◌<◌, ◌^◌, nat_lt, All, IfNone};
-ghost use Rattle.bench_types.specs.Flaw.{args_flaw, config_flaw, count_of_name, limits_flaw, mask_flaw, name_flaw, numbers_flaw, length_flaw, location_of_length, location_of_mask, location_of_messages, location_of_no_name, location_of_priority, location_of_shared_name, messages_flaw, priority_flaw, queue_list_flaw, queues_flaw, shared_flaw};
+ghost use Rattle.bench_types.specs.Flaw.{args_flaw, config_flaw, count_of_name, limits_flaw, mask_flaw, name_flaw, numbers_flaw, length_flaw, location_of_length, location_of_mask, location_of_messages, location_of_no_name, location_of_priority, location_of_shared_name, messages_flaw, priority_flaw, queue_list_flaw, queues_flaw, shared_flaw, units_flaw};
 ghost use Rattle.bench_types.specs.Mask.{cores_of_mask as cores_in};
 ghost use Rattle.bench_types.specs.Name.{is_within};
 
@@ -8,7 +8,7 @@ use crate::mask::cores_of_mask;
 use crate::name::spells_name;
 use crate::{
     Config, Items, MAX_CORES, MAX_MESSAGES, MAX_MUTEXES, MAX_NOTES, MAX_PRIORITIES, MAX_QUEUES,
-    MAX_TASKS, MIN_CORES, QueueArgs, TaskArgs,
+    MAX_TASKS, MAX_UNITS, MIN_CORES, QueueArgs, TaskArgs,
 };
 
 /// A thing for which a header is not accepted. A queue and a user task are told by their places
@@ -29,6 +29,8 @@ pub enum HeaderFlaw {
     QueueLength(usize),
     /// The queue has more messages at the start than its length.
     QueueMessages(usize),
+    /// A tick may not have so many units of time.
+    Units(u32),
     /// There may not be so many user tasks.
     TaskCount(usize),
     /// The name of the task is none. No `Header` has such a task; a text may have one.
@@ -50,6 +52,7 @@ impl Config {
         let count = HeaderFlaw::TaskCount(tasks);
         config_flaw(self)
             .or(queues_flaw(queues))
+            .or(units_flaw(self.units, queues))
             .or(limits_flaw(1, MAX_TASKS, tasks, count))
     }
 }
@@ -80,6 +83,7 @@ fn config_flaw(config: Config) -> Option<HeaderFlaw>
         tick: _,
         mutexes,
         notes,
+        units: _,
     } = config;
     limits_flaw(
         MIN_CORES,
@@ -152,6 +156,17 @@ fn queues_flaw(queues: &Option<Items<QueueArgs>>) -> Option<HeaderFlaw>
         Some(queues) => queue_list_flaw(queues.as_slice()),
         None => None,
     }
+}
+
+/// In a session that says nothing of queues a tick has one unit.
+fn units_flaw(units: u32, queues: &Option<Items<QueueArgs>>) -> Option<HeaderFlaw>
+    ensures { result ≡ units_flaw units queues.now }
+{
+    let most = match queues {
+        Some(_) => MAX_UNITS,
+        None => 1,
+    };
+    limits_flaw(1, most, units as usize, HeaderFlaw::Units(units))
 }
 
 fn location_of_no_name(tasks: &[TaskArgs]) -> Option<usize>

@@ -26,6 +26,10 @@ pub struct Config {
     /// How many notifications each task has, 1 to [`MAX_NOTES`](crate::MAX_NOTES)
     /// (`configTASK_NOTIFICATION_ARRAY_ENTRIES`).
     pub notes: u32,
+    /// How many units of time a tick has, 1 to [`MAX_UNITS`](crate::MAX_UNITS); 1 in a session of
+    /// format 1 or 2, where time is counted in ticks. Of a tick of 1 ms and 1000 units a unit is a
+    /// microsecond.
+    pub units: u32,
 }
 
 /// What a user task is created with.

@@ -12,6 +12,8 @@ pub struct Settings {
     pub notes: u32,
     /// How many queues there are; none in a session that says nothing of queues.
     pub queues: Option<u32>,
+    /// How many units of time a tick has.
+    pub units: u32,
     /// All tasks, the idle tasks too.
     pub tasks: u32,
 }
@@ -98,8 +100,10 @@ pub struct TaskLook {
     pub preempt: bool,
     /// Whether it is in a ready list (`eReady`, or `eRunning` on a core).
     pub ready: bool,
+    /// Whether it is suspended (`eSuspended`): neither ready nor does it wait for anything.
+    pub suspended: bool,
     /// The ticks to the wake of a blocked task (`xStateListItem` holds the tick count of it); none
-    /// for a ready task and for one that waits without end.
+    /// for a ready task, for one that waits without end and for a suspended one.
     pub left: Option<u32>,
     /// How many mutexes it holds (`uxMutexesHeld`).
     pub held: u32,

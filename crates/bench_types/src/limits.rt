@@ -1,6 +1,6 @@
 //! How large a session may be.
 ghost use Rattle.std.specs.Prelude.{◌≡◌};
-ghost use Rattle.bench_types.specs.Limits.{min_cores, max_cores, max_priorities, max_tasks, max_messages, max_mutexes, max_notes, max_queues, max_steps, max_name, max_depth, max_takes, max_span, max_input};
+ghost use Rattle.bench_types.specs.Limits.{min_cores, max_cores, max_priorities, max_tasks, max_messages, max_mutexes, max_notes, max_queues, max_units, max_steps, max_name, max_depth, max_takes, max_span, max_input};
 
 /// The least number of cores.
 pub const MIN_CORES: u32 = 2;
@@ -25,6 +25,9 @@ pub const MAX_MESSAGES: u32 = 4_294_967_295;
 
 /// How many notifications each task has at most (`configTASK_NOTIFICATION_ARRAY_ENTRIES`).
 pub const MAX_NOTES: u32 = 8;
+
+/// How many units of time a tick has at most.
+pub const MAX_UNITS: u32 = 1_000_000;
 
 /// How many steps a session has at most.
 pub const MAX_STEPS: u32 = 1_000_000;
@@ -55,6 +58,7 @@ pub fn laws_of_limits()
     ensures queues { MAX_QUEUES ≡ max_queues }
     ensures messages { MAX_MESSAGES ≡ max_messages }
     ensures notes { MAX_NOTES ≡ max_notes }
+    ensures units { MAX_UNITS ≡ max_units }
     ensures steps { MAX_STEPS ≡ max_steps }
     ensures name { MAX_NAME ≡ max_name }
     ensures depth { MAX_DEPTH ≡ max_depth }

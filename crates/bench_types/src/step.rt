@@ -1,7 +1,7 @@
 //! The steps of a session, and for what they are not accepted.
-ghost use Rattle.std.specs.Prelude.{◌≡◌, OnOk};
+ghost use Rattle.std.specs.Prelude.{◌≡◌, ◌<◌, ◌^◌, OnOk};
 ghost use Rattle.bench_types.specs.Step.{core_of, settings_of, call_check, step_check, IsNotifyActionOfWord, IsCheckedCall, IsCheckedStep, IsOfWords, IsStepOfWords};
-ghost use Rattle.bench_types.specs.StepFlaw.{call_flaw, core_flaw, increment_flaw, index_flaw, check_of, mask_flaw, mutex_flaw, note_flaw, queue_flaw, step_flaw, task_flaw};
+ghost use Rattle.bench_types.specs.StepFlaw.{call_flaw, core_flaw, increment_flaw, index_flaw, check_of, mask_flaw, mutex_flaw, note_flaw, pass_flaw, queue_flaw, resume_flaw, step_flaw, suspending_flaw, task_flaw};
 
 use crate::header::allows_core;
 use crate::step_flaw::check_of;
@@ -33,6 +33,15 @@ pub enum Step {
         core: u32,
         queue: u32,
         direction: Direction,
+    },
+    /// An interrupt of the core, whose handler resumes a task (`xTaskResumeFromISR`).
+    ResumeInterrupt {
+        core: u32,
+        task: u32,
+    },
+    /// So many units of time go by, in which nothing else happens. No core makes it.
+    Pass {
+        units: u32,
     },
 }
 
@@ -120,6 +129,10 @@ pub enum Call {
         queue: u32,
         ticks: u32,
     },
+    /// `vTaskSuspend` of the task, which may be the one that makes the call.
+    Suspend(u32),
+    /// `vTaskResume` of the task.
+    Resume(u32),
     /// The return of the task's unfinished call, once the task runs again.
     Finish,
     /// `taskENTER_CRITICAL`: no other core makes a call and no core switches until as many calls of
@@ -169,17 +182,19 @@ pub enum Unfinished {
 }
 
 impl Step {
-    /// The core that makes the step. A tick is made by core 0.
+    /// The core that makes the step. A tick is made by core 0; a pass, which no core makes, counts
+    /// as one of core 0.
     #[inline]
     pub fn core(&self) -> u32
         ensures { result ≡ core_of self.now }
     {
         match *self {
-            Step::Tick => 0,
+            Step::Tick | Step::Pass { .. } => 0,
             Step::Switch { core }
             | Step::Call { core, .. }
             | Step::Interrupt { core, .. }
-            | Step::QueueInterrupt { core, .. } => core,
+            | Step::QueueInterrupt { core, .. }
+            | Step::ResumeInterrupt { core, .. } => core,
         }
     }
 
@@ -202,12 +217,16 @@ impl Step {
             Step::QueueInterrupt { core, queue, .. } => {
                 core_flaw(core, header).or(queue_flaw(queue, header))
             }
+            Step::ResumeInterrupt { core, task } => {
+                core_flaw(core, header).or(resume_flaw(task, header))
+            }
+            Step::Pass { units } => pass_flaw(units, header),
         }
     }
 
     /// F2 where the core is none, else F3 where the caller is no user task, else the fault of the
-    /// call. For an interrupt F3 where the notified task is no user task, or F4 where its queue is
-    /// none.
+    /// call. For an interrupt F3 where the task that it is for is no user task, or F4 where its
+    /// queue is none. F5 for a pass of 0 units, or where a tick has no more than one unit.
     pub fn check(&self, header: &Header) -> Result<(), Fault>
         ensures value { result ≡ step_check (settings_of header.now) self.now }
         ensures checked { OnOk result (IsCheckedStep (settings_of header.now) self.now) }
@@ -257,6 +276,7 @@ impl Call {
                 task_flaw(task, header).or(index_flaw(index, header))
             }
             Call::PreemptOff(task) | Call::PreemptOn(task) => task_flaw(task, header),
+            Call::Suspend(task) | Call::Resume(task) => resume_flaw(task, header),
             Call::Notify(note) => note_flaw(note, header),
             Call::MutexTake {
                 mutex,
@@ -275,8 +295,8 @@ impl Call {
     }
 
     /// The fault of the call's arguments: F3 where the task that it is for is no user task, F4
-    /// where the mutex or the queue that it is for is none, F5 where a mask allows no core or a
-    /// wake is 0 ticks after the last one.
+    /// where the mutex or the queue that it is for is none, F5 where a mask allows no core, a wake
+    /// is 0 ticks after the last one, or a session without queues suspends or resumes a task.
     pub fn check(&self, header: &Header) -> Result<(), Fault>
         ensures value { result ≡ call_check (settings_of header.now) self.now }
         ensures checked { OnOk result (IsCheckedCall (settings_of header.now) self.now) }
@@ -362,6 +382,36 @@ pub(crate) fn queue_flaw(queue: u32, header: &Header) -> Option<StepFlaw>
         None
     } else {
         Some(StepFlaw::Queue { queue, queues })
+    }
+}
+
+/// A session that says nothing of queues suspends no task.
+fn suspending_flaw(header: &Header) -> Option<StepFlaw>
+    ensures { result ≡ suspending_flaw (settings_of header.now) }
+{
+    match &header.queues {
+        None => Some(StepFlaw::Suspending),
+        Some(_) => None,
+    }
+}
+
+// The task that is suspended or resumed.
+pub(crate) fn resume_flaw(task: u32, header: &Header) -> Option<StepFlaw>
+    ensures { result ≡ resume_flaw (settings_of header.now) task }
+{
+    task_flaw(task, header).or(suspending_flaw(header))
+}
+
+fn pass_flaw(units: u32, header: &Header) -> Option<StepFlaw>
+    ensures value { result ≡ pass_flaw (settings_of header.now) units }
+    ensures words { units < 2 ^ 32 }
+{
+    if header.config.units == 1 {
+        Some(StepFlaw::NoUnits)
+    } else if units == 0 {
+        Some(StepFlaw::NoTime)
+    } else {
+        None
     }
 }
 

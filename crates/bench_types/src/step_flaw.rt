@@ -21,6 +21,12 @@ pub enum StepFlaw {
     Mask { mask: u32, cores: u32 },
     /// The next wake is 0 ticks after the last one.
     Increment,
+    /// A session that says nothing of queues suspends and resumes no task.
+    Suspending,
+    /// A tick has one unit of time, so none goes by between ticks.
+    NoUnits,
+    /// No unit of time goes by.
+    NoTime,
     /// A task has so many notifications, and none of this index.
     Index { index: u32, notes: u32 },
     /// The new priority of a task is not below this number of priorities.
@@ -38,9 +44,12 @@ impl StepFlaw {
             StepFlaw::Core { .. } | StepFlaw::TickCore(_) => Fault::BadCore,
             StepFlaw::Task(_) => Fault::BadTask,
             StepFlaw::Mutex { .. } | StepFlaw::Queue { .. } => Fault::BadMutex,
-            StepFlaw::Mask { .. } | StepFlaw::Increment | StepFlaw::Index { .. } => {
-                Fault::BadArgument
-            }
+            StepFlaw::Mask { .. }
+            | StepFlaw::Increment
+            | StepFlaw::Suspending
+            | StepFlaw::NoUnits
+            | StepFlaw::NoTime
+            | StepFlaw::Index { .. } => Fault::BadArgument,
             StepFlaw::NewPriority { .. } | StepFlaw::NewMask { .. } => Fault::BadHeader,
         }
     }

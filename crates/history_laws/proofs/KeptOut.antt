@@ -9,11 +9,11 @@ use Rattle.bench_types.specs.declared.reply.Refusal.TheVariants.{Held, NotHolder
 use Rattle.bench_types.specs.declared.reply.Reply.{Reply}
 use Rattle.bench_types.specs.declared.reply.Reply.TheVariants.{Refused}
 use Rattle.bench_types.specs.declared.step.Step.{Step}
-use Rattle.bench_types.specs.declared.step.Step.TheVariants.{Tick, Switch, Interrupt, QueueInterrupt}
+use Rattle.bench_types.specs.declared.step.Step.TheVariants.{Tick, Switch, Interrupt, QueueInterrupt, ResumeInterrupt, Pass}
 use Rattle.bench_types.specs.declared.step.Step.TheVariants as steps
 use Rattle.bench_types.specs.declared.step.Call.{Call}
 use Rattle.bench_types.specs.declared.step.Call.TheVariants.{Yield, Delay, DelayUntil, Finish, PrioritySet, AffinitySet, PreemptOff, PreemptOn, Notify}
-use Rattle.bench_types.specs.declared.step.Call.TheVariants.{NotifyWait, NotifyTake, StateClear, ValueClear, MutexTake, MutexGive, QueueSend, QueueReceive, HoldOpen, HoldClose}
+use Rattle.bench_types.specs.declared.step.Call.TheVariants.{NotifyWait, NotifyTake, StateClear, ValueClear, MutexTake, MutexGive, QueueSend, QueueReceive, Suspend, Resume, HoldOpen, HoldClose}
 use Rattle.bench_types.specs.declared.step.Direction.{Direction}
 use Rattle.bench_types.specs.declared.step.Direction.TheVariants.{Send, Receive}
 use Rattle.bench_types.specs.declared.step.BlockingCall.{BlockingCall}
@@ -32,6 +32,7 @@ use Rattle.bench_model.specs.Refusals.{call_refusal, opens_hold, closes_hold, gi
 use Rattle.bench_model.specs.Seek.{after_switch}
 use Rattle.bench_model.specs.Session.{step_of}
 use Rattle.bench_model.specs.Start.{start, started, unstarted, first_stamps}
+use Rattle.bench_model.specs.Suspending.{resume_interrupted}
 use Rattle.bench_model.specs.State.{State, QueueOps, call_at, holder_at}
 use Rattle.bench_model.specs.Steps.{performed, called, after_finish, delayed_until, after}
 use Rattle.bench_model.specs.Table.{Table, stamp_queues}
@@ -128,16 +129,20 @@ module _ {Orders : Type 0} (ops : QueueOps Orders) where
   called_made core task (MutexGive mutex) state = give_made core task mutex state
   called_made core task (QueueSend queue ticks) state = queue_called_made core task Send queue ticks state
   called_made core task (QueueReceive queue ticks) state = queue_called_made core task Receive queue ticks state
+  called_made core task (Suspend other) state = refl
+  called_made core task (Resume other) state = refl
   called_made core task HoldOpen state = refl
   called_made core task HoldClose state = refl
 
   pub performed_made : (step : Step) (state : State Orders) → IsMade (performed ops step state)
-  unfolding performed interrupted queue_interrupted
+  unfolding performed interrupted queue_interrupted resume_interrupted
   performed_made Tick state = refl
   performed_made (Switch core) state = refl
   performed_made (steps.Call core task call) state = called_made core task call state
   performed_made (Interrupt core note) state = refl
   performed_made (QueueInterrupt core queue direction) state = refl
+  performed_made (ResumeInterrupt core task) state = refl
+  performed_made (Pass units) state = refl
 
 -- whether a step is refused since the kernel is held
 abbrev says_held : Option Refusal → Bool
@@ -188,6 +193,8 @@ module _ {Orders : Type 0} (ops : QueueOps Orders) where
   refusal_held Tick state = refl
   refusal_held (Interrupt core note) state = refl
   refusal_held (QueueInterrupt core queue direction) state = refl
+  refusal_held (ResumeInterrupt core task) state = refl
+  refusal_held (Pass units) state = refl
   refusal_held (Switch core) state = either_held (is_some state.hold) _ (either_free (is_due state.control core) None (Some NotDue) refl refl)
   refusal_held (steps.Call core task call) state = either_held (is_held_elsewhere core state.hold) _ (own_free core task call state)
 

@@ -11,10 +11,10 @@ use Rattle.bench_types.specs.declared.header.Header.{Header}
 use Rattle.bench_types.specs.declared.reply.Refusal.TheVariants.{Held}
 use Rattle.bench_types.specs.declared.reply.Reply.TheVariants.{Refused}
 use Rattle.bench_types.specs.Header.{header_check}
-use Rattle.bench_types.specs.Step.{core_of, settings_of, step_check, core_check, note_check, queue_check, task_check, call_check, ◌>>◌, IsCheckedStep}
+use Rattle.bench_types.specs.Step.{core_of, settings_of, step_check, core_check, note_check, queue_check, resume_check, task_check, call_check, ◌>>◌, IsCheckedStep}
 use Rattle.bench_types.proofs.Passes.{both_pass, checked_core, checked_header}
 use Rattle.bench_types.specs.declared.step.Step.{Step}
-use Rattle.bench_types.specs.declared.step.Step.TheVariants.{Tick, Switch, Interrupt, QueueInterrupt}
+use Rattle.bench_types.specs.declared.step.Step.TheVariants.{Tick, Switch, Interrupt, QueueInterrupt, ResumeInterrupt, Pass}
 use Rattle.bench_types.specs.declared.step.Step.TheVariants as steps
 use Rattle.bench_model.specs.History.{steps_of, end_of, IsLegal, IsNext}
 use Rattle.bench_model.specs.Session.{step_of, state_after, state_at, reply_at}
@@ -127,6 +127,10 @@ core_there header (Interrupt core note) some checked =
 core_there header (QueueInterrupt core queue direction) some checked =
     let settings = settings_of header in
     checked_core settings core (both_pass (core_check settings core) (queue_check settings queue) checked).0
+core_there header (ResumeInterrupt core task) some checked =
+    let settings = settings_of header in
+    checked_core settings core (both_pass (core_check settings core) (resume_check settings task) checked).0
+core_there header (Pass units) some checked = some
 
 pub cores_there : (header : Header) (entries : List Entry) → header_check header ≡ Ok tt → IsLegal header entries → All
     (λ entry. entry.core < header.config.cores) entries

@@ -27,6 +27,10 @@ module _ {X : Type 0} where
   filter_none p [] fails = refl
   filter_none p (x ∷ xs) fails = grind (arith, fails.0, filter_none p xs fails.1)
 
+  pub list_any_none : (p : X → Bool) (xs : List X) → AllByRecursion (λ x. p x ≡ false) xs → list_any p xs ≡ false
+  list_any_none p [] fails = refl
+  list_any_none p (x ∷ xs) fails = grind (arith, fails.0, list_any_none p xs fails.1)
+
   pub All-filter : (P : X → Type 0) (p : X → Bool) (xs : List X) → AllByRecursion P xs → AllByRecursion P (filter p xs)
   All-filter P p [] all = tt
   All-filter P p (x ∷ xs) all = elim (p x) as (λ b. AllByRecursion P (cond b (x ∷ filter p xs) (filter p xs)))

@@ -18,7 +18,7 @@ use Rattle.bench_model.specs.declared.row.TaskState.TheVariants.{Ready, Blocked}
 use Rattle.list_orders.specs.Search.{numbers, by_stamp, placed, ranked, without, has}
 use Rattle.bench_model.specs.Control.{Control, may_select}
 use Rattle.bench_model.specs.Table.{Stamps, row_at, stamp_of, tasks_of, is_ready, stands_ready, wake_in, ahead, wakes_at, pick, add_to_ready_list}
-use Rattle.bench_model.specs.Table.{delay, deadline_left, forget_deadline, set_list_value, advance, due}
+use Rattle.bench_model.specs.Table.{delay, suspend, deadline_left, forget_deadline, set_list_value, advance, due}
 use Rattle.bench_model.specs.Waiters.{list_value_of}
 use Rattle.bench_model.specs.Lists as seen
 use Rattle.bench_model.specs.Lists.{Lists, lists_of, delayed_of, outranks, wakes_first}
@@ -94,6 +94,20 @@ add_to_ready_seen control stamps task given below =
     ap (placed (outranks control) task) (ready_without control task ready))
     refl
     (entries_over wakes_first waits (delayed_from stamps.tick) stamps task Ready below (λ e. e.task) (λ i s. refl) wakes_first-IsRank given refl)
+    refl
+    refl
+
+-- a task that is suspended
+pub suspend_seen : (control : Control) (stamps : Stamps) (task : ℕ) → IsGiven stamps → task < length stamps.rows → lists_of control (suspend task stamps) ≡
+    seen.suspend task (lists_of control stamps)
+unfolding lists_of suspend seen.suspend
+suspend_seen control stamps task given below =
+    let ready = standing_so stands_ready stamps in
+    same_seen _ _ _ _ _ _ _ _ _ _ _
+    (ap (ranked (outranks control)) (standing_so_moved stamps task (Blocked None) below stands_ready given ∙ append-nil (without task ready)) ∙ ready_without
+    control task ready)
+    refl
+    (entries_over wakes_first waits (delayed_from stamps.tick) stamps task (Blocked None) below (λ e. e.task) (λ i s. refl) wakes_first-IsRank given refl)
     refl
     refl
 

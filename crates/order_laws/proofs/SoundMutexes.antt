@@ -1,6 +1,6 @@
 -- What is kept of mutexes where tasks are made ready, where a tick passes, and where a task waits, ends its wait, takes or gives.
-use Rattle.std.proofs.Common.{◌≡◌, ◌≢◌, ℕ, suc, ◌+◌, ◌<◌, ◌^◌, true, not, eqb, cond, List, [], length, Option, Some, None, refl, sym, ap, subst, ◌∙◌, arith, inl, inr}
-use Rattle.std.specs.Prelude.{slice_set, is_some, option_map, IfSome}
+use Rattle.std.proofs.Common.{◌≡◌, ◌≢◌, ℕ, suc, ◌+◌, ◌<◌, ◌^◌, Bool, true, not, eqb, cond, List, [], false, length, Option, Some, None, refl, sym, ap, ap₂, subst, ◌∙◌, arith, inl, inr}
+use Rattle.std.specs.Prelude.{slice_set, is_some, option_map, IfSome, ◌||◌}
 use Rattle.std.specs.List.{AllByRecursion}
 use Rattle.std.proofs.lemmas.List.Elements.{All-set}
 use Rattle.std.proofs.lemmas.Bool.{cases_eq}
@@ -14,7 +14,7 @@ use Rattle.bench_model.specs.declared.row.TaskState.{TaskState}
 use Rattle.bench_model.specs.declared.row.TaskState.TheVariants.{Ready, Blocked}
 use Rattle.bench_model.specs.declared.row.TaskRow.{TaskRow}
 use Rattle.bench_model.specs.State.{call_at, holder_at}
-use Rattle.bench_model.specs.Table.{Stamps, row_at, ahead, deadline_at, is_ready, stands_ready, stamp_of, restamped, add_to_ready_list, delay, forget_deadline, set_list_value, advance}
+use Rattle.bench_model.specs.Table.{Stamps, row_at, ahead, deadline_at, is_ready, stands_ready, stamp_of, restamped, wake_in, waits, add_to_ready_list, delay, suspend, forget_deadline, set_list_value, advance}
 use Rattle.bench_model.specs.Waiters.{list_awaited, waiter_of, waits_first, with_wait, without_waiter}
 use Rattle.bench_model.specs.Sound.{IsEventWait, IsEventTime, IsWaiter, IsWaitOf, HasMutexes, list_of_call}
 use Rattle.list_orders.proofs.Filters.{All-both, All-filter, All-filter_passes, All-weaker}
@@ -54,45 +54,75 @@ waiter_moved settings stamps task standing below waiter away is = (
   is.2,
 )
 
--- and keeps its stamp
-others_stamped : (stamps : Stamps) (task : ℕ) → task < length stamps.rows → (waiters : List Waiter) → AllByRecursion
-    (λ (w : Waiter). stamp_of (restamped task Ready stamps) w.task ≡ stamp_of stamps w.task) (without_waiter task waiters)
-others_stamped stamps task below waiters =
-    let is_other = λ (waiter : Waiter). not (eqb waiter.task task) in
-    All-weaker (λ (waiter : Waiter). is_other waiter ≡ true) (λ (w : Waiter). stamp_of (restamped task Ready stamps) w.task ≡ stamp_of stamps w.task)
-    (λ waiter other. stamp_other stamps task Ready below waiter.task (λ same. grind (arith, nat_tests, other, same))) (without_waiter task waiters)
-    (All-filter_passes is_other waiters)
+-- a task that goes to where it waits for nothing, and the others
+module _ (stamps : Stamps) (task : ℕ) (standing : TaskState) (below : task < length stamps.rows) where
+  abbrev is_other : Waiter → Bool
+  is_other waiter = not (eqb waiter.task task)
 
--- those of other tasks are so where the task is made ready
-readied_waiters : (settings : Settings) (stamps : Stamps) (task : ℕ) → task < length stamps.rows → AllByRecursion (IsWaiter settings stamps) stamps.waiters →
-    AllByRecursion (IsWaiter settings (restamped task Ready stamps)) (without_waiter task stamps.waiters)
-readied_waiters settings stamps task below all =
-    let is_other = λ (waiter : Waiter). not (eqb waiter.task task) in
-    let others = without_waiter task stamps.waiters in
-    All-weaker (λ (waiter : Waiter). (is_other waiter ≡ true) × IsWaiter settings stamps waiter) (IsWaiter settings (restamped task Ready stamps))
-    (λ waiter both. waiter_moved settings stamps task Ready below waiter (λ same. grind (arith, nat_tests, both.0, same)) both.1) others
-    (All-both (λ (waiter : Waiter). is_other waiter ≡ true) (IsWaiter settings stamps) others (All-filter_passes is_other stamps.waiters)
-    (All-filter (IsWaiter settings stamps) is_other stamps.waiters all))
+  abbrev others : List Waiter
+  others = without_waiter task stamps.waiters
+
+  abbrev gone : Stamps
+  gone = restamped task standing (record stamps { waiters = others })
+
+  away_from : (waiter : Waiter) → is_other waiter ≡ true → waiter.task ≢ task
+  away_from waiter other same = grind (arith, nat_tests, other, same)
+
+  -- the stamps of the others stay
+  others_stamped : AllByRecursion (λ (w : Waiter). stamp_of gone w.task ≡ stamp_of stamps w.task) others
+  others_stamped = All-weaker (λ (waiter : Waiter). is_other waiter ≡ true) (λ (w : Waiter). stamp_of gone w.task ≡ stamp_of stamps w.task)
+      (λ waiter other. stamp_other stamps task standing below waiter.task (away_from waiter other)) others (All-filter_passes is_other stamps.waiters)
+
+  -- and they wait as before
+  gone_waiters : (settings : Settings) → AllByRecursion (IsWaiter settings stamps) stamps.waiters → AllByRecursion (IsWaiter settings gone) others
+  gone_waiters settings all =
+      All-weaker (λ (waiter : Waiter). (is_other waiter ≡ true) × IsWaiter settings stamps waiter) (IsWaiter settings gone)
+      (λ waiter both. waiter_moved settings stamps task standing below waiter (away_from waiter both.0) both.1) others
+      (All-both (λ (waiter : Waiter). is_other waiter ≡ true) (IsWaiter settings stamps) others (All-filter_passes is_other stamps.waiters)
+      (All-filter (IsWaiter settings stamps) is_other stamps.waiters all))
+
+  -- the task itself waits for nothing
+  pub waits_not : wake_in standing ≡ None → waits task gone ≡ false
+  waits_not none =
+      let wake = ap (λ standing. is_some (wake_in standing)) (standing_same stamps task standing below) ∙ ap is_some none in
+      let list = ap (λ waiter. is_some (option_map (λ (w : Waiter). w.wait.list) waiter)) (none_found task others
+      (All-weaker (λ (waiter : Waiter). is_other waiter ≡ true) (λ (w : Waiter). w.task ≢ task) away_from others (All-filter_passes is_other stamps.waiters))) in
+      ap₂ (λ a b. a || b) wake list
+
+  others_await_still : (i : ℕ) → i ≢ task → list_awaited i others ≡ list_awaited i stamps.waiters
+  others_await_still i away = ap (option_map (λ (waiter : Waiter). waiter.wait.list)) (other_found i task away stamps.waiters)
+
+  pub waits_other : (i : ℕ) → i ≢ task → waits i gone ≡ waits i stamps
+  waits_other i away =
+      ap₂ (λ standing list. is_some (wake_in standing) || is_some list) (standing_other stamps task standing below i away) (others_await_still i away)
+
+  pub gone_mutexes : (settings : Settings) (calls : List (Option Unfinished)) (holders : List (Option ℕ)) → wake_in standing ≡ None → HasMutexes settings calls
+      holders stamps → HasMutexes settings calls holders gone
+  gone_mutexes settings calls holders none kept = record {
+    held_by_tasks = kept.held_by_tasks;
+    waits = gone_waiters settings kept.waits;
+    once = once_filter is_other stamps.waiters kept.once;
+    by_list = by_mutex_filter is_other stamps.waiters kept.by_list;
+    awaited = λ i low waiting. elim (cases_eq i task) [
+      | inl here ↦ absurd (cc (sym (ap (λ j. waits j gone) here ∙ waits_not none) ∙ waiting))
+      | inr away ↦ others_await_still i away ∙ kept.awaited i
+          (omega (arith, moved_length stamps task standing below, low)) (sym (waits_other i away) ∙ waiting)
+    ];
+    turns = λ none. turn_moved stamps gone others others_stamped (turn_filter stamps is_other stamps.waiters (kept.turns none));
+    values = kept.values;
+    deadlines = kept.deadlines;
+  }
 
 module _ (settings : Settings) (calls : List (Option Unfinished)) (holders : List (Option ℕ)) (stamps : Stamps)
     (kept : HasMutexes settings calls holders stamps) where
   pub readied_mutexes : (task : ℕ) → task < length stamps.rows → HasMutexes settings calls holders (add_to_ready_list task stamps)
   unfolding add_to_ready_list
-  readied_mutexes task below = record {
-    held_by_tasks = kept.held_by_tasks;
-    waits = readied_waiters settings stamps task below kept.waits;
-    once = once_filter (λ (waiter : Waiter). not (eqb waiter.task task)) stamps.waiters kept.once;
-    by_list = by_mutex_filter (λ (waiter : Waiter). not (eqb waiter.task task)) stamps.waiters kept.by_list;
-    awaited = λ i low blocked. elim (cases_eq i task) [
-      | inl here ↦ absurd (cc (sym (ap (λ j. is_ready j (restamped task Ready stamps)) here ∙ ap stands_ready (standing_same stamps task Ready below)) ∙ blocked))
-      | inr away ↦ ap (option_map (λ (waiter : Waiter). waiter.wait.list)) (other_found i task away stamps.waiters) ∙ kept.awaited i
-          (omega (arith, moved_length stamps task Ready below, low)) (sym (ap stands_ready (standing_other stamps task Ready below i away)) ∙ blocked)
-    ];
-    turns = λ none. turn_moved stamps (restamped task Ready stamps) (without_waiter task stamps.waiters) (others_stamped stamps task below stamps.waiters)
-        (turn_filter stamps (λ (waiter : Waiter). not (eqb waiter.task task)) stamps.waiters (kept.turns none));
-    values = kept.values;
-    deadlines = kept.deadlines;
-  }
+  readied_mutexes task below = gone_mutexes stamps task Ready below settings calls holders refl kept
+
+  -- a task that is suspended
+  pub suspended_mutexes : (task : ℕ) → task < length stamps.rows → HasMutexes settings calls holders (suspend task stamps)
+  unfolding suspend
+  suspended_mutexes task below = gone_mutexes stamps task (Blocked None) below settings calls holders refl kept
 
   pub advanced_mutexes : HasMutexes settings calls holders (advance stamps)
   unfolding advance
@@ -107,6 +137,17 @@ module _ (settings : Settings) (calls : List (Option Unfinished)) (holders : Lis
     deadlines = λ i deadline has. let near = kept.deadlines i deadline has in (omega (arith, near.0), near.1);
   }
 
+  -- a ready task waits for nothing
+  ready_waits_not : (task : ℕ) → is_ready task stamps ≡ true → waits task stamps ≡ false
+  ready_waits_not task ready =
+      let none = none_found task stamps.waiters (All-weaker (IsWaiter settings stamps) (λ (w : Waiter). w.task ≢ task)
+      (λ w is same. cc (ap (λ i. is_ready i stamps) same, ready, is.1)) stamps.waiters kept.waits) in
+      ap₂ (λ a b. a || b) (no_wake (row_at stamps task).standing ready) (ap (λ waiter. is_some (option_map (λ (w : Waiter). w.wait.list) waiter)) none)
+    where
+      no_wake : (standing : TaskState) → stands_ready standing ≡ true → is_some (wake_in standing) ≡ false
+      no_wake Ready ready = refl
+      no_wake (Blocked wake) ready = absurd (cc)
+
   -- a ready task whose wait is over
   pub freed_mutexes : (task : ℕ) → is_ready task stamps ≡ true → task < length calls → task < length stamps.deadlines → HasMutexes settings (slice_set calls task None) holders
       (forget_deadline task stamps)
@@ -117,7 +158,7 @@ module _ (settings : Settings) (calls : List (Option Unfinished)) (holders : Lis
     once = kept.once;
     by_list = kept.by_list;
     awaited = λ i low blocked. elim (cases_eq i task) [
-      | inl here ↦ absurd (cc (sym (ap (λ j. is_ready j stamps) here ∙ ready) ∙ blocked))
+      | inl here ↦ absurd (cc (sym (ap (λ j. waits j stamps) here ∙ ready_waits_not task ready) ∙ blocked))
       | inr away ↦ kept.awaited i low blocked ∙ sym (ap (list_of_call settings) (get_or-set_other calls task i None None away))
     ];
     turns = kept.turns;
@@ -156,12 +197,26 @@ module _ (settings : Settings) (calls : List (Option Unfinished)) (holders : Lis
     waits = all_revalued task value stamps.values stamps.waiters (IsWaiter settings stamps) (λ w is. (is.0, is.1, (is.2.0, below))) kept.waits;
     once = once_revalued task value stamps.values stamps.waiters kept.once;
     by_list = by_mutex_revalued task value stamps.values stamps.waiters kept.by_list;
-    awaited = λ i low blocked. awaited_revalued task value stamps.values stamps.waiters i ∙ kept.awaited i low blocked;
+    awaited = λ i low blocked.
+        let same = awaited_revalued task value stamps.values stamps.waiters i in
+        same ∙ kept.awaited i low (sym (ap (λ list. is_some (wake_in (row_at stamps i).standing) || is_some list) same) ∙ blocked);
     turns = λ none. let empty = set_none stamps.values task value none in
         subst (AreInTurn stamps) (sym (none_revalued task value stamps.values stamps.waiters empty)) (kept.turns empty);
     values = All-set (λ v. v < settings.priorities) stamps.values task value below kept.values;
     deadlines = kept.deadlines;
   }
+
+-- the others wait as before where a task begins to wait
+pub delay_waits_other : (stamps : Stamps) (task : ℕ) (ticks : Option ℕ) (wait : Option EventWait) → task < length stamps.rows → (i : ℕ) → i ≢ task → waits i
+    (delay task ticks wait stamps) ≡ waits i stamps
+unfolding delay
+delay_waits_other stamps task ticks wait below i away =
+    ap₂ (λ standing waiter. is_some (wake_in standing) || is_some (option_map (λ (w : Waiter). w.wait.list) waiter))
+    (standing_other stamps task (Blocked (ahead stamps ticks)) below i away) (at wait)
+  where
+    at : (wait : Option EventWait) → waiter_of i (with_wait task wait stamps.waiters) ≡ waiter_of i stamps.waiters
+    at None = refl
+    at (Some wait) = others_found waits_first (record { task = task; wait = wait }) stamps.waiters i away
 
 -- the deadline of a wait that begins now
 initial_near : (tick deadline : ℕ) (ticks : Option ℕ) (wait : Option EventWait) → (is_some wait ≡ true → IsEventTime ticks) → cond (is_some wait)
@@ -253,7 +308,8 @@ module _ (settings : Settings) (calls : List (Option Unfinished)) (holders : Lis
       | inl here ↦ ap (λ j. list_awaited j (with_wait task wait stamps.waiters)) here ∙ task_awaits wait ready ∙ takes.0 ∙ sym
           (ap (list_of_call settings) (ap (call_at later_calls) here ∙ get_or-set_same calls task (Some call) None in_calls))
       | inr away ↦ ap (option_map (λ (w : Waiter). w.wait.list)) (others_await i wait away) ∙ kept.awaited i (omega (arith, moved_length stamps task standing below, low))
-          (sym (ap stands_ready (standing_other stamps task standing below i away)) ∙ blocked) ∙ sym
+          (sym (ap₂ (λ standing waiter. is_some (wake_in standing) || is_some (option_map (λ (w : Waiter). w.wait.list) waiter))
+          (standing_other stamps task standing below i away) (others_await i wait away)) ∙ blocked) ∙ sym
           (ap (list_of_call settings) (get_or-set_other calls task i (Some call) None away))
     ];
     turns = in_turn wait below given ready;

@@ -19,13 +19,13 @@ use Rattle.list_orders.specs.Search.{numbers, has}
 use Rattle.bench_model.specs.Control.{Control, core_at, task_at, with_core, current, is_due, may_select, asked_by, ask, run_on}
 use Rattle.bench_model.specs.State.{selected, call_at, after_select, yielded, blocked}
 use Rattle.bench_model.specs.Table.{Stamps, Table, stamp_queues, row_at, stamp_of, is_ready, stands_ready, wake_in, ahead, wakes_at, tasks_of, restamped, pick}
-use Rattle.bench_model.specs.Table.{add_to_ready_list, delay, advance, due}
+use Rattle.bench_model.specs.Table.{add_to_ready_list, delay, suspend, advance, due}
 use Rattle.bench_model.specs.Sound.{IsCaller, IsStamped, HasCurrentTasks, IsWait, IsEventWait, WakesInTime, IsControlBlock, HasMutexes}
 use Rattle.bench_model.specs.Sound.{IsConsistent, IsWaitOf}
 use Rattle.list_orders.proofs.Filters.{All-weaker}
 use Rattle.list_orders.proofs.Stamped.{numbers_have, has-by_stamp}
 use Rattle.order_laws.proofs.Restamps.{moved_length, moved_once}
-use Rattle.order_laws.proofs.SoundMutexes.{standing_same, standing_other, readied_field, readied_mutexes, advanced_mutexes, waiting_mutexes}
+use Rattle.order_laws.proofs.SoundMutexes.{standing_same, standing_other, readied_field, readied_mutexes, suspended_mutexes, advanced_mutexes, waiting_mutexes}
 use Rattle.order_laws.proofs.Selects.{selects, list_any_at}
 use Rattle.order_laws.proofs.Sizes.{lengths_of, resized}
 use Rattle.order_laws.proofs.SeenSteps.{queued, queued_once, add_to_ready_once, due_below}
@@ -160,6 +160,82 @@ ready_sound table task sound low =
       calls = sound.calls;
       notes = sound.notes;
       mutexes = readied_mutexes table.settings table.calls table.holders table.orders sound.mutexes task below;
+    }
+
+-- the core of a task is due
+abbrev pub IsDueWith : Control → ℕ → Type 0
+IsDueWith control task = (c : ℕ) → c < length control.cores → current control c ≡ task → is_due control c ≡ true
+
+-- a task that is suspended
+module _ (stamps : Stamps) (task : ℕ) (below : task < length stamps.rows) where
+  abbrev gone : TaskState
+  gone = Blocked None
+
+  pub suspended_length : length (suspend task stamps).rows ≡ length stamps.rows
+  unfolding suspend
+  suspended_length = moved_length stamps task gone below
+
+  pub suspended_deadlines : length (suspend task stamps).deadlines ≡ length stamps.deadlines
+  unfolding suspend
+  suspended_deadlines = refl
+
+  suspended_values : (suspend task stamps).values ≡ stamps.values
+  unfolding suspend
+  suspended_values = refl
+
+  pub suspended_ready : is_ready task (suspend task stamps) ≡ false
+  unfolding suspend
+  suspended_ready = ap stands_ready (standing_same stamps task gone below)
+
+  pub suspended_other : (i : ℕ) → i ≢ task → is_ready i (suspend task stamps) ≡ is_ready i stamps
+  unfolding suspend
+  suspended_other i away = ready_other stamps task gone below i away
+
+  suspended_stamped : IsStamped stamps → IsStamped (suspend task stamps)
+  unfolding suspend
+  suspended_stamped stamped =
+      let moved = moved_once stamps task gone below stamped in
+      record { given = moved.given; once = moved.once }
+
+  suspended_in_time : WakesInTime stamps → WakesInTime (suspend task stamps)
+  unfolding suspend
+  suspended_in_time in_time i wake low waits = elim (cases_eq i task) [
+    | inl here ↦ absurd (cc (sym (ap wake_in (standing_same stamps task gone below)) ∙ ap (λ j. wake_in (row_at (restamped task gone stamps) j).standing)
+        (sym here) ∙ waits))
+    | inr away ↦ in_time i wake (omega (arith, moved_length stamps task gone below, low))
+        (ap wake_in (sym (standing_other stamps task gone below i away)) ∙ waits)
+  ]
+
+  suspended_placed : (control : Control) → IsDueWith control task → length control.cores ≤ task → HasCurrentTasks control stamps → HasCurrentTasks control
+      (suspend task stamps)
+  suspended_placed control due user place = record {
+    is_task = λ c low. omega (arith, place.is_task c low, suspended_length);
+    on_one_core = place.on_one_core;
+    blocked_is_due = λ c low waits. elim (cases_eq (current control c) task) [
+      | inl here ↦ due c low here
+      | inr away ↦ place.blocked_is_due c low (sym (suspended_other (current control c) away) ∙ waits)
+    ];
+    idle_is_ready = λ i low. suspended_other i (λ same. omega (arith, same, low, user)) ∙ place.idle_is_ready i low;
+  }
+
+-- suspending a user task whose core is due keeps a table sound
+pub suspend_sound : (table : Table) (task : ℕ) → IsConsistent table → task < table.settings.tasks → table.settings.cores ≤ task → IsDueWith table.control task
+    → IsConsistent (record table { orders = suspend task table.orders })
+suspend_sound table task sound low user due =
+    let below : task < length table.orders.rows = omega (arith, sound.sized.rows) in
+    record {
+      sized = resized table _ refl (cc (
+        suspended_length table.orders task below,
+        suspended_deadlines table.orders task below,
+        suspended_values table.orders task below,
+      )) sound.sized;
+      stamped = suspended_stamped table.orders task below sound.stamped;
+      in_place = suspended_placed table.orders task below table.control due (omega (arith, sound.sized.cores, user)) sound.in_place;
+      in_time = suspended_in_time table.orders task below sound.in_time;
+      blocks = sound.blocks;
+      calls = sound.calls;
+      notes = sound.notes;
+      mutexes = suspended_mutexes table.settings table.calls table.holders table.orders sound.mutexes task below;
     }
 
 queued_placed : (control : Control) (stamps : Stamps) (task : ℕ) → task < length stamps.rows → HasCurrentTasks control stamps → HasCurrentTasks control
@@ -420,7 +496,7 @@ module _ (control : Control) (acting core : ℕ) (below : core < length control.
     | inr away ↦ ap (λ (l : CoreLook). l.current) (look_other control core (asked_by acting core (core_at control core)) c away)
   ]
 
-  asked_due : is_due (ask acting core control) core ≡ true
+  pub asked_due : is_due (ask acting core control) core ≡ true
   asked_due = ap (λ (l : CoreLook). l.pend || l.asked) asked_here ∙ asked_is_due acting core (core_at control core)
 
   asked_others : (c : ℕ) → c ≢ core → is_due (ask acting core control) c ≡ is_due control c

@@ -5,7 +5,7 @@ use Rattle.bench_types.specs.declared.kernel_data.EventWait.{EventWait}
 use Rattle.list_orders.specs.Search.{without, has}
 use Rattle.bench_model.specs.Control.{Control, task_at, current, in_mask, ask, ask_each, run_on, ask_its_core}
 use Rattle.bench_model.specs.State.{after_select}
-use Rattle.bench_model.specs.Table.{Table, stamp_queues, is_ready, delay}
+use Rattle.bench_model.specs.Table.{Table, stamp_queues, is_ready, delay, suspend}
 use Rattle.bench_model.specs.Lists as seen
 use Rattle.bench_model.specs.Lists.{Lists, View, list_queues, lists_of, view_of}
 use Rattle.bench_model.specs.Mutexes.{inherited, after_disinherit}
@@ -16,7 +16,7 @@ use Rattle.bench_model.specs.Cores.{cores_of, bare_view, cores_rule}
 use Rattle.rule_laws.specs.CoresLaws.{cores_seen}
 use Rattle.bench_model.specs.Sound.{IsStamped, IsConsistent}
 use Rattle.rule_laws.proofs.ControlFields.{in_use_seen}
-use Rattle.order_laws.proofs.SeenMoves.{delay_seen}
+use Rattle.order_laws.proofs.SeenMoves.{delay_seen, suspend_seen}
 use Rattle.rule_laws.proofs.Mutexes.{inherited_seen, after_disinherit_seen}
 use Rattle.rule_laws.proofs.Seeks.{seek_seen, wake_seen, after_switch_seen, sliced_seen}
 
@@ -125,6 +125,17 @@ wait_on table task ticks wait sound low ready =
     ap (λ (lists : Lists). record (cores_seen table) { ready = lists.ready })
     (delay_seen table.control table.orders task ticks wait sound.stamped.given below ready)
     ∙ ap (λ ready. record (cores_seen table) { ready = ready }) (delay_ready task ticks wait (lists_of table.control table.orders))
+
+suspend_ready : (task : ℕ) (lists : Lists) → (seen.suspend task lists).ready ≡ without task lists.ready
+unfolding seen.suspend
+suspend_ready task lists = refl
+
+pub suspend_on : (table : Table) (task : ℕ) → IsConsistent table → task < table.settings.tasks → cores_seen
+    (record table { orders = suspend task table.orders }) ≡ record (cores_seen table) { ready = without task (cores_seen table).ready }
+suspend_on table task sound low =
+    let below : task < length table.orders.rows = omega (arith, sound.sized.rows) in
+    ap (λ (lists : Lists). record (cores_seen table) { ready = lists.ready }) (suspend_seen table.control table.orders task sound.stamped.given below)
+    ∙ ap (λ ready. record (cores_seen table) { ready = ready }) (suspend_ready task (lists_of table.control table.orders))
 
 inherited_alone : (acting holder priority : ℕ) (view : View) → cores_of (inherited list_queues acting holder priority view) ≡ cores_rule
     (inherited list_queues acting holder priority) (cores_of view)

@@ -7,4 +7,5 @@ pub mod Notifying
 pub mod PriorityAffinity
 pub mod Queues
 pub mod Seeks
+pub mod Suspending
 pub mod Ticks

@@ -77,7 +77,7 @@ after_affinity_set_more acting task ready control = at (runs_on control task) re
         (asked_more control acting core (runs_below control task core same))
 
 -- the orders do not read the cores, some of which may be asked
-more_apart : (control other : Control) (stamps : Stamps) → IsAskedMore control other → lists_of other stamps ≡ lists_of control stamps
+pub more_apart : (control other : Control) (stamps : Stamps) → IsAskedMore control other → lists_of other stamps ≡ lists_of control stamps
 more_apart control other stamps more =
     ap (λ (tasks : List TaskControl). lists_of (record { cores = other.cores; tasks = tasks }) stamps) more.tasks ∙ lists_of_cores control other.cores stamps
 

@@ -5,7 +5,7 @@ use Rattle.bench_types.specs.declared.kernel_data.EventWait.{EventWait}
 use Rattle.bench_types.specs.declared.kernel_data.TaskControl.{TaskControl}
 use Rattle.bench_model.specs.Control.{Control, task_at, ask}
 use Rattle.list_orders.specs.Search.{without}
-use Rattle.bench_model.specs.Table.{Stamps, Table, stamp_queues, is_ready, delay}
+use Rattle.bench_model.specs.Table.{Stamps, Table, stamp_queues, is_ready, delay, suspend}
 use Rattle.bench_model.specs.Lists.{list_queues, lists_of, view_of}
 use Rattle.bench_model.specs.Seek.{seek, wake, after_switch, sliced}
 use Rattle.rule_laws.specs.SeekLaws.{sought}
@@ -68,6 +68,12 @@ WaitOnCores =
     (table : Table) (task : ℕ) (ticks : Option ℕ) (wait : Option EventWait) → IsConsistent table
     → task < table.settings.tasks → is_ready task table.orders ≡ true →
     cores_seen (record table { orders = delay task ticks wait table.orders })
+    ≡ record (cores_seen table) { ready = without task (cores_seen table).ready }
+
+abbrev pub SuspendOnCores : Type 0
+SuspendOnCores =
+    (table : Table) (task : ℕ) → IsConsistent table → task < table.settings.tasks →
+    cores_seen (record table { orders = suspend task table.orders })
     ≡ record (cores_seen table) { ready = without task (cores_seen table).ready }
 
 abbrev pub SwitchOnCores : Type 0

@@ -4,3 +4,4 @@ pub mod NoteLaws
 pub mod QueueLaws
 pub mod SeekLaws
 pub mod SetLaws
+pub mod SuspendLaws

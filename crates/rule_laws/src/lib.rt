@@ -2,11 +2,12 @@
 //! consistent. Each function does nothing: its contract is the laws, one a clause.
 #![tactic(auto)]
 
-ghost use Rattle.rule_laws.specs.CoresLaws.{ChangeIsApart, ChangeKeepsConsistent, InUseSimulates, InUseKeepsConsistent, AskOnCores, SeekOnCores, WakeOnCores, WaitOnCores, SwitchOnCores, SlicesOnCores, InUseOnCores};
+ghost use Rattle.rule_laws.specs.CoresLaws.{ChangeIsApart, ChangeKeepsConsistent, InUseSimulates, InUseKeepsConsistent, AskOnCores, SeekOnCores, WakeOnCores, WaitOnCores, SuspendOnCores, SwitchOnCores, SlicesOnCores, InUseOnCores};
 ghost use Rattle.rule_laws.specs.MutexLaws.{FirstWaiterSimulates, FirstWaiterIsServedFirst, DeadlineSimulates, ForgettingSimulates, InheritSimulates, InheritKeepsConsistent, TakeSimulates, TakeKeepsConsistent, FinishSimulates, FinishKeepsConsistent, GiveSimulates, GiveKeepsConsistent, LowerSimulates, LowerKeepsConsistent, InheritOnCores, LowerOnCores};
 ghost use Rattle.rule_laws.specs.NoteLaws.{PlacesAreApart, NotifyLeavesOthers, NotifyWakesOnlyAWaiter, NotifySimulates, NotifyKeepsConsistent, NotesKeepOrders, NotesKeepConsistent};
 ghost use Rattle.rule_laws.specs.QueueLaws.{QueueCallSimulates, QueueCallKeepsConsistent, QueueFinishSimulates, QueueFinishKeepsConsistent, QueueInterruptSimulates, QueueInterruptKeepsConsistent};
 ghost use Rattle.rule_laws.specs.SeekLaws.{BestCoreIsAsked, SeekSimulates, WakeSimulates, AfterSwitchSimulates, SlicesAreSeen, AskKeepsConsistent, SeekKeepsConsistent, WakeKeepsConsistent, AfterSwitchKeepsConsistent, SlicesKeepConsistent};
+ghost use Rattle.rule_laws.specs.SuspendLaws.{SuspensionIsSeen, SuspendSimulates, ResumeSimulates, ResumeInterruptSimulates, SuspendKeepsConsistent, ResumeKeepsConsistent, SuspendedIsSuspended, ResumedIsReady, OthersAreNotResumed, NotifyWakesNoSuspended, NoSuspendedIsDue, NoSuspendedIsServed};
 ghost use Rattle.rule_laws.specs.SetLaws.{AskItsCoreSimulates, YieldsAfterPrioritySetSimulates, YieldsAfterAffinitySetSimulates, PrioritySetSimulates, AffinitySetSimulates, PreemptionOffSimulates, PreemptionOnSimulates, AskItsCoreKeepsConsistent, YieldsAfterPrioritySetKeepsConsistent, YieldsAfterAffinitySetKeepsConsistent, PrioritySetKeepsConsistent, AffinitySetKeepsConsistent, PreemptionOffKeepsConsistent, PreemptionOnKeepsConsistent};
 
 /// Seeking a core for a task, waking one, switches and time slices. Each rule is the same over
@@ -150,6 +151,35 @@ pub fn laws_of_queues()
     ensures interrupt_keeps_consistent { QueueInterruptKeepsConsistent }
 {}
 
+/// Suspended tasks. Each rule is the same over stamps and over lists, and keeps a table consistent;
+/// a suspended task is woken by a resume alone.
+pub fn laws_of_suspending()
+    // Whether a task is suspended is the same over lists.
+    ensures suspension_is_seen { SuspensionIsSeen }
+    // Suspending a task is so over lists.
+    ensures suspend_simulates { SuspendSimulates }
+    // Resuming a task is so over lists.
+    ensures resume_simulates { ResumeSimulates }
+    // An interrupt that resumes a task is so over lists.
+    ensures interrupt_simulates { ResumeInterruptSimulates }
+    // A sound table is sound when a user task was suspended.
+    ensures suspend_keeps_consistent { SuspendKeepsConsistent }
+    // A sound table is sound when a task was resumed.
+    ensures resume_keeps_consistent { ResumeKeepsConsistent }
+    // A task is suspended after the call that suspends it.
+    ensures suspended_is_suspended { SuspendedIsSuspended }
+    // A suspended task is ready after it was resumed.
+    ensures resumed_is_ready { ResumedIsReady }
+    // Where a task is resumed that is not suspended, nothing happens.
+    ensures others_are_not_resumed { OthersAreNotResumed }
+    // A notification of a suspended task wakes nobody.
+    ensures notify_wakes_no_suspended { NotifyWakesNoSuspended }
+    // No suspended task is woken by a tick.
+    ensures no_suspended_is_due { NoSuspendedIsDue }
+    // No suspended task is the first waiter of an event list.
+    ensures no_suspended_is_served { NoSuspendedIsServed }
+{}
+
 /// Cores, control blocks and ready lists by themselves: what each rule does to them depends on them
 /// alone.
 pub fn laws_of_cores()
@@ -171,6 +201,8 @@ pub fn laws_of_cores()
     ensures wake_on_cores { WakeOnCores }
     // A task that begins to wait leaves the ready lists, and changes no core.
     ensures wait_on_cores { WaitOnCores }
+    // A task that is suspended leaves the ready lists; that changes no core.
+    ensures suspend_on_cores { SuspendOnCores }
     // What a switch, with the seek after it, does to the cores and ready lists depends on them
     // alone.
     ensures switch_on_cores { SwitchOnCores }

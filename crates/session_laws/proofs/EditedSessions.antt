@@ -18,7 +18,7 @@ use Rattle.bench_types.specs.declared.fault.Fault.TheVariants.{BadHeader}
 use Rattle.bench_types.specs.declared.header.Config.{Config}
 use Rattle.bench_types.specs.declared.header.Header.{Header}
 use Rattle.bench_types.specs.declared.header.TaskArgs.{TaskArgs}
-use Rattle.bench_types.proofs.Passes.{are_named, both_pass, checked_header, checked_queues, checked_task, flaw_checked, has_valid_args, header_from, IsWithinLimits}
+use Rattle.bench_types.proofs.Passes.{are_named, both_pass, checked_header, checked_queues, checked_task, checked_units, flaw_checked, has_valid_args, header_from, IsWithinLimits}
 use Rattle.bench_types.proofs.Repeats.{is_taken, repeats_name}
 use Rattle.bench_types.specs.Edit.{edit_check, numbers_check, IsEditOfWords}
 use Rattle.bench_types.specs.Header.{header_check, has_valid_numbers, queue_count, IsCheckedHeader}
@@ -148,7 +148,8 @@ changed_fits : (header : Header) (task priority mask : ℕ) → header_check hea
     (changed task priority mask header) ≡ Ok tt
 changed_fits header task priority mask fits numbers =
     let next = changed task priority mask header in
-    flaw_checked next (header_from next (changed_within header task priority mask (checked_header header fits) numbers) (checked_queues header fits))
+    flaw_checked next (header_from next (changed_within header task priority mask (checked_header header fits) numbers) (checked_queues header fits)
+    (checked_units header fits))
 
 changed_settings : (header : Header) (task priority mask : ℕ) → settings_of (changed task priority mask header) ≡ settings_of header
 changed_settings header task priority mask =
@@ -159,6 +160,7 @@ changed_settings header task priority mask =
       mutexes = header.config.mutexes;
       notes = header.config.notes;
       queues = queue_count header;
+      units = header.config.units;
       tasks = header.config.cores + users;
     }) (length-set header.tasks (task - header.config.cores) _)
 

@@ -5,7 +5,7 @@ use Rattle.std.proofs.lemmas.Bool.Decides.{Decides-eqb, Decides-and, Decides-lik
 use Rattle.bench_types.specs.declared.note.NotifyAction.TheVariants.{Nothing, SetBits, Increment, Set, SetNew}
 use Rattle.bench_types.specs.declared.note.NoteState.TheVariants.{NotWaiting, Waiting, Received}
 use Rattle.bench_types.specs.declared.step.Call.TheVariants.{Yield, Delay, DelayUntil, PrioritySet, AffinitySet, PreemptOff, PreemptOn, Notify, NotifyWait}
-use Rattle.bench_types.specs.declared.step.Call.TheVariants.{NotifyTake, StateClear, ValueClear, MutexTake, MutexGive, QueueSend, QueueReceive, Finish, HoldOpen, HoldClose}
+use Rattle.bench_types.specs.declared.step.Call.TheVariants.{NotifyTake, StateClear, ValueClear, MutexTake, MutexGive, QueueSend, QueueReceive, Suspend, Resume, Finish, HoldOpen, HoldClose}
 use Rattle.bench_types.specs.declared.step.Direction.TheVariants.{Send, Receive}
 use Rattle.bench_types.specs.declared.step.BlockingCall.{BlockingCall}
 use Rattle.bench_types.specs.declared.step.BlockingCall.TheVariants as blocking
@@ -54,17 +54,18 @@ two {x = x} {y = y} first second = Decides-and x y first second
 settings : Tells are_same_settings
 settings a b = Decides-like (are_same_settings a b)
     (λ h i. record {
-      cores = h.0.0.0.0.0.0 i;
-      priorities = h.0.0.0.0.0.1 i;
-      slicing = h.0.0.0.0.1 i;
-      mutexes = h.0.0.0.1 i;
-      notes = h.0.0.1 i;
-      queues = h.0.1 i;
+      cores = h.0.0.0.0.0.0.0 i;
+      priorities = h.0.0.0.0.0.0.1 i;
+      slicing = h.0.0.0.0.0.1 i;
+      mutexes = h.0.0.0.0.1 i;
+      notes = h.0.0.0.1 i;
+      queues = h.0.0.1 i;
+      units = h.0.1 i;
       tasks = h.1 i;
     })
-    (λ e. ((((((λ i. (e i).cores, λ i. (e i).priorities), λ i. (e i).slicing), λ i. (e i).mutexes), λ i. (e i).notes), λ i. (e i).queues), λ i. (e i).tasks))
-    (two (two (two (two (two (two (Decides-eqb a.cores b.cores) (Decides-eqb a.priorities b.priorities)) (bools a.slicing b.slicing))
-    (Decides-eqb a.mutexes b.mutexes)) (Decides-eqb a.notes b.notes)) (options (λ m n. nat_eq m n) Decides-eqb a.queues b.queues)) (Decides-eqb a.tasks b.tasks))
+    (λ e. (((((((λ i. (e i).cores, λ i. (e i).priorities), λ i. (e i).slicing), λ i. (e i).mutexes), λ i. (e i).notes), λ i. (e i).queues), λ i. (e i).units), λ i. (e i).tasks))
+    (two (two (two (two (two (two (two (Decides-eqb a.cores b.cores) (Decides-eqb a.priorities b.priorities)) (bools a.slicing b.slicing))
+    (Decides-eqb a.mutexes b.mutexes)) (Decides-eqb a.notes b.notes)) (options (λ m n. nat_eq m n) Decides-eqb a.queues b.queues)) (Decides-eqb a.units b.units)) (Decides-eqb a.tasks b.tasks))
 
 looks : Tells are_same_looks
 looks a b = Decides-like (are_same_looks a b)
@@ -161,6 +162,8 @@ calls (QueueSend a b) (QueueSend c d) = Decides-like (are_same_calls (QueueSend 
     (two (Decides-eqb a c) (Decides-eqb b d))
 calls (QueueReceive a b) (QueueReceive c d) = Decides-like (are_same_calls (QueueReceive a b) (QueueReceive c d)) (λ h i. QueueReceive (h.0 i) (h.1 i))
     (λ e. (cc e, cc e)) (two (Decides-eqb a c) (Decides-eqb b d))
+calls (Suspend a) (Suspend b) = Decides-like (are_same_calls (Suspend a) (Suspend b)) (λ e. ap Suspend e) (λ e. cc e) (Decides-eqb a b)
+calls (Resume a) (Resume b) = Decides-like (are_same_calls (Resume a) (Resume b)) (λ e. ap Resume e) (λ e. cc e) (Decides-eqb a b)
 calls Finish Finish = (λ e. refl, λ e. refl)
 calls HoldOpen HoldOpen = (λ e. refl, λ e. refl)
 calls HoldClose HoldClose = (λ e. refl, λ e. refl)

@@ -2,7 +2,7 @@
 use Rattle.std.proofs.Common.{ℕ, suc, ◌+◌, ◌≤◌, Bool, true, false, cond, ◌==◌, List, [], ◌∷◌, ◌++◌, length, length-append, subst, arith}
 use Rattle.std.proofs.lemmas.List.Sums.{count_by-le-length, length-filter}
 use Rattle.bench_types.specs.declared.step.Step.{Step}
-use Rattle.bench_types.specs.declared.step.Step.TheVariants.{Tick, Switch, Interrupt, QueueInterrupt}
+use Rattle.bench_types.specs.declared.step.Step.TheVariants.{Tick, Switch, Interrupt, QueueInterrupt, ResumeInterrupt, Pass}
 use Rattle.bench_types.specs.declared.step.Step.TheVariants as steps
 use Rattle.bench_model.specs.Session.{state_after}
 use Rattle.bench_model.specs.Start.{start}
@@ -24,6 +24,8 @@ few_after waiting Tick = omega arith
 few_after waiting (Switch core) = omega arith
 few_after waiting (Interrupt core note) = omega arith
 few_after waiting (QueueInterrupt core queue direction) = omega arith
+few_after waiting (ResumeInterrupt core task) = omega arith
+few_after waiting (Pass units) = omega arith
 few_after waiting (steps.Call core task call) = at (is_finish call)
   where
     at : (b : Bool) → length (cond b waiting (without_first task waiting)) ≤ length waiting
@@ -39,6 +41,8 @@ few_with waiting Tick = omega arith
 few_with waiting (Switch core) = omega arith
 few_with waiting (Interrupt core note) = omega arith
 few_with waiting (QueueInterrupt core queue direction) = omega arith
+few_with waiting (ResumeInterrupt core task) = omega arith
+few_with waiting (Pass units) = omega arith
 few_with waiting (steps.Call core task call) = omega (arith, length-append waiting (record { task = task; call = call } ∷ []))
 
 few_from : (events : List Step) (table : Table) (waiting : List WaitingCall) (run : List Step) (left : List WaitingCall) → IsSettledFrom table waiting events

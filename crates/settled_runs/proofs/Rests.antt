@@ -12,7 +12,7 @@ use Rattle.bench_types.specs.declared.fault.Fault.{Fault}
 use Rattle.bench_types.specs.declared.fault.Fault.TheVariants.{BadCore, BadTask}
 use Rattle.bench_types.specs.declared.kernel_data.Settings.{Settings}
 use Rattle.bench_types.specs.declared.step.Step.{Step}
-use Rattle.bench_types.specs.declared.step.Step.TheVariants.{Tick, Switch, Interrupt, QueueInterrupt}
+use Rattle.bench_types.specs.declared.step.Step.TheVariants.{Tick, Switch, Interrupt, QueueInterrupt, ResumeInterrupt, Pass}
 use Rattle.bench_types.specs.declared.step.Step.TheVariants as steps
 use Rattle.bench_types.specs.declared.step.Call.{Call}
 use Rattle.bench_types.specs.declared.step.Call.TheVariants.{Finish}
@@ -147,6 +147,8 @@ once_checked settings Tick checked = All-cons (IsCheckedStep settings) Tick [] c
 once_checked settings (Switch core) checked = All-cons (IsCheckedStep settings) (Switch core) [] checked (All-nil (IsCheckedStep settings))
 once_checked settings (Interrupt core note) checked = All-cons (IsCheckedStep settings) (Interrupt core note) [] checked (All-nil (IsCheckedStep settings))
 once_checked settings (QueueInterrupt core queue direction) checked = All-cons (IsCheckedStep settings) (QueueInterrupt core queue direction) [] checked (All-nil (IsCheckedStep settings))
+once_checked settings (ResumeInterrupt core task) checked = All-cons (IsCheckedStep settings) (ResumeInterrupt core task) [] checked (All-nil (IsCheckedStep settings))
+once_checked settings (Pass units) checked = All-cons (IsCheckedStep settings) (Pass units) [] checked (All-nil (IsCheckedStep settings))
 once_checked settings (steps.Call core task call) checked = All-nil (IsCheckedStep settings)
 
 pub event_good : (table : Table) (waiting : List WaitingCall) (quiet : List Step) (event : Step) → IsGood table waiting → IsQuietWork table waiting quiet

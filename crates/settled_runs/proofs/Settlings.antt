@@ -14,7 +14,7 @@ use Rattle.bench_types.specs.declared.reply.Refusal.{Refusal}
 use Rattle.bench_types.specs.declared.reply.Reply.{Reply}
 use Rattle.bench_types.specs.declared.reply.Reply.TheVariants.{Refused}
 use Rattle.bench_types.specs.declared.step.Step.{Step}
-use Rattle.bench_types.specs.declared.step.Step.TheVariants.{Tick, Switch, Interrupt, QueueInterrupt}
+use Rattle.bench_types.specs.declared.step.Step.TheVariants.{Tick, Switch, Interrupt, QueueInterrupt, ResumeInterrupt, Pass}
 use Rattle.bench_types.specs.declared.step.Step.TheVariants as steps
 use Rattle.bench_types.specs.declared.step.Call.{Call}
 use Rattle.list_orders.proofs.Filters.{filter-filter, filter_all}
@@ -73,6 +73,8 @@ after_all P waiting Tick all = all
 after_all P waiting (Switch core) all = all
 after_all P waiting (Interrupt core note) all = all
 after_all P waiting (QueueInterrupt core queue direction) all = all
+after_all P waiting (ResumeInterrupt core task) all = all
+after_all P waiting (Pass units) all = all
 after_all P waiting (steps.Call core task call) all =
     elim (is_finish call) as (λ b. AllByRecursion P (cond b waiting (without_first task waiting))) [ true ↦ all | false ↦ without_all P task waiting all ]
 
@@ -101,6 +103,8 @@ with_all P waiting Tick all may = all
 with_all P waiting (Switch core) all may = all
 with_all P waiting (Interrupt core note) all may = all
 with_all P waiting (QueueInterrupt core queue direction) all may = all
+with_all P waiting (ResumeInterrupt core task) all may = all
+with_all P waiting (Pass units) all may = all
 with_all P waiting (steps.Call core task call) all may = push_all P waiting _ all (may core task call refl)
 
 abbrev pub Events : List Step → Type 0
@@ -166,6 +170,8 @@ module _ (task : ℕ) where
   with_calls waiting (Switch core) is = absurd (cc (is))
   with_calls waiting (Interrupt core note) is = sym (append-nil _)
   with_calls waiting (QueueInterrupt core queue direction) is = sym (append-nil _)
+  with_calls waiting (ResumeInterrupt core task) is = sym (append-nil _)
+  with_calls waiting (Pass units) is = sym (append-nil _)
   with_calls waiting (steps.Call core other call) is =
       flat_map-append (λ (waits : WaitingCall). cond (eqb waits.task task) (waits.call ∷ []) []) waiting (record { task = other; call = call } ∷ [])
       ∙ ap (λ one. waiting_of task waiting ++ one) (append-nil _ ∙ sym (own_call (eqb other task) call (event_begins core other call is)))
@@ -175,6 +181,8 @@ module _ (task : ℕ) where
   at_once_calls (Switch core) = refl
   at_once_calls (Interrupt core note) = refl
   at_once_calls (QueueInterrupt core queue direction) = refl
+  at_once_calls (ResumeInterrupt core task) = refl
+  at_once_calls (Pass units) = refl
   at_once_calls (steps.Call core other call) = refl
 
   -- lists in turn
@@ -213,6 +221,8 @@ module _ (task : ℕ) where
   event_calls (Switch core ∷ session) = event_calls session
   event_calls (Interrupt core note ∷ session) = event_calls session
   event_calls (QueueInterrupt core queue direction ∷ session) = event_calls session
+  event_calls (ResumeInterrupt core task ∷ session) = event_calls session
+  event_calls (Pass units ∷ session) = event_calls session
   event_calls (steps.Call core other call ∷ session) = at (is_finish call) refl (event_calls session)
     where
       at : (b : Bool) → is_finish call ≡ b → calls_of task session ≡ calls_of task (events_of session)
@@ -254,6 +264,8 @@ once_outside Tick rest is = refl
 once_outside (Switch core) rest is = absurd (cc (is))
 once_outside (Interrupt core note) rest is = refl
 once_outside (QueueInterrupt core queue direction) rest is = refl
+once_outside (ResumeInterrupt core task) rest is = refl
+once_outside (Pass units) rest is = refl
 once_outside (steps.Call core task call) rest is = refl
 
 settled_outside :
@@ -275,6 +287,8 @@ outside_is_event Tick is = refl
 outside_is_event (Switch core) is = absurd (cc (is))
 outside_is_event (Interrupt core note) is = refl
 outside_is_event (QueueInterrupt core queue direction) is = refl
+outside_is_event (ResumeInterrupt core task) is = refl
+outside_is_event (Pass units) is = refl
 outside_is_event (steps.Call core task call) is = absurd (cc (is))
 
 outside_events : (session : List Step) → AllByRecursion (λ step. is_event step ≡ true) (filter comes_from_outside session)
@@ -336,6 +350,8 @@ once_answered Tick table is = (refl, tt)
 once_answered (Switch core) table is = absurd (cc (is))
 once_answered (Interrupt core note) table is = (refl, tt)
 once_answered (QueueInterrupt core queue direction) table is = (refl, tt)
+once_answered (ResumeInterrupt core task) table is = (refl, tt)
+once_answered (Pass units) table is = (refl, tt)
 once_answered (steps.Call core task call) table is = tt
 
 settled_answered :
@@ -432,6 +448,8 @@ once_before Tick table run is none settled = ([], run, refl, none, settled)
 once_before (Switch core) table run is none settled = absurd (cc (is))
 once_before (Interrupt core note) table run is none settled = ([], run, refl, none, settled)
 once_before (QueueInterrupt core queue direction) table run is none settled = ([], run, refl, none, settled)
+once_before (ResumeInterrupt core task) table run is none settled = ([], run, refl, none, settled)
+once_before (Pass units) table run is none settled = ([], run, refl, none, settled)
 once_before (steps.Call core task call) table run is none settled = settled
 
 pub quiet_rests : (made : List Step) (table : Table) (waiting : List WaitingCall) → IsQuietWork table waiting made

@@ -7,7 +7,7 @@ use Rattle.bench_types.specs.declared.reply.Refusal.{Refusal}
 use Rattle.bench_types.specs.declared.reply.Refusal.TheVariants.{HoldBlock, NoHold, HoldDeep, NotHolder}
 use Rattle.bench_types.specs.declared.reply.Reply.TheVariants.{Refused}
 use Rattle.bench_types.specs.declared.step.Step.{Step}
-use Rattle.bench_types.specs.declared.step.Step.TheVariants.{Tick, Switch, Interrupt, QueueInterrupt}
+use Rattle.bench_types.specs.declared.step.Step.TheVariants.{Tick, Switch, Interrupt, QueueInterrupt, ResumeInterrupt, Pass}
 use Rattle.bench_types.specs.declared.step.Step.TheVariants as steps
 use Rattle.bench_types.specs.declared.step.Call.{Call}
 use Rattle.bench_types.specs.declared.step.Call.TheVariants.{Finish}
@@ -134,9 +134,11 @@ abbrev pub comes_from_outside : Step → Bool
 comes_from_outside Tick = true
 comes_from_outside (Interrupt core note) = true
 comes_from_outside (QueueInterrupt core queue direction) = true
+comes_from_outside (ResumeInterrupt core task) = true
+comes_from_outside (Pass units) = true
 comes_from_outside step = false
 
--- the session's ticks and interrupts are those of the run, in order
+-- the session's ticks, interrupts and passes are those of the run, in order
 abbrev pub SettlingKeepsEvents : Type 0
 SettlingKeepsEvents =
     (header : Header) (session run : List Step) (left : List WaitingCall)

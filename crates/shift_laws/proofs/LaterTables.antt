@@ -1,5 +1,5 @@
 -- A table that is moved in time: what can be seen of it is what could be seen, with another tick count, and it is as sound.
-use Rattle.std.proofs.Common.{◌≡◌, ℕ, ◌+◌, ◌-◌, ◌^◌, Bool, length, map, Option, Some, None, refl, sym, ap, ap₂, ◌∙◌, arith}
+use Rattle.std.proofs.Common.{◌≡◌, ℕ, ◌+◌, ◌-◌, ◌^◌, ◌||◌, Bool, length, map, Option, Some, None, refl, sym, ap, ap₂, ◌∙◌, arith}
 use Rattle.std.specs.Prelude.{is_some, option_map, unwrap_or}
 use Rattle.std.proofs.lemmas.List.{length-map}
 use Rattle.std.proofs.Math.ListN.{get_or-map}
@@ -17,7 +17,9 @@ use Rattle.bench_model.specs.Equal.{StandsFor}
 use Rattle.bench_model.specs.Lists.{View, lists_of, view_of, delayed_of, outranks, wakes_first}
 use Rattle.bench_model.specs.Shifted.{later_tick, shifted}
 use Rattle.bench_model.specs.Sound.{IsStamped, HasCurrentTasks, WakesInTime, HasMutexes, IsConsistent, IsHeldWell, IsSound, IsWaiter}
+use Rattle.bench_model.specs.Table as rows
 use Rattle.bench_model.specs.Table.{Stamps, Table, row_at, stamp_of, wake_in, stands_ready, is_ready, deadline_at}
+use Rattle.bench_model.specs.Waiters.{list_awaited}
 use Rattle.list_orders.specs.Search.{numbers, by_stamp, ranked}
 use Rattle.list_orders.proofs.Filters.{All-weaker, All_each}
 use Rattle.order_laws.proofs.Served.{turn_moved}
@@ -136,6 +138,17 @@ pub deadline_at_later :
     (by : ℕ) (stamps : Stamps) (i : ℕ) → deadline_at (later_stamps by stamps) i ≡ option_map (λ deadline. deadline + by) (deadline_at stamps i)
 deadline_at_later by stamps i = get_or-map (option_map (λ deadline. deadline + by)) stamps.deadlines i None
 
+-- a task waits later where it waited before
+still_waits : (by : ℕ) (stamps : Stamps) (i : ℕ) → rows.waits i (later_stamps by stamps) ≡ rows.waits i stamps
+still_waits by stamps i =
+    ap (λ wake. is_some wake || is_some (list_awaited i stamps.waiters))
+    (ap wake_in (stands_later by stamps i) ∙ wake_later by (row_at stamps i).standing)
+    ∙ ap (λ some. some || is_some (list_awaited i stamps.waiters)) (some_later (wake_in (row_at stamps i).standing))
+  where
+    some_later : (wake : Option ℕ) → is_some (option_map (λ wake. wake + by) wake) ≡ is_some wake
+    some_later None = refl
+    some_later (Some wake) = refl
+
 mutexes_later :
     (by : ℕ) (table : Table) → HasMutexes table.settings table.calls table.holders table.orders
     → HasMutexes table.settings table.calls table.holders (later_stamps by table.orders)
@@ -146,7 +159,7 @@ mutexes_later by table mutexes = record {
       mutexes.waits;
   once = mutexes.once;
   by_list = mutexes.by_list;
-  awaited = λ i low blocked. mutexes.awaited i (omega (arith, rows_later by table.orders, low)) (sym (is_ready_later by table.orders i) ∙ blocked);
+  awaited = λ i low blocked. mutexes.awaited i (omega (arith, rows_later by table.orders, low)) (sym (still_waits by table.orders i) ∙ blocked);
   turns = λ none. turn_moved table.orders (later_stamps by table.orders) table.orders.waiters
       (All_each (λ (w : Waiter). stamp_of (later_stamps by table.orders) w.task ≡ stamp_of table.orders w.task) (λ w. stamp_later by table.orders w.task)
       table.orders.waiters) (mutexes.turns none);

@@ -31,6 +31,8 @@ pub record Carries {A B : Type 0} (f : A → B) (a : QueueOps A) (b : QueueOps B
   pub pick : (control : Control) (core : ℕ) (o : A) → b.pick control core (f o) ≡ a.pick control core o
   pub add_to_ready_list : (control : Control) (task : ℕ) (o : A) → b.add_to_ready_list control task (f o) ≡ f (a.add_to_ready_list control task o)
   pub delay : (task : ℕ) (ticks : Option ℕ) (wait : Option EventWait) (o : A) → b.delay task ticks wait (f o) ≡ f (a.delay task ticks wait o)
+  pub waits : (task : ℕ) (o : A) → b.waits task (f o) ≡ a.waits task o
+  pub suspend : (task : ℕ) (o : A) → b.suspend task (f o) ≡ f (a.suspend task o)
   pub tick_count : (o : A) → b.tick_count (f o) ≡ a.tick_count o
   pub advance : (o : A) → b.advance (f o) ≡ f (a.advance o)
   pub due : (o : A) → b.due (f o) ≡ a.due o
@@ -47,6 +49,8 @@ same_ops a b same = λ i. record {
   pick = λ control core o. same.pick control core o i;
   add_to_ready_list = λ control task o. same.add_to_ready_list control task o i;
   delay = λ task ticks wait o. same.delay task ticks wait o i;
+  waits = λ task o. same.waits task o i;
+  suspend = λ task o. same.suspend task o i;
   tick_count = λ o. same.tick_count o i;
   advance = λ o. same.advance o i;
   due = λ o. same.due o i;

@@ -6,7 +6,8 @@ use Rattle.bench_types.specs.declared.step.Step.{Step}
 use Rattle.bench_types.specs.declared.step.Step.TheVariants.{Call}
 use Rattle.bench_types.specs.Step.{IsCheckedStep}
 use Rattle.bench_model.specs.Equal.{Same}
-use Rattle.bench_model.specs.Lists.{Lists, View, list_queues, lists_of, view_of, pick, add_to_ready_list, delay, advance, first_waiter, forget_deadline, set_list_value}
+use Rattle.bench_model.specs.Lists.{Lists, View, list_queues, lists_of, view_of, pick, add_to_ready_list, delay, suspend, advance, first_waiter, forget_deadline, set_list_value}
+use Rattle.bench_model.specs.Suspending.{is_suspended, suspended, resumed, resume_interrupted}
 use Rattle.bench_model.specs.Mutexes.{inherited, waited_at, mutex_take, after_disinherit, timed_out, take_finished, disinherited, first_woken, mutex_give}
 use Rattle.bench_model.specs.ControlFields.{in_use_set, in_use_and_value_set}
 use Rattle.bench_model.specs.Notifying.{state_forgotten, bits_cleared, completed, notify, interrupted, awaited}
@@ -37,7 +38,7 @@ unfolding after performed refusal would_block called ticked sliced wake after_sw
     yielded blocked priority_set affinity_set preemption_off preemption_on in_use_set in_use_and_value_set notify interrupted
     state_forgotten bits_cleared awaited completed mutex_take mutex_give take_finished
     after_finish delayed_until inherited waited_at after_disinherit timed_out disinherited first_woken
-    passed queue_waited queue_called queue_finished queue_interrupted
+    passed queue_waited queue_called queue_finished queue_interrupted is_suspended suspended resumed resume_interrupted
 after_clocked count ops (Call core task (DelayUntil prev inc)) state delays = absurd (true≢false delays)
 after_clocked count ops step state delays = refl
 
@@ -46,12 +47,14 @@ abbrev blind : QueueOps Lists
 blind = clocked (λ lists. 0) list_queues
 
 turns_carry : (by : ℕ) → Carries (turned_lists by) blind blind
-unfolding pick add_to_ready_list delay advance first_waiter forget_deadline set_list_value
+unfolding pick add_to_ready_list delay suspend advance first_waiter forget_deadline set_list_value
 turns_carry by = record {
   is_ready = λ task o. refl;
   pick = λ control core o. refl;
   add_to_ready_list = λ control task o. refl;
   delay = λ task ticks wait o. refl;
+  waits = λ task o. refl;
+  suspend = λ task o. refl;
   tick_count = λ o. refl;
   advance = λ o. ap (λ tick. record (advance o) { tick = tick }) (turned_next by o.tick);
   due = λ o. refl;

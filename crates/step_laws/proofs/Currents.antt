@@ -13,9 +13,9 @@ use Rattle.bench_types.specs.declared.reply.Reply.{Reply}
 use Rattle.bench_types.specs.declared.reply.Reply.TheVariants.{Done, Blocked, Flag, Until, Refused}
 use Rattle.bench_types.specs.declared.step.Call.{Call}
 use Rattle.bench_types.specs.declared.step.Call.TheVariants.{Yield, Delay, DelayUntil, Finish, PrioritySet, AffinitySet, PreemptOff, PreemptOn, Notify}
-use Rattle.bench_types.specs.declared.step.Call.TheVariants.{NotifyWait, NotifyTake, StateClear, ValueClear, MutexTake, MutexGive, QueueSend, QueueReceive, HoldOpen, HoldClose}
+use Rattle.bench_types.specs.declared.step.Call.TheVariants.{NotifyWait, NotifyTake, StateClear, ValueClear, MutexTake, MutexGive, QueueSend, QueueReceive, Suspend, Resume, HoldOpen, HoldClose}
 use Rattle.bench_types.specs.declared.step.Step.{Step}
-use Rattle.bench_types.specs.declared.step.Step.TheVariants.{Tick, Switch, Interrupt, QueueInterrupt}
+use Rattle.bench_types.specs.declared.step.Step.TheVariants.{Tick, Switch, Interrupt, QueueInterrupt, ResumeInterrupt, Pass}
 use Rattle.bench_types.specs.declared.step.Step.TheVariants as steps
 use Rattle.bench_types.specs.declared.step.BlockingCall.{BlockingCall}
 use Rattle.bench_types.specs.declared.step.BlockingCall.TheVariants as blocking
@@ -48,8 +48,9 @@ use Rattle.rule_laws.proofs.PriorityAffinity.{its_core_more}
 use Rattle.rule_laws.proofs.Seeks.{seek_more}
 use Rattle.step_laws.proofs.Along.{settings_after}
 use Rattle.step_laws.proofs.Holds.{checked_call, in_place}
-use Rattle.step_laws.proofs.Steps.{after_sound}
-use Rattle.step_laws.proofs.Undisturbed.{affinity_undisturbed, bits_undisturbed, completed_undisturbed, forgotten_undisturbed, give_undisturbed, passed_undisturbed, queue_interrupted_undisturbed}
+use Rattle.step_laws.proofs.Steps.{after_sound, resume_task}
+use Rattle.bench_model.specs.Suspending.{resume_interrupted}
+use Rattle.step_laws.proofs.Undisturbed.{affinity_undisturbed, bits_undisturbed, completed_undisturbed, forgotten_undisturbed, give_undisturbed, passed_undisturbed, queue_interrupted_undisturbed, resume_undisturbed, resume_interrupted_undisturbed, suspend_currents}
 use Rattle.step_laws.proofs.Undisturbed.{notify_undisturbed, off_undisturbed, on_undisturbed, priority_undisturbed, ticked_undisturbed, yielded_undisturbed}
 
 abbrev no_look : CoreLook
@@ -278,6 +279,9 @@ called_currents core task (MutexGive mutex) table sound place checked = (give_un
     (checked_mutex table.settings mutex checked.passes)).currents
 called_currents core task (QueueSend queue ticks) table sound place checked = queue_called_currents core task Send queue ticks table sound place.0
 called_currents core task (QueueReceive queue ticks) table sound place checked = queue_called_currents core task Receive queue ticks table sound place.0
+called_currents core task (Suspend other) table sound place checked = suspend_currents core other table
+called_currents core task (Resume other) table sound place checked =
+    (resume_undisturbed core other table (omega (arith, sound.sized.rows, resume_task table.settings other checked.passes))).currents
 called_currents core task HoldOpen table sound place checked = λ c. refl
 called_currents core task HoldClose table sound place checked = λ c. refl
 
@@ -346,6 +350,10 @@ performed_seated (Interrupt core note) table sound checked place sized = kept_se
 performed_seated (QueueInterrupt core queue direction) table sound checked place sized =
     kept_seated table.control (queue_interrupted stamp_queues core direction queue table).1.control core sized
     (queue_interrupted_undisturbed core direction queue table sound).currents
+performed_seated (ResumeInterrupt core task) table sound checked place sized =
+    kept_seated table.control (resume_interrupted stamp_queues core task table).1.control core sized
+    (resume_interrupted_undisturbed core task table (omega (arith, sound.sized.rows, place.1))).currents
+performed_seated (Pass units) table sound checked place sized = kept_seated table.control table.control 0 sized (λ c. refl)
 performed_seated (steps.Call core task call) table sound checked place sized =
     kept_seated table.control (called stamp_queues core task call table).1.control core sized
     (called_currents core task call table sound place (checked_call table.settings core task call checked).0)

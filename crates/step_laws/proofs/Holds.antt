@@ -13,7 +13,7 @@ use Rattle.bench_types.specs.declared.step.Step.{Step}
 use Rattle.bench_types.specs.declared.step.Step.TheVariants as steps
 use Rattle.bench_types.specs.declared.step.Call.{Call}
 use Rattle.bench_types.specs.declared.step.Call.TheVariants.{Yield, Delay, DelayUntil, Finish, PrioritySet, AffinitySet, PreemptOff, PreemptOn, Notify}
-use Rattle.bench_types.specs.declared.step.Call.TheVariants.{NotifyWait, NotifyTake, StateClear, ValueClear, MutexTake, MutexGive, QueueSend, QueueReceive, HoldOpen, HoldClose}
+use Rattle.bench_types.specs.declared.step.Call.TheVariants.{NotifyWait, NotifyTake, StateClear, ValueClear, MutexTake, MutexGive, QueueSend, QueueReceive, Suspend, Resume, HoldOpen, HoldClose}
 use Rattle.bench_types.specs.declared.step.BlockingCall.{BlockingCall}
 use Rattle.bench_types.specs.declared.step.BlockingCall.TheVariants as blocking
 use Rattle.bench_types.specs.declared.step.Direction.{Direction}
@@ -32,20 +32,21 @@ use Rattle.bench_model.specs.Refusals.{call_refusal, give_refusal, would_block, 
 use Rattle.bench_model.specs.State.{State, QueueOps, call_at, holder_at, yielded, blocked}
 use Rattle.bench_model.specs.Table.{Table, stamp_queues, is_ready, stands_ready, ahead, delay, tick_count}
 use Rattle.bench_model.specs.Sound.{IsCaller, IsConsistent, IsHeldWell}
-use Rattle.std.proofs.lemmas.Bool.{true_from_ne_false}
+use Rattle.std.proofs.lemmas.Bool.{eqb-true, true_from_ne_false}
 use Rattle.std.proofs.lemmas.Option.{same_Some}
-use Rattle.bench_types.proofs.Passes.{both_pass, checked_core, checked_mutex, checked_queue, checked_task, noted_index, noted_task}
-use Rattle.bench_types.specs.Step.{IsCheckedStep, IsCheckedCall, step_check, core_check, note_check, queue_check, task_check, call_check, ◌>>◌}
+use Rattle.bench_types.proofs.Passes.{both_pass, checked_core, checked_index, checked_mutex, checked_queue, checked_task, noted_index, noted_task}
+use Rattle.bench_types.specs.Step.{IsCheckedStep, IsCheckedCall, step_check, core_check, note_check, queue_check, resume_check, suspending_check, task_check, call_check, ◌>>◌}
 use Rattle.bench_types.specs.Limits.{max_depth}
 use Rattle.bench_model.specs.Notes.{wait_entered, take_entered, of_slot, slot_of}
 use Rattle.bench_model.specs.Notifying.{interrupted, timeout_of, completed, awaited}
 use Rattle.bench_model.specs.Queues.{can_pass, passed, queue_at, queue_called, queue_interrupted, queue_waited}
 use Rattle.bench_model.specs.Seek.{after_switch}
+use Rattle.bench_model.specs.Suspending.{suspended}
 use Rattle.bench_model.specs.Steps.{ticked, called, performed, delayed_until, after}
 use Rattle.bench_model.specs.Sound.{StepFits, IsSound}
 use Rattle.bench_model.specs.Waiters.{event_list}
 use Rattle.step_laws.proofs.Nears.{keeps_hold, called_near, turned_hold}
-use Rattle.step_laws.proofs.Undisturbed.{IsUndisturbed, hold_kept, yielded_undisturbed, until_undisturbed, priority_undisturbed, affinity_undisturbed}
+use Rattle.step_laws.proofs.Undisturbed.{IsCalmFor, IsUndisturbed, calm_for, held_well, hold_kept, quiet_entered, suspend_calm, suspend_waits, resume_undisturbed, resume_interrupted_undisturbed, yielded_undisturbed, until_undisturbed, priority_undisturbed, affinity_undisturbed}
 use Rattle.step_laws.proofs.Undisturbed.{off_undisturbed, on_undisturbed, notify_undisturbed, timeout_undisturbed, forgotten_undisturbed, bits_undisturbed}
 use Rattle.step_laws.proofs.Undisturbed.{take_undisturbed, give_undisturbed, queue_called_undisturbed, queue_interrupted_undisturbed, ticked_undisturbed, inherited_undisturbed}
 
@@ -127,6 +128,11 @@ in_place (steps.Interrupt core note) table sound checked none =
 in_place (steps.QueueInterrupt core queue direction) table sound checked none =
     let both = both_pass (core_check table.settings core) (queue_check table.settings queue) checked in
     (omega (arith, sound.consistent.sized.cores, checked_core table.settings core both.0), checked_queue table.settings queue both.1)
+in_place (steps.ResumeInterrupt core task) table sound checked none =
+    let both = both_pass (core_check table.settings core) (resume_check table.settings task) checked in
+    let one = both_pass (task_check table.settings task) (suspending_check table.settings) both.1 in
+    (omega (arith, sound.consistent.sized.cores, checked_core table.settings core both.0), (checked_task table.settings task one.0).1)
+in_place (steps.Pass units) table sound checked none = tt
 in_place (steps.Call core task call) table sound checked none =
     let low : core < length table.control.cores = omega (
       arith,
@@ -146,35 +152,58 @@ in_place (steps.Call core task call) table sound checked none =
 
 -- a call that lets its task go on
 calm : (core task : ℕ) (call : Call) (table : Table) → IsConsistent table → IsCaller table core task → IsCheckedCall table.settings call → call_refusal None
-    call ≡ None → keeps_hold call ≡ true → would_block stamp_queues task call table ≡ false → IsUndisturbed table (called stamp_queues core task call table).1
+    call ≡ None → keeps_hold call ≡ true → would_block stamp_queues task call table ≡ false → IsCalmFor task table (called stamp_queues core task call table).1
 unfolding called would_block
-calm core task Yield table sound place checked begins keeps goes = yielded_undisturbed core table place.0
-calm core task (Delay ticks) table sound place checked begins keeps goes = at (eqb ticks 0) refl
+calm core task Yield table sound place checked begins keeps goes = calm_for task table _
+    (yielded_undisturbed core table place.0)
+calm core task (Delay ticks) table sound place checked begins keeps goes = calm_for task table _ (at (eqb ticks 0) refl)
   where
     at : (b : Bool) → eqb ticks 0 ≡ b → IsUndisturbed table (cond {A = Reply × Table} b (Done, yielded stamp_queues core table)
         (Blocked, blocked stamp_queues core task (Made (blocking.Delay ticks)) (Some ticks) None table)).1
     at true none = yielded_undisturbed core table place.0
     at false some = absurd (grind (arith, nat_tests, goes, some))
-calm core task (DelayUntil prev inc) table sound place checked begins keeps goes = until_undisturbed core task prev inc table place.0 goes
+calm core task (DelayUntil prev inc) table sound place checked begins keeps goes = calm_for task table _
+    (until_undisturbed core task prev inc table place.0 goes)
 calm core task Finish table sound place checked begins keeps goes = absurd (cc (begins))
-calm core task (PrioritySet other priority) table sound place checked begins keeps goes = priority_undisturbed core other priority table
-    (omega (arith, sound.sized.rows, (checked_task table.settings other checked.passes).1))
-calm core task (AffinitySet other mask) table sound place checked begins keeps goes = affinity_undisturbed core other mask table
-calm core task (PreemptOff other) table sound place checked begins keeps goes = off_undisturbed other table
-calm core task (PreemptOn other) table sound place checked begins keeps goes = on_undisturbed core other table
-calm core task (Notify note) table sound place checked begins keeps goes = notify_undisturbed core note table
-    (omega (arith, sound.sized.rows, (noted_task table.settings note checked.passes).1))
-calm core task (NotifyWait entry exit ticks index) table sound place checked begins keeps goes = timeout_undisturbed core task
-    (blocking.NotifyWait entry exit ticks index) ticks (of_slot (slot_of table.settings task index) (wait_entered entry) table.notes) table goes
-calm core task (NotifyTake clear ticks index) table sound place checked begins keeps goes = timeout_undisturbed core task
-    (blocking.NotifyTake clear ticks index) ticks (of_slot (slot_of table.settings task index) take_entered table.notes) table goes
-calm core task (StateClear other index) table sound place checked begins keeps goes = forgotten_undisturbed other index table
-calm core task (ValueClear other bits index) table sound place checked begins keeps goes = bits_undisturbed other bits index table
-calm core task (MutexTake mutex ticks) table sound place checked begins keeps goes = take_undisturbed core task mutex ticks table goes
-calm core task (MutexGive mutex) table sound place checked begins keeps goes = give_undisturbed core task mutex table sound place.2
-    (checked_mutex table.settings mutex checked.passes)
-calm core task (QueueSend queue ticks) table sound place checked begins keeps goes = queue_called_undisturbed core task Send queue ticks table sound goes
-calm core task (QueueReceive queue ticks) table sound place checked begins keeps goes = queue_called_undisturbed core task Receive queue ticks table sound goes
+calm core task (PrioritySet other priority) table sound place checked begins keeps goes = calm_for task table _
+    (priority_undisturbed core other priority table
+    (omega (arith, sound.sized.rows, (checked_task table.settings other checked.passes).1)))
+calm core task (AffinitySet other mask) table sound place checked begins keeps goes = calm_for task table _
+    (affinity_undisturbed core other mask table)
+calm core task (PreemptOff other) table sound place checked begins keeps goes = calm_for task table _
+    (off_undisturbed other table)
+calm core task (PreemptOn other) table sound place checked begins keeps goes = calm_for task table _
+    (on_undisturbed core other table)
+calm core task (Notify note) table sound place checked begins keeps goes = calm_for task table _
+    (notify_undisturbed core note table
+    (omega (arith, sound.sized.rows, (noted_task table.settings note checked.passes).1)))
+calm core task (NotifyWait entry exit ticks index) table sound place checked begins keeps goes = calm_for task table _
+    (timeout_undisturbed core task
+    (blocking.NotifyWait entry exit ticks index) ticks (of_slot (slot_of table.settings task index) (wait_entered entry) table.notes) table
+    (quiet_entered table task index _ place.3 (checked_index table.settings index checked.passes)) goes)
+calm core task (NotifyTake clear ticks index) table sound place checked begins keeps goes = calm_for task table _
+    (timeout_undisturbed core task
+    (blocking.NotifyTake clear ticks index) ticks (of_slot (slot_of table.settings task index) take_entered table.notes) table
+    (quiet_entered table task index _ place.3 (checked_index table.settings index checked.passes)) goes)
+calm core task (StateClear other index) table sound place checked begins keeps goes = calm_for task table _
+    (forgotten_undisturbed other index table)
+calm core task (ValueClear other bits index) table sound place checked begins keeps goes = calm_for task table _
+    (bits_undisturbed other bits index table)
+calm core task (MutexTake mutex ticks) table sound place checked begins keeps goes = calm_for task table _
+    (take_undisturbed core task mutex ticks table goes)
+calm core task (MutexGive mutex) table sound place checked begins keeps goes = calm_for task table _
+    (give_undisturbed core task mutex table sound place.2
+    (checked_mutex table.settings mutex checked.passes))
+calm core task (QueueSend queue ticks) table sound place checked begins keeps goes = calm_for task table _
+    (queue_called_undisturbed core task Send queue ticks table sound goes)
+calm core task (QueueReceive queue ticks) table sound place checked begins keeps goes = calm_for task table _
+    (queue_called_undisturbed core task Receive queue ticks table sound goes)
+calm core task (Suspend other) table sound place checked begins keeps goes =
+    let low = (checked_task table.settings other (both_pass (task_check table.settings other) (suspending_check table.settings) checked.passes).0).1 in
+    suspend_calm core other task table (omega (arith, sound.sized.rows, low)) (λ same. grind (arith, nat_tests, goes, same))
+calm core task (Resume other) table sound place checked begins keeps goes =
+    let low = (checked_task table.settings other (both_pass (task_check table.settings other) (suspending_check table.settings) checked.passes).0).1 in
+    calm_for task table _ (resume_undisturbed core other table (omega (arith, sound.sized.rows, low)))
 calm core task HoldOpen table sound place checked begins keeps goes = absurd (cc (keeps))
 calm core task HoldClose table sound place checked begins keeps goes = absurd (cc (keeps))
 
@@ -219,7 +248,7 @@ module _ (core task : ℕ) (call : Call) (table : Table) (sound : IsSound table)
   its_task hold is = ap (current table.control) (ours hold is) ∙ place.1
 
   -- with an open hold the call goes on
-  held_on : (hold : Hold) → table.hold ≡ Some hold → keeps_hold call ≡ true → IsUndisturbed table (called stamp_queues core task call table).1
+  held_on : (hold : Hold) → table.hold ≡ Some hold → keeps_hold call ≡ true → IsCalmFor task table (called stamp_queues core task call table).1
   held_on hold is keeps =
       let none = ap (call_at table.calls) (sym (its_task hold is)) ∙ (well hold is).no_call in
       calm core task call table sound.consistent place checked (ap (λ o. call_refusal o call) (sym none) ∙ taken.fits) keeps
@@ -235,7 +264,11 @@ module _ (core task : ℕ) (call : Call) (table : Table) (sound : IsSound table)
       at : (hold : Option Hold) → table.hold ≡ hold → ForSome (called stamp_queues core task call table).1.hold
           (IsHeldWell (called stamp_queues core task call table).1)
       at None free = none_held table (called stamp_queues core task call table).1 ((called_near core task call table some_rows).3 keeps) free
-      at (Some hold) is = hold_kept table (called stamp_queues core task call table).1 (held_on hold is keeps) sound.held
+      at (Some hold) is =
+          let later = (called stamp_queues core task call table).1 in
+          let calm = held_on hold is keeps in
+          λ other same. let was = sym calm.hold ∙ same in
+          held_well table later other (subst (λ task. IsCalmFor task table later) (sym (its_task other was)) calm) (sound.held other was)
 
 -- ---- opening and closing a hold
 
@@ -332,6 +365,8 @@ called_held core task (MutexTake mutex ticks) table sound place checked user tak
 called_held core task (MutexGive mutex) table sound place checked user taken = kept_held core task (MutexGive mutex) table sound place checked user taken refl
 called_held core task (QueueSend queue ticks) table sound place checked user taken = kept_held core task (QueueSend queue ticks) table sound place checked user
     taken refl
+called_held core task (Suspend other) table sound place checked user taken = kept_held core task (Suspend other) table sound place checked user taken refl
+called_held core task (Resume other) table sound place checked user taken = kept_held core task (Resume other) table sound place checked user taken refl
 called_held core task (QueueReceive queue ticks) table sound place checked user taken = kept_held core task (QueueReceive queue ticks) table sound place checked
     user taken refl
 
@@ -363,6 +398,10 @@ held_after (steps.Interrupt core note) table sound checked none =
     hold_kept table _ (notify_undisturbed core note table (omega (arith, sound.consistent.sized.rows, low))) sound.held
 held_after (steps.QueueInterrupt core queue direction) table sound checked none =
     hold_kept table _ (queue_interrupted_undisturbed core direction queue table sound.consistent) sound.held
+held_after (steps.ResumeInterrupt core task) table sound checked none =
+    let low = (in_place (steps.ResumeInterrupt core task) table sound checked.passes none).1 in
+    hold_kept table _ (resume_interrupted_undisturbed core task table (omega (arith, sound.consistent.sized.rows, low))) sound.held
+held_after (steps.Pass units) table sound checked none = sound.held
 held_after (steps.Call core task call) table sound checked none =
     let called = checked_call table.settings core task call checked in
     called_held core task call table sound (in_place (steps.Call core task call) table sound checked.passes none) called.0 called.1
@@ -385,7 +424,7 @@ module _ (table : Table) (core task : ℕ) (sound : IsConsistent table) (place :
     where
       at : (b : Bool) → would_block stamp_queues task call table ≡ b → is_ready task (called stamp_queues core task call table).1.orders ≡ not b
       at true blocks = waits blocks
-      at false goes = (calm core task call table sound place checked begins keeps goes).ready task place.3
+      at false goes = (calm core task call table sound place checked begins keeps goes).ready place.3
 
 -- what each call does that blocks
 delay_waits : (core task ticks : ℕ) (table : Table) → task < length table.orders.rows → ltb 0 ticks ≡ true → is_ready task
@@ -493,6 +532,10 @@ blocks_where_it_would table core task (QueueSend queue ticks) sound place checke
     checked begins refl (queue_waits core task Send queue ticks table place.2)
 blocks_where_it_would table core task (QueueReceive queue ticks) sound place checked begins = goes_or_waits table core task sound place
     (QueueReceive queue ticks) checked begins refl (queue_waits core task Receive queue ticks table place.2)
+blocks_where_it_would table core task (Suspend other) sound place checked begins = goes_or_waits table core task sound place (Suspend other) checked begins refl
+    (λ itself. ap (λ i. is_ready task (suspended stamp_queues core i table).orders) (eqb-true other task itself) ∙ suspend_waits core task table place.2)
+blocks_where_it_would table core task (Resume other) sound place checked begins = goes_or_waits table core task sound place (Resume other) checked begins refl
+    (λ never. absurd (cc (never)))
 blocks_where_it_would table core task HoldOpen sound place checked begins = place.3
 blocks_where_it_would table core task HoldClose sound place checked begins = place.3
 blocks_where_it_would table core task Yield sound place checked begins = goes_or_waits table core task sound place Yield checked begins refl
@@ -554,6 +597,10 @@ kept_by_call table core task (MutexGive mutex) hold sound place checked user tak
     (held_on core task (MutexGive mutex) table sound place checked user taken hold is refl).currents hold.core
 kept_by_call table core task (QueueSend queue ticks) hold sound place checked user taken is =
     (held_on core task (QueueSend queue ticks) table sound place checked user taken hold is refl).currents hold.core
+kept_by_call table core task (Suspend other) hold sound place checked user taken is =
+    (held_on core task (Suspend other) table sound place checked user taken hold is refl).currents hold.core
+kept_by_call table core task (Resume other) hold sound place checked user taken is =
+    (held_on core task (Resume other) table sound place checked user taken hold is refl).currents hold.core
 kept_by_call table core task (QueueReceive queue ticks) hold sound place checked user taken is =
     (held_on core task (QueueReceive queue ticks) table sound place checked user taken hold is refl).currents hold.core
 
@@ -567,6 +614,10 @@ kept_by_step table (steps.Interrupt core note) hold sound checked is none =
     (notify_undisturbed core note table (omega (arith, sound.consistent.sized.rows, low))).currents hold.core
 kept_by_step table (steps.QueueInterrupt core queue direction) hold sound checked is none =
     (queue_interrupted_undisturbed core direction queue table sound.consistent).currents hold.core
+kept_by_step table (steps.ResumeInterrupt core task) hold sound checked is none =
+    let low = (in_place (steps.ResumeInterrupt core task) table sound checked.passes none).1 in
+    (resume_interrupted_undisturbed core task table (omega (arith, sound.consistent.sized.rows, low))).currents hold.core
+kept_by_step table (steps.Pass units) hold sound checked is none = refl
 kept_by_step table (steps.Call core task call) hold sound checked is none =
     let made = checked_call table.settings core task call checked in
     kept_by_call table core task call hold sound (in_place (steps.Call core task call) table sound checked.passes none) made.0 made.1

@@ -10,11 +10,11 @@ use Rattle.bench_types.specs.declared.reply.Reply.TheVariants.{Done, Flag, Refus
 use Rattle.bench_types.specs.declared.reply.Reply.TheVariants as reply
 use Rattle.bench_types.specs.declared.reply.Refusal.{Refusal}
 use Rattle.bench_types.specs.declared.step.Step.{Step}
-use Rattle.bench_types.specs.declared.step.Step.TheVariants.{Tick, Switch, Interrupt, QueueInterrupt}
+use Rattle.bench_types.specs.declared.step.Step.TheVariants.{Tick, Switch, Interrupt, QueueInterrupt, ResumeInterrupt, Pass}
 use Rattle.bench_types.specs.declared.step.Step.TheVariants as steps
 use Rattle.bench_types.specs.declared.step.Call.{Call}
 use Rattle.bench_types.specs.declared.step.Call.TheVariants.{Yield, Delay, Finish, PrioritySet, AffinitySet, PreemptOff, PreemptOn, Notify, NotifyWait}
-use Rattle.bench_types.specs.declared.step.Call.TheVariants.{NotifyTake, StateClear, ValueClear, MutexTake, MutexGive, QueueSend, QueueReceive, DelayUntil, HoldOpen, HoldClose}
+use Rattle.bench_types.specs.declared.step.Call.TheVariants.{NotifyTake, StateClear, ValueClear, MutexTake, MutexGive, QueueSend, QueueReceive, Suspend, Resume, DelayUntil, HoldOpen, HoldClose}
 use Rattle.bench_types.specs.declared.step.Direction.{Direction}
 use Rattle.bench_types.specs.declared.step.Direction.TheVariants.{Send, Receive}
 use Rattle.bench_types.specs.declared.step.BlockingCall.{BlockingCall}
@@ -26,7 +26,8 @@ use Rattle.bench_types.specs.declared.kernel_data.Waiter.{Waiter}
 use Rattle.bench_model.specs.Holds.{hold_opened, hold_closed}
 use Rattle.bench_model.specs.Until.{next_wake, is_ahead, ticks_to}
 use Rattle.bench_model.specs.ControlFields.{with_base, in_use_set, value_set, in_use_and_value_set}
-use Rattle.bench_model.specs.Control.{task_at, current, ask_each}
+use Rattle.bench_model.specs.Control.{task_at, current, ask_each, ask_its_core}
+use Rattle.bench_model.specs.Suspending.{is_suspended, resume_interrupted, resumed, suspended, without_waits}
 use Rattle.bench_model.specs.Notes.{note_at, is_waiting, notified, wait_entered, take_entered, of_slot, slot_of}
 use Rattle.bench_model.specs.Notifying.{timeout_of, notify, interrupted, state_forgotten, bits_cleared, completed, awaited}
 use Rattle.bench_model.specs.Mutexes.{is_marked, held_by, taken, inherited, waited_at, take_from, mutex_take, owed, after_disinherit, timed_out, finish_from}
@@ -37,7 +38,7 @@ use Rattle.bench_model.specs.State.{call_at, holder_at, after_select, yielded, b
 use Rattle.bench_model.specs.Steps.{woken, ticked, called, performed, after, delayed_until, after_finish}
 use Rattle.bench_model.specs.Seek.{seek, may_move, wake, after_eviction, after_switch, shares_its_time, sliced}
 use Rattle.bench_model.specs.PriorityAffinity.{capped, in_use_after, priority_set, affinity_set, preemption_off, preemption_on}
-use Rattle.bench_model.specs.Table.{Stamps, Table, stamp_queues, is_ready, add_to_ready_list, delay, advance, due, deadline_left, forget_deadline, first_waiter}
+use Rattle.bench_model.specs.Table.{Stamps, Table, stamp_queues, is_ready, add_to_ready_list, delay, suspend, advance, due, deadline_left, forget_deadline, first_waiter}
 use Rattle.bench_model.specs.Table.{tick_count, set_list_value}
 use Rattle.bench_model.specs.Waiters.{event_list}
 use Rattle.rule_laws.proofs.Awaiting.{completed_notes}
@@ -436,6 +437,26 @@ timeout_near core task call ticks entered table some = at (entered.0 && ltb 0 ti
     at true = (omega arith, omega arith, refl, refl)
     at false = beside_near table (completed task call waiting).1 (completed_beside task call waiting)
 
+suspend_near : (acting task : ℕ) (table : Table) → 0 < length table.orders.rows → IsNearer table (suspended stamp_queues acting task table)
+unfolding suspended suspend
+suspend_near acting task table some = at (is_suspended stamp_queues task table)
+  where
+    at : (b : Bool) → IsNearer table (cond b table (record table {
+      control = ask_its_core acting task table.control;
+      notes = without_waits table.settings.notes task table.notes;
+      orders = suspend task table.orders;
+    }))
+    at true = (omega arith, omega arith, refl, refl)
+    at false = (omega arith, omega arith, refl, refl)
+
+resume_near : (acting task : ℕ) (table : Table) → 0 < length table.orders.rows → IsNearer table (resumed stamp_queues acting task table)
+unfolding resumed wake add_to_ready_list
+resume_near acting task table some = at (is_suspended stamp_queues task table)
+  where
+    at : (b : Bool) → IsNearer table (cond b (wake stamp_queues acting task table) table)
+    at true = (omega arith, omega arith, refl, refl)
+    at false = (omega arith, omega arith, refl, refl)
+
 -- a call that opens or closes no hold
 abbrev pub keeps_hold : Call → Bool
 keeps_hold HoldOpen = false
@@ -497,6 +518,8 @@ called_near core task (MutexGive mutex) table some = let near = giving_near tabl
     (give_near core task mutex table) in (near.0, near.1, near.2, λ keeps. near.3)
 called_near core task (QueueSend queue ticks) table some = let near = giving_near table (queue_called stamp_queues core task Send queue ticks table).1 some
     (queue_called_near core task Send queue ticks table) in (near.0, near.1, near.2, λ keeps. near.3)
+called_near core task (Suspend other) table some = let near = suspend_near core other table some in (near.0, near.1, near.2, λ keeps. near.3)
+called_near core task (Resume other) table some = let near = resume_near core other table some in (near.0, near.1, near.2, λ keeps. near.3)
 called_near core task (QueueReceive queue ticks) table some = let near = giving_near table (queue_called stamp_queues core task Receive queue ticks table).1 some
     (queue_called_near core task Receive queue ticks table) in (near.0, near.1, near.2, λ keeps. near.3)
 
@@ -506,15 +529,19 @@ keeps_step Tick = true
 keeps_step (Switch core) = true
 keeps_step (Interrupt core note) = true
 keeps_step (QueueInterrupt core queue direction) = true
+keeps_step (ResumeInterrupt core task) = true
+keeps_step (Pass units) = true
 
 pub performed_near : (step : Step) (table : Table) → 0 < length table.orders.rows → IsNearBut (keeps_step step) table (performed stamp_queues step table).1
-unfolding performed interrupted
+unfolding performed interrupted resume_interrupted
 performed_near Tick table some = let near = ticked_near table in (near.0, near.1, near.2, λ keeps. near.3)
 performed_near (Switch core) table some = let near = after_select_near core table some in (near.0, near.1, near.2, λ keeps. near.3)
 performed_near (steps.Call core task call) table some = called_near core task call table some
 performed_near (Interrupt core note) table some = let near = notify_near core note table some in (near.0, near.1, near.2, λ keeps. near.3)
 performed_near (QueueInterrupt core queue direction) table some = let near = giving_near table (queue_interrupted stamp_queues core direction queue table).1 some
     (queue_interrupted_near core direction queue table) in (near.0, near.1, near.2, λ keeps. near.3)
+performed_near (ResumeInterrupt core task) table some = let near = resume_near core task table some in (near.0, near.1, near.2, λ keeps. near.3)
+performed_near (Pass units) table some = (omega arith, omega arith, refl, λ keeps. refl)
 
 pub after_near : (step : Step) (table : Table) → 0 < length table.orders.rows → IsNear table (after stamp_queues step table).1
 unfolding after

@@ -9,7 +9,7 @@ use Rattle.bench_types.specs.declared.reply.Reply.TheVariants.{Done, Blocked, Fl
 use Rattle.bench_types.specs.declared.reply.Refusal.{Refusal}
 use Rattle.bench_types.specs.declared.reply.Refusal.TheVariants.{Held, Displaced, SwitchDue, HoldBlock, NoHold, HoldDeep}
 use Rattle.bench_types.specs.declared.step.Step.{Step}
-use Rattle.bench_types.specs.declared.step.Step.TheVariants.{Tick, Switch, Interrupt, QueueInterrupt}
+use Rattle.bench_types.specs.declared.step.Step.TheVariants.{Tick, Switch, Interrupt, QueueInterrupt, ResumeInterrupt, Pass}
 use Rattle.bench_types.specs.declared.step.Step.TheVariants as steps
 use Rattle.bench_types.specs.declared.step.BlockingCall.TheVariants as blocking
 use Rattle.bench_types.specs.declared.step.Direction.TheVariants.{Send, Receive}
@@ -17,9 +17,9 @@ use Rattle.bench_types.specs.declared.step.Unfinished.{Unfinished}
 use Rattle.bench_types.specs.declared.step.Unfinished.TheVariants.{Made}
 use Rattle.bench_types.specs.declared.step.Call.{Call}
 use Rattle.bench_types.specs.declared.step.Call.TheVariants.{Yield, Delay, DelayUntil, Finish, PrioritySet, AffinitySet, PreemptOff, PreemptOn, Notify}
-use Rattle.bench_types.specs.declared.step.Call.TheVariants.{NotifyWait, NotifyTake, StateClear, ValueClear, MutexTake, MutexGive, QueueSend, QueueReceive, HoldOpen, HoldClose}
+use Rattle.bench_types.specs.declared.step.Call.TheVariants.{NotifyWait, NotifyTake, StateClear, ValueClear, MutexTake, MutexGive, QueueSend, QueueReceive, Suspend, Resume, HoldOpen, HoldClose}
 use Rattle.bench_types.proofs.Passes.{both_pass, checked_task, checked_mutex, checked_queue, noted_task}
-use Rattle.bench_types.specs.Step.{IsCheckedStep, IsCheckedCall, task_check, mask_check, ◌>>◌}
+use Rattle.bench_types.specs.Step.{IsCheckedStep, IsCheckedCall, task_check, mask_check, resume_check, suspending_check, ◌>>◌}
 use Rattle.bench_types.specs.Limits.{max_depth}
 use Rattle.bench_model.specs.Notes.{wait_entered, take_entered, of_slot, slot_of}
 use Rattle.bench_model.specs.Notifying.{is_passed}
@@ -42,6 +42,7 @@ use Rattle.rule_laws.proofs.Awaiting.{bits_sound, timeout_seen, timeout_sound}
 use Rattle.rule_laws.proofs.Mutexes.{take_seen, take_sound, give_seen, give_sound}
 use Rattle.rule_laws.proofs.Finishes.{finished_seen, finished_sound}
 use Rattle.rule_laws.proofs.Queues as queues
+use Rattle.rule_laws.proofs.Suspending.{suspend_rule_seen, resume_rule_seen, interrupt_rule_seen, suspend_rule_sound, resume_rule_sound, resume_interrupted_sound}
 use Rattle.rule_laws.proofs.Notifying.{notify_seen, notify_sound, ruled_sound}
 use Rattle.order_laws.proofs.SeenSteps.{yielded_seen, blocked_seen}
 use Rattle.order_laws.proofs.SoundSteps.{yielded_sound, blocked_sound}
@@ -62,6 +63,14 @@ set_task settings task passes = (checked_task settings task passes).1
 
 pub affinity_set_task : (settings : Settings) (task mask : ℕ) → (task_check settings task >> mask_check settings mask) ≡ Ok tt → task < settings.tasks
 affinity_set_task settings task mask passes = set_task settings task (both_pass (task_check settings task) (mask_check settings mask) passes).0
+
+-- the task that is suspended or resumed
+pub resume_task : (settings : Settings) (task : ℕ) → resume_check settings task ≡ Ok tt → task < settings.tasks
+resume_task settings task passes = set_task settings task (both_pass (task_check settings task) (suspending_check settings) passes).0
+
+-- it is a user task
+resume_user : (settings : Settings) (task : ℕ) → resume_check settings task ≡ Ok tt → settings.cores ≤ task
+resume_user settings task passes = (checked_task settings task (both_pass (task_check settings task) (suspending_check settings) passes).0).0
 
 -- the caller of a step in place is a task
 caller_below : (core task : ℕ) (table : Table) → IsConsistent table → IsCaller table core task → task < table.settings.tasks
@@ -139,6 +148,10 @@ called_seen core task (MutexGive mutex) table sound checked place = give_seen ta
     (checked_mutex table.settings mutex checked.passes)
 called_seen core task (QueueSend queue ticks) table sound checked place = queues.called_seen table core task Send queue ticks sound place
 called_seen core task (QueueReceive queue ticks) table sound checked place = queues.called_seen table core task Receive queue ticks sound place
+called_seen core task (Suspend other) table sound checked place = same_outcome Done _ _
+    (suspend_rule_seen table core other sound (resume_task table.settings other checked.passes))
+called_seen core task (Resume other) table sound checked place = same_outcome Done _ _
+    (resume_rule_seen table core other sound (resume_task table.settings other checked.passes))
 called_seen core task HoldOpen table sound checked place = opened_seen core table
 called_seen core task HoldClose table sound checked place = closed_seen core table
 
@@ -149,6 +162,8 @@ performed_seen Tick table sound checked place = same_outcome Done _ _ (ticked_se
 performed_seen (Switch core) table sound checked place = same_outcome Done _ _ (after_switch_seen table core sound (omega (arith, sound.sized.cores, place)))
 performed_seen (Interrupt core note) table sound checked place = interrupted_seen table core note sound place.1
 performed_seen (QueueInterrupt core queue direction) table sound checked place = queues.interrupted_seen table core direction queue sound
+performed_seen (ResumeInterrupt core task) table sound checked place = interrupt_rule_seen table core task sound place.1
+performed_seen (Pass units) table sound checked place = refl
 performed_seen (steps.Call core task call) table sound checked place = called_seen core task call table sound
     (checked_call table.settings core task call checked).0 place
 
@@ -178,6 +193,8 @@ would_block_seen task (MutexTake mutex ticks) table = refl
 would_block_seen task (MutexGive mutex) table = refl
 would_block_seen task (QueueSend queue ticks) table = refl
 would_block_seen task (QueueReceive queue ticks) table = refl
+would_block_seen task (Suspend other) table = refl
+would_block_seen task (Resume other) table = refl
 would_block_seen task HoldOpen table = refl
 would_block_seen task HoldClose table = refl
 
@@ -187,6 +204,8 @@ refusal_seen Tick table = refl
 refusal_seen (Switch core) table = refl
 refusal_seen (Interrupt core note) table = refl
 refusal_seen (QueueInterrupt core queue direction) table = refl
+refusal_seen (ResumeInterrupt core task) table = refl
+refusal_seen (Pass units) table = refl
 refusal_seen (steps.Call core task call) table =
     let kept_out = is_held_elsewhere core table.hold in
     let displaced = not (eqb (current table.control core) task) in
@@ -302,6 +321,10 @@ called_sound core task (QueueSend queue ticks) table sound place checked user = 
     (checked_queue table.settings queue checked.passes)
 called_sound core task (QueueReceive queue ticks) table sound place checked user = queues.called_sound table core task Receive queue ticks sound place user
     checked.words (checked_queue table.settings queue checked.passes)
+called_sound core task (Suspend other) table sound place checked user = suspend_rule_sound table core other sound
+    (resume_task table.settings other checked.passes) (resume_user table.settings other checked.passes)
+called_sound core task (Resume other) table sound place checked user = resume_rule_sound table core other sound
+    (resume_task table.settings other checked.passes)
 called_sound core task HoldOpen table sound place checked user = opened_sound core table sound
 called_sound core task HoldClose table sound place checked user = closed_sound core table sound
 
@@ -312,6 +335,8 @@ performed_sound Tick table sound checked place = ticked_sound table sound
 performed_sound (Switch core) table sound checked place = after_switch_sound table core sound (omega (arith, sound.sized.cores, place))
 performed_sound (Interrupt core note) table sound checked place = interrupted_sound table core note sound place.1 checked.words
 performed_sound (QueueInterrupt core queue direction) table sound checked place = queues.interrupted_sound table core direction queue sound
+performed_sound (ResumeInterrupt core task) table sound checked place = resume_interrupted_sound table core task sound place.1
+performed_sound (Pass units) table sound checked place = sound
 performed_sound (steps.Call core task call) table sound checked place =
     let call_checked = checked_call table.settings core task call checked in
     called_sound core task call table sound place call_checked.0 (omega (arith, sound.sized.cores, call_checked.1))

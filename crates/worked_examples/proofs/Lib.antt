@@ -7,4 +7,5 @@ pub mod QueueExamples
 pub mod SeekExamples
 pub mod SetExamples
 pub mod SettledExamples
+pub mod SuspendExamples
 pub mod TallyExamples

@@ -39,6 +39,7 @@ session_of tasks =
         tick = 0;
         mutexes = 0;
         notes = 1;
+        units = 1;
       };
       queues = None;
       tasks = tasks;

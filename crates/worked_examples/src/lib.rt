@@ -12,6 +12,7 @@ ghost use Rattle.worked_examples.specs.QueueExamples.{WorkedQueues};
 ghost use Rattle.worked_examples.specs.SeekExamples.{AskedCores, SoughtCores, WorkedChoices};
 ghost use Rattle.worked_examples.specs.SetExamples.{WorkedPriorities, WorkedMasks, WorkedPreemption};
 ghost use Rattle.worked_examples.specs.SettledExamples.{WorkedQuietWork};
+ghost use Rattle.worked_examples.specs.SuspendExamples.{WorkedSuspensions};
 ghost use Rattle.worked_examples.specs.TallyExamples.{WorkedTallies};
 
 /// Whole sessions, worked out by hand.
@@ -92,6 +93,12 @@ pub fn examples_of_mutexes()
 pub fn examples_of_queues()
     // The definitions give the worked sessions of two tasks and one queue.
     ensures { WorkedQueues }
+{}
+
+/// Suspended tasks: what is left of their waits, and what resumes them.
+pub fn examples_of_suspending()
+    // The definitions give the worked sessions of two tasks, one of which is suspended.
+    ensures { WorkedSuspensions }
 {}
 
 /// Holds, and delays until a tick count.

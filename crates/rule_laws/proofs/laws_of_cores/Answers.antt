@@ -1,5 +1,5 @@
 use Rattle.rule_laws.proofs.ControlFields.{change_apart, change_sound, in_use_seen, in_use_sound}
-use Rattle.rule_laws.proofs.CoresAlone.{ask_on, seek_on, wake_on, wait_on, switch_on, slices_on, in_use_on}
+use Rattle.rule_laws.proofs.CoresAlone.{ask_on, seek_on, wake_on, wait_on, suspend_on, switch_on, slices_on, in_use_on}
 use Rattle.rule_laws.proofs.laws_of_cores.Goals as goal
 
 pub returns-clause-change_is_apart : goal.returns-clause-change_is_apart
@@ -25,6 +25,9 @@ returns-clause-wake_on_cores c = wake_on
 
 pub returns-clause-wait_on_cores : goal.returns-clause-wait_on_cores
 returns-clause-wait_on_cores c = wait_on
+
+pub returns-clause-suspend_on_cores : goal.returns-clause-suspend_on_cores
+returns-clause-suspend_on_cores c = suspend_on
 
 pub returns-clause-switch_on_cores : goal.returns-clause-switch_on_cores
 returns-clause-switch_on_cores c = switch_on

@@ -2,9 +2,10 @@
 ghost use Rattle.std.specs.Prelude.{◌≡◌, ◌↔◌, ◌*◌, ◌<◌, ◌^◌, length, slice_set, IsTrue, IfOk};
 ghost use Rattle.bench_types.specs.declared.note.NoteState.TheVariants.{NotWaiting};
 ghost use Rattle.bench_model.specs.Notes.{is_received, is_waiting, notified, passes, slot_in, state_cleared, take_entered, take_ended, value_cleared, wait_entered, wait_ended, without_bits};
+ghost use Rattle.bench_model.specs.Suspending.{awaits_note, without_waits};
 ghost use Rattle.notify_core.specs.Parts.{fresh_notes, note_in, of_note};
 
-use bench_model::notes::{is_received, is_waiting, notified, passes, without_bits};
+use bench_model::notes::{is_received, is_waiting, notified, passes, unawaited, without_bits};
 use bench_types::{NoteState, Notification, NotifyAction};
 use std::alloc::{AllocError, Global};
 use std::marker::Model;
@@ -143,6 +144,27 @@ impl Notes {
         let note = self.note(task, index);
         self.set(task, index, notified(action, note));
         (passes(action, note.state), is_waiting(note.state))
+    }
+
+    /// Whether a call of the task waits for a notification, at some index.
+    pub fn awaits(&self, task: u32) -> bool
+        requires { task < self.now.tasks }
+        ensures { result ≡ awaits_note self.now.entries task self.now.notes }
+    {
+        (0..self.entries).any(|index| is_waiting(self.state(task, index)))
+    }
+
+    /// No call of the task waits for a notification any more (`vTaskSuspend`).
+    pub fn stop_waiting(&mut self, task: u32)
+        requires { task < self.old.tasks }
+        ensures { self.new ≡ record self.old {
+          notes
+              = without_waits self.old.entries task self.old.notes;
+        } }
+    {
+        for index in 0..self.entries {
+            self.set(task, index, unawaited(self.note(task, index)));
+        }
     }
 
     /// Begins to wait for a notification: clears the bits of the value. Returns whether there is

@@ -14,7 +14,7 @@ use Rattle.bench_types.specs.declared.step.Step.{Step}
 use Rattle.bench_types.specs.declared.step.Step.TheVariants.{Tick}
 use Rattle.bench_types.specs.declared.step.Step.TheVariants as steps
 use Rattle.bench_types.specs.Session.{Session, IsCheckedSession}
-use Rattle.bench_types.specs.Step.{call_check, core_check, core_of, note_check, queue_check, settings_of, step_check, task_check, ◌>>◌, IsCheckedStep}
+use Rattle.bench_types.specs.Step.{call_check, core_check, core_of, note_check, queue_check, resume_check, settings_of, step_check, task_check, ◌>>◌, IsCheckedStep}
 use Rattle.bench_model.specs.Control.{current, running}
 use Rattle.bench_model.specs.Session.{step_of, reply_at, running_at, state_after, state_at, run_results}
 use Rattle.bench_model.specs.Sound.{IsSound}
@@ -80,6 +80,9 @@ own_core settings (steps.Switch core) some passes = checked_core settings core p
 own_core settings (steps.Interrupt core note) some passes = checked_core settings core (both_pass (core_check settings core) (note_check settings note) passes).0
 own_core settings (steps.QueueInterrupt core queue direction) some passes =
     checked_core settings core (both_pass (core_check settings core) (queue_check settings queue) passes).0
+own_core settings (steps.ResumeInterrupt core task) some passes =
+    checked_core settings core (both_pass (core_check settings core) (resume_check settings task) passes).0
+own_core settings (steps.Pass units) some passes = some
 own_core settings (steps.Call core task call) some passes =
     checked_core settings core (both_pass (core_check settings core) (task_check settings task)
     (both_pass (core_check settings core >> task_check settings task) (call_check settings call) passes).0).0

@@ -12,7 +12,7 @@ use Rattle.bench_types.specs.declared.kernel_data.Settings.{Settings}
 use Rattle.bench_types.specs.declared.step.Step.{Step}
 use Rattle.bench_types.specs.declared.step.Step.TheVariants.{Tick}
 use Rattle.bench_types.specs.declared.step.Step.TheVariants as steps
-use Rattle.bench_types.specs.Step.{call_check, core_check, core_of, note_check, queue_check, task_check, ◌>>◌, IsCheckedStep}
+use Rattle.bench_types.specs.Step.{call_check, core_check, core_of, note_check, queue_check, resume_check, task_check, ◌>>◌, IsCheckedStep}
 use Rattle.bench_model.specs.Control.{Control, current, running}
 use Rattle.bench_model.specs.Session.{step_of, state_after, run_results}
 use Rattle.bench_model.specs.Sound.{IsSound}
@@ -88,6 +88,9 @@ own_core settings (steps.Interrupt core note) some checked = checked_core settin
     (both_pass (core_check settings core) (note_check settings note) checked.passes).0
 own_core settings (steps.QueueInterrupt core queue direction) some checked = checked_core settings core
     (both_pass (core_check settings core) (queue_check settings queue) checked.passes).0
+own_core settings (steps.ResumeInterrupt core task) some checked = checked_core settings core
+    (both_pass (core_check settings core) (resume_check settings task) checked.passes).0
+own_core settings (steps.Pass units) some checked = some
 own_core settings (steps.Call core task call) some checked =
     checked_core settings core (both_pass (core_check settings core) (task_check settings task)
     (both_pass (core_check settings core >> task_check settings task) (call_check settings call) checked.passes).0).0

@@ -42,6 +42,7 @@ edited_settings session (ChangeTask task priority mask) =
       mutexes = config.mutexes;
       notes = config.notes;
       queues = queue_count session.header;
+      units = config.units;
       tasks = config.cores + users;
     }) (length-set session.header.tasks (task - config.cores) _)
 

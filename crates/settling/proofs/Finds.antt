@@ -132,6 +132,8 @@ begin_call Tick is = absurd (cc (is))
 begin_call (Switch core) is = absurd (cc (is))
 begin_call (steps.Interrupt core note) is = absurd (cc (is))
 begin_call (steps.QueueInterrupt core queue direction) is = absurd (cc (is))
+begin_call (steps.ResumeInterrupt core task) is = absurd (cc (is))
+begin_call (steps.Pass units) is = absurd (cc (is))
 begin_call (steps.Call core task call) is = at (is_finish call) is
   where
     at : (b : Bool) → not b ≡ true → b ≡ false

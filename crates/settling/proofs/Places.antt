@@ -12,7 +12,7 @@ use Rattle.std.proofs.lemmas.List.Folds.{find-append, list_any-append}
 use Rattle.std.proofs.Math.Numerals.{add-one}
 use Rattle.bench_types.specs.declared.kernel_data.Settings.{Settings}
 use Rattle.bench_types.specs.declared.step.Step.{Step}
-use Rattle.bench_types.specs.declared.step.Step.TheVariants.{Tick, Switch, Interrupt, QueueInterrupt}
+use Rattle.bench_types.specs.declared.step.Step.TheVariants.{Tick, Switch, Interrupt, QueueInterrupt, ResumeInterrupt, Pass}
 use Rattle.bench_types.specs.declared.step.Step.TheVariants as steps
 use Rattle.bench_types.specs.Step.{IsCheckedStep}
 use Rattle.list_orders.specs.Search.{numbers}
@@ -59,6 +59,8 @@ with_step Tick waiting here is come = append-nil waiting
 with_step (Switch core) waiting here is come = absurd (cc (is))
 with_step (Interrupt core note) waiting here is come = append-nil waiting
 with_step (QueueInterrupt core queue direction) waiting here is come = append-nil waiting
+with_step (ResumeInterrupt core task) waiting here is come = append-nil waiting
+with_step (Pass units) waiting here is come = append-nil waiting
 with_step (steps.Call core task call) waiting here is come = ap (λ b. waiting ++ cond b (record { task = task; call = call } ∷ []) []) (λ k. is k && come is k)
 
 no_step : (step : Step) (waiting : List WaitingCall) (here : Bool) → is_event step ≡ false
@@ -67,6 +69,8 @@ no_step Tick waiting here none = absurd (cc (none))
 no_step (Switch core) waiting here none = append-nil waiting
 no_step (Interrupt core note) waiting here none = absurd (cc (none))
 no_step (QueueInterrupt core queue direction) waiting here none = absurd (cc (none))
+no_step (ResumeInterrupt core task) waiting here none = absurd (cc (none))
+no_step (Pass units) waiting here none = absurd (cc (none))
 no_step (steps.Call core task call) waiting here none = ap (λ b. waiting ++ cond (b && here) (record { task = task; call = call } ∷ []) []) none
     ∙ append-nil waiting
 
@@ -376,6 +380,8 @@ call_may settings Tick is checked = absurd (cc (is))
 call_may settings (Switch core) is checked = absurd (cc (is))
 call_may settings (Interrupt core note) is checked = absurd (cc (is))
 call_may settings (QueueInterrupt core queue direction) is checked = absurd (cc (is))
+call_may settings (ResumeInterrupt core task) is checked = absurd (cc (is))
+call_may settings (Pass units) is checked = absurd (cc (is))
 call_may settings (steps.Call core task call) is checked = event_waits settings (steps.Call core task call) is checked core task call refl
 
 append_each : (P : WaitingCall → Type 0) (one other : List WaitingCall) → AllByRecursion P one → AllByRecursion P other → AllByRecursion P (one ++ other)

@@ -7,7 +7,7 @@ use Rattle.std.proofs.lemmas.List.Elements.{All-get_or}
 use Rattle.std.proofs.Math.Numerals.{add-one}
 use Rattle.bench_types.specs.declared.kernel_data.Settings.{Settings}
 use Rattle.bench_types.specs.declared.step.Step.{Step}
-use Rattle.bench_types.specs.declared.step.Step.TheVariants.{Tick, Switch, Interrupt, QueueInterrupt}
+use Rattle.bench_types.specs.declared.step.Step.TheVariants.{Tick, Switch, Interrupt, QueueInterrupt, ResumeInterrupt, Pass}
 use Rattle.bench_types.specs.declared.step.Step.TheVariants as steps
 use Rattle.bench_types.specs.Limits.{max_steps}
 use Rattle.bench_types.specs.Session.{IsCheckedSession, Session}
@@ -130,6 +130,8 @@ module _ (session : Session) (old : Settling) (here : IsAt session old) where
     idle_waits (Switch core) waiting none = refl
     idle_waits (Interrupt core note) waiting none = refl
     idle_waits (QueueInterrupt core queue direction) waiting none = refl
+    idle_waits (ResumeInterrupt core task) waiting none = refl
+    idle_waits (Pass units) waiting none = refl
     idle_waits (steps.Call core task call) waiting none = at (is_finish call) none
       where
         at : (b : Bool) → not b ≡ false → cond b waiting (without_first task waiting) ≡ waiting
@@ -207,6 +209,8 @@ caller_low settings Tick is checked = absurd (cc (is))
 caller_low settings (Switch core) is checked = absurd (cc (is))
 caller_low settings (Interrupt core note) is checked = absurd (cc (is))
 caller_low settings (QueueInterrupt core queue direction) is checked = absurd (cc (is))
+caller_low settings (ResumeInterrupt core task) is checked = absurd (cc (is))
+caller_low settings (Pass units) is checked = absurd (cc (is))
 caller_low settings (steps.Call core task call) is checked = (event_waits settings (steps.Call core task call) is checked core task call refl).task.1
 
 pub callers_low : (session : Session) (tasks : ℕ) → IsCheckedSession session → (settings_of session.header).tasks ≡ tasks → HasCallers session.steps tasks
@@ -247,6 +251,8 @@ outside_once Tick outside = (refl, refl)
 outside_once (Switch core) outside = absurd (cc (outside))
 outside_once (Interrupt core note) outside = (refl, refl)
 outside_once (QueueInterrupt core queue direction) outside = (refl, refl)
+outside_once (ResumeInterrupt core task) outside = (refl, refl)
+outside_once (Pass units) outside = (refl, refl)
 outside_once (steps.Call core task call) outside = absurd (cc (outside))
 
 inside_once : (step : Step) → comes_from_outside step ≡ false → is_event step ≡ true → made_at_once step ≡ []
@@ -254,6 +260,8 @@ inside_once Tick inside is = absurd (cc (inside))
 inside_once (Switch core) inside is = absurd (cc (is))
 inside_once (Interrupt core note) inside is = absurd (cc (inside))
 inside_once (QueueInterrupt core queue direction) inside is = absurd (cc (inside))
+inside_once (ResumeInterrupt core task) inside is = absurd (cc (inside))
+inside_once (Pass units) inside is = absurd (cc (inside))
 inside_once (steps.Call core task call) inside is = refl
 
 module _ (session : Session) (old : Settling) (resting : IsResting session old) (more : old.come < length session.steps) where

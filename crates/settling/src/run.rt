@@ -207,13 +207,17 @@ pub fn settle(
     Ok(run.finish(left))
 }
 
-// A tick or an interrupt.
+// A tick, an interrupt or a pass.
 fn comes_from_outside(step: &Step) -> bool
     ensures { result ≡ comes_from_outside step.now }
 {
     matches!(
         step,
-        Step::Tick | Step::Interrupt { .. } | Step::QueueInterrupt { .. }
+        Step::Tick
+            | Step::Interrupt { .. }
+            | Step::QueueInterrupt { .. }
+            | Step::ResumeInterrupt { .. }
+            | Step::Pass { .. }
     )
 }
 

@@ -25,6 +25,7 @@ mod notes;
 mod queues;
 mod seek;
 mod sets;
+mod suspending;
 
 use bench_model::until::{is_ahead, next_wake};
 use bench_model::{TaskRow, TaskState};
@@ -456,6 +457,8 @@ impl SlowTable {
             Call::AffinitySet { task, mask } => self.set_affinity(core, task, mask),
             Call::PreemptOff(task) => self.preempt_off(task),
             Call::PreemptOn(task) => self.preempt_on(core, task),
+            Call::Suspend(task) => self.suspend(core, task),
+            Call::Resume(task) => self.resume(core, task),
             Call::Delay(ticks) => return Ok(self.delay(core, task, ticks)),
             Call::DelayUntil { prev, inc } => return Ok(self.delay_until(core, task, prev, inc)),
             Call::Finish => return self.finish(alloc, core, task),
@@ -513,6 +516,8 @@ impl SlowTable {
                 queue,
                 direction,
             } => Ok(self.interrupt_queue(core, direction, queue)),
+            Step::ResumeInterrupt { core, task } => Ok(self.interrupt_resume(core, task)),
+            Step::Pass { .. } => Ok(Reply::Done),
         }
     }
 
@@ -714,6 +719,7 @@ fn settings_of(header: &Header) -> Settings
         mutexes: config.mutexes,
         notes: config.notes,
         queues: header.queue_count(),
+        units: config.units,
         tasks: config.cores + header.tasks.as_slice().len() as u32,
     }
 }

@@ -9,5 +9,6 @@ pub mod Owing
 pub mod Raises
 pub mod Sizes
 pub mod Stands
+pub mod Suspended
 pub mod Ticks
 pub mod Untils

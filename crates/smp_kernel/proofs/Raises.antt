@@ -11,11 +11,11 @@ use Rattle.bench_types.specs.declared.reply.Refusal.{Refusal}
 use Rattle.bench_types.specs.declared.reply.Reply.{Reply}
 use Rattle.bench_types.specs.declared.reply.Reply.TheVariants.{Done, Blocked, Flag, Until, Refused}
 use Rattle.bench_types.specs.declared.step.Step.{Step}
-use Rattle.bench_types.specs.declared.step.Step.TheVariants.{Tick, Switch, Interrupt, QueueInterrupt}
+use Rattle.bench_types.specs.declared.step.Step.TheVariants.{Tick, Switch, Interrupt, QueueInterrupt, ResumeInterrupt, Pass}
 use Rattle.bench_types.specs.declared.step.Step.TheVariants as steps
 use Rattle.bench_types.specs.declared.step.Call.{Call}
 use Rattle.bench_types.specs.declared.step.Call.TheVariants.{Yield, Delay, DelayUntil, Finish, PrioritySet, AffinitySet, PreemptOff, PreemptOn, Notify}
-use Rattle.bench_types.specs.declared.step.Call.TheVariants.{NotifyWait, NotifyTake, StateClear, ValueClear, MutexTake, MutexGive, QueueSend, QueueReceive, HoldOpen, HoldClose}
+use Rattle.bench_types.specs.declared.step.Call.TheVariants.{NotifyWait, NotifyTake, StateClear, ValueClear, MutexTake, MutexGive, QueueSend, QueueReceive, Suspend, Resume, HoldOpen, HoldClose}
 use Rattle.bench_types.specs.declared.step.Direction.{Direction}
 use Rattle.bench_types.specs.declared.step.Direction.TheVariants.{Send, Receive}
 use Rattle.bench_types.specs.declared.step.BlockingCall.{BlockingCall}
@@ -33,6 +33,7 @@ use Rattle.bench_model.specs.PriorityAffinity.{capped, in_use_after, yields_afte
 use Rattle.bench_model.specs.PriorityAffinity.{preemption_off, preemption_on}
 use Rattle.bench_model.specs.Queues.{can_pass, other_way, passed, queue_at, queue_called, queue_finished, queue_interrupted, queue_waited, with_passed}
 use Rattle.bench_model.specs.Refusals.{refusal}
+use Rattle.bench_model.specs.Suspending.{is_suspended, resume_interrupted, resumed, suspended, without_waits}
 use Rattle.bench_model.specs.Seek.{seek, may_move, wake, after_eviction, after_switch, shares_its_time, sliced}
 use Rattle.bench_model.specs.State.{State, QueueOps, call_at, holder_at, after_select, after_return, yielded, blocked}
 use Rattle.bench_model.specs.Steps.{woken, ticked, delayed_until, after_finish, called, performed, after}
@@ -303,6 +304,30 @@ module _ {Orders : Type 0} (ops : QueueOps Orders) where
       at None = λ other. refl
       at (Some waiter) = wake_kept core waiter.task state
 
+  -- suspended tasks
+  suspended_kept : (core other : ℕ) (state : State Orders) → KeepsAll state.control (suspended ops core other state).control
+  unfolding suspended
+  suspended_kept core other state = at (is_suspended ops other state)
+    where
+      gone : State Orders
+      gone = record state {
+        control = ask_its_core core other state.control;
+        notes = without_waits state.settings.notes other state.notes;
+        orders = ops.suspend other state.orders;
+      }
+
+      at : (b : Bool) → KeepsAll state.control (cond b state gone).control
+      at true = λ task. refl
+      at false = same_tasks state.control (ask_its_core core other state.control) (its_core_more core other state.control).tasks
+
+  resumed_kept : (core other : ℕ) (state : State Orders) → KeepsAll state.control (resumed ops core other state).control
+  unfolding resumed
+  resumed_kept core other state = at (is_suspended ops other state)
+    where
+      at : (b : Bool) → KeepsAll state.control (cond b (wake ops core other state) state).control
+      at true = wake_kept core other state
+      at false = λ task. refl
+
   -- queues
   passed_kept : (core : ℕ) (direction : Direction) (queue : ℕ) (state : State Orders) → KeepsAll state.control
       (passed ops core direction queue state).control
@@ -419,17 +444,21 @@ module _ {Orders : Type 0} (ops : QueueOps Orders) where
   called_others core task (MutexTake mutex ticks) state = take_others core task mutex ticks state
   called_others core task (MutexGive mutex) state = give_others core task mutex state
   called_others core task (QueueSend queue ticks) state = λ other away. queue_called_kept core task Send queue ticks state other
+  called_others core task (Suspend one) state = λ other away. suspended_kept core one state other
+  called_others core task (Resume one) state = λ other away. resumed_kept core one state other
   called_others core task (QueueReceive queue ticks) state = λ other away. queue_called_kept core task Receive queue ticks state other
   called_others core task HoldOpen state = λ other away. refl
   called_others core task HoldClose state = λ other away. refl
 
   performed_others : (step : Step) (state : State Orders) → KeepsOthers (raised_by state step) state.control (performed ops step state).1.control
-  unfolding performed interrupted
+  unfolding performed interrupted resume_interrupted
   performed_others Tick state = λ other away. ticked_kept state other
   performed_others (Switch core) state = λ other away. switch_kept core state other
   performed_others (steps.Call core task call) state = called_others core task call state
   performed_others (Interrupt core note) state = λ other away. notify_kept core note state other
   performed_others (QueueInterrupt core queue direction) state = λ other away. queue_interrupted_kept core direction queue state other
+  performed_others (ResumeInterrupt core task) state = λ other away. resumed_kept core task state other
+  performed_others (Pass units) state = λ other away. refl
 
   pub step_others : (step : Step) (state : State Orders) → KeepsOthers (raised_by state step) state.control (after ops step state).1.control
   unfolding after

@@ -9,7 +9,7 @@ use Rattle.bench_types.specs.declared.note.Notification.{Notification}
 use Rattle.bench_types.specs.declared.reply.Reply.{Reply}
 use Rattle.bench_types.specs.declared.reply.Reply.TheVariants.{Done, Blocked, Flag, Until, Refused}
 use Rattle.bench_types.specs.declared.step.Step.{Step}
-use Rattle.bench_types.specs.declared.step.Step.TheVariants.{Tick, Switch, Interrupt, QueueInterrupt}
+use Rattle.bench_types.specs.declared.step.Step.TheVariants.{Tick, Switch, Interrupt, QueueInterrupt, ResumeInterrupt, Pass}
 use Rattle.bench_types.specs.declared.step.Step.TheVariants as steps
 use Rattle.bench_types.specs.declared.step.Call.{Call}
 use Rattle.bench_types.specs.declared.step.BlockingCall.{BlockingCall}
@@ -18,7 +18,7 @@ use Rattle.bench_types.specs.declared.step.Unfinished.{Unfinished}
 use Rattle.bench_types.specs.declared.step.Unfinished.TheVariants.{Made, Take, Transfer}
 use Rattle.bench_types.specs.declared.kernel_data.Waiter.{Waiter}
 use Rattle.bench_types.specs.declared.step.Call.TheVariants.{Yield, Delay, DelayUntil, Finish, PrioritySet, AffinitySet, PreemptOff, PreemptOn, Notify}
-use Rattle.bench_types.specs.declared.step.Call.TheVariants.{NotifyWait, NotifyTake, StateClear, ValueClear, MutexTake, MutexGive, QueueSend, QueueReceive, HoldOpen, HoldClose}
+use Rattle.bench_types.specs.declared.step.Call.TheVariants.{NotifyWait, NotifyTake, StateClear, ValueClear, MutexTake, MutexGive, QueueSend, QueueReceive, Suspend, Resume, HoldOpen, HoldClose}
 use Rattle.bench_types.specs.declared.step.Direction.{Direction}
 use Rattle.bench_types.specs.declared.step.Direction.TheVariants.{Send, Receive}
 use Rattle.bench_types.specs.Step.{step_check, IsStepOfWords, IsCheckedStep}
@@ -31,6 +31,7 @@ use Rattle.bench_model.specs.Holds.{hold_opened, hold_closed}
 use Rattle.bench_model.specs.Queues.{can_pass, other_way, passed, queue_at, queue_called, queue_finished, queue_interrupted, queue_waited, with_passed}
 use Rattle.bench_model.specs.Refusals.{refusal}
 use Rattle.bench_model.specs.Until.{next_wake, is_ahead, ticks_to}
+use Rattle.bench_model.specs.Suspending.{is_suspended, resume_interrupted, resumed, suspended, without_waits}
 use Rattle.bench_model.specs.Seek.{seek, wake}
 use Rattle.bench_model.specs.Notes.{wait_entered, take_entered, of_slot, slot_of}
 use Rattle.bench_model.specs.Notifying.{interrupted, state_forgotten, bits_cleared, completed, awaited, timeout_of}
@@ -262,6 +263,29 @@ queue_interrupted_settings core direction queue view = at (can_pass direction (q
     at true = passed_settings core direction queue view
     at false = refl
 
+suspended_settings : (core other : ℕ) (view : View) → (suspended list_queues core other view).settings ≡ view.settings
+unfolding suspended
+suspended_settings core other view = at (is_suspended list_queues other view)
+  where
+    gone : View
+    gone = record view {
+      control = ask_its_core core other view.control;
+      notes = without_waits view.settings.notes other view.notes;
+      orders = seen.suspend other view.orders;
+    }
+
+    at : (b : Bool) → (cond b view gone).settings ≡ view.settings
+    at true = refl
+    at false = refl
+
+resumed_settings : (core other : ℕ) (view : View) → (resumed list_queues core other view).settings ≡ view.settings
+unfolding resumed wake
+resumed_settings core other view = at (is_suspended list_queues other view)
+  where
+    at : (b : Bool) → (cond b (wake list_queues core other view) view).settings ≡ view.settings
+    at true = refl
+    at false = refl
+
 finished_settings : (core task : ℕ) (call : Unfinished) (view : View) → (after_finish list_queues core task call view).1.settings ≡ view.settings
 unfolding after_finish
 finished_settings core task (Made call) view = completed_settings task call (after_return list_queues task view)
@@ -340,11 +364,13 @@ called_settings core task (MutexGive mutex) view = given_settings core task mute
 called_settings core task (QueueSend queue ticks) view = queue_called_settings core task Send queue ticks view
 called_settings core task (QueueReceive queue ticks) view = queue_called_settings core task Receive queue ticks view
 called_settings core task (DelayUntil prev inc) view = until_settings core task prev inc view
+called_settings core task (Suspend other) view = suspended_settings core other view
+called_settings core task (Resume other) view = resumed_settings core other view
 called_settings core task HoldOpen view = refl
 called_settings core task HoldClose view = refl
 
 performed_settings : (step : Step) (view : View) → (performed list_queues step view).1.settings ≡ view.settings
-unfolding performed ticked interrupted
+unfolding performed ticked interrupted resume_interrupted
 performed_settings Tick view =
     let later = record view { orders = seen.advance view.orders } in
     sliced_settings (woken list_queues (seen.due later.orders) later) ∙ woken_settings (seen.due later.orders) later
@@ -352,6 +378,8 @@ performed_settings (Switch core) view = turned_settings core view
 performed_settings (steps.Call core task call) view = called_settings core task call view
 performed_settings (Interrupt core note) view = notify_settings core note view
 performed_settings (QueueInterrupt core queue direction) view = queue_interrupted_settings core direction queue view
+performed_settings (ResumeInterrupt core task) view = resumed_settings core task view
+performed_settings (Pass units) view = refl
 
 after_settings : (step : Step) (view : View) → (after list_queues step view).1.settings ≡ view.settings
 unfolding after

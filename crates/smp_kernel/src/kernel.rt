@@ -16,7 +16,8 @@ ghost use Rattle.bench_model.specs.Session.{step_of};
 ghost use Rattle.bench_model.specs.Equal.{Same, StandsFor};
 ghost use Rattle.bench_model.specs.Shifted.{SameShifted, shifted};
 ghost use Rattle.bench_model.specs.Seek.{effective};
-ghost use Rattle.bench_model.specs.Lists.{is_ready};
+ghost use Rattle.bench_model.specs.Lists.{is_ready, list_queues};
+ghost use Rattle.bench_model.specs.Suspending.{is_suspended};
 ghost use Rattle.bench_model.specs.Tally.{is_current};
 ghost use Rattle.smp_kernel.specs.Kernel.{wants_core, ready_list, StandsForSome};
 ghost use Rattle.smp_kernel.specs.Raised.{raised_by, KeepsOthers};
@@ -256,6 +257,15 @@ impl Kernel {
         ensures { result ≡ is_ready task self.now.orders }
     {
         self.scheduler.ready(task)
+    }
+
+    /// Whether the task is suspended: it is in no ready list, and waits for nothing
+    /// (`vTaskSuspend`).
+    pub fn suspended(&self, task: u32) -> bool
+        requires { task < self.now.settings.tasks }
+        ensures { result ≡ is_suspended list_queues task self.now }
+    {
+        self.scheduler.is_suspended(task)
     }
 
     /// For each task whether it is ready and on no core.

@@ -5,7 +5,7 @@ ghost use Rattle.bench_types.specs.Header.{header_check};
 ghost use Rattle.bench_types.specs.Step.{call_check, queue_total, step_check, IsStepOfWords};
 ghost use Rattle.bench_types.specs.Limits.{max_cores, max_depth};
 ghost use Rattle.bench_types.specs.declared.step.Call.TheVariants.{Delay};
-ghost use Rattle.bench_types.specs.declared.step.Step.TheVariants.{Tick, Switch, Interrupt, QueueInterrupt};
+ghost use Rattle.bench_types.specs.declared.step.Step.TheVariants.{Tick, Switch, Interrupt, QueueInterrupt, ResumeInterrupt, Pass};
 ghost use Rattle.bench_types.specs.declared.step.Step.TheVariants as steps;
 ghost use Rattle.bench_types.specs.declared.step.Unfinished.TheVariants.{Made};
 ghost use Rattle.list_orders.specs.Listings.{IsListing};
@@ -32,6 +32,7 @@ mod queues;
 mod raises;
 mod refusals;
 mod sets;
+mod suspending;
 
 use self::first::{first_orders, no_ends, no_waits};
 use crate::deadlines::Deadlines;
@@ -107,6 +108,7 @@ impl Scheduler {
             mutexes: config.mutexes,
             notes: config.notes,
             queues: header.queue_count(),
+            units: config.units,
             tasks,
         };
         let (cores, mutexes) = first_orders(alloc, header, settings)?;
@@ -163,6 +165,7 @@ impl Scheduler {
             mask: self.cores.mask(task),
             preempt: self.cores.preempt(task),
             ready: self.cores.ready(task),
+            suspended: self.is_suspended(task),
             left: self.delays.left(task),
             held: self.mutexes.held(task),
             in_call: self.calls[task as usize].is_some(),
@@ -298,6 +301,8 @@ impl Scheduler {
                 queue,
                 direction,
             } => self.make_queue_interrupt(core, queue, direction),
+            Step::ResumeInterrupt { core, task } => self.make_resume_interrupt(core, task),
+            Step::Pass { units } => self.make_pass(units),
         }
     }
 
@@ -363,6 +368,25 @@ impl Scheduler {
         ensures words { IsStepOfWords (QueueInterrupt core queue direction) }
     {
         self.interrupt_queue(core, direction, queue)
+    }
+
+    // Nor is one that resumes a task.
+    #[tactic(auto, unfolding(bench_model::specs::Steps::after, bench_model::specs::Steps::performed, bench_model::specs::Refusals::refusal))]
+    fn make_resume_interrupt(&mut self, core: u32, task: u32) -> Reply
+        requires { step_check self.old.settings (ResumeInterrupt core task) ≡ Ok tt }
+        ensures made { (result, self.new) ≡ after list_queues (ResumeInterrupt core task) self.old }
+        ensures words { IsStepOfWords (ResumeInterrupt core task) }
+    {
+        self.interrupt_resume(core, task)
+    }
+
+    // Nothing happens while time goes by.
+    #[tactic(auto, unfolding(bench_model::specs::Steps::after, bench_model::specs::Steps::performed, bench_model::specs::Refusals::refusal))]
+    fn make_pass(&self, _units: u32) -> Reply
+        ensures made { (result, self.now) ≡ after list_queues (Pass _units) self.now }
+        ensures words { IsStepOfWords (Pass _units) }
+    {
+        Reply::Done
     }
 
     // One tick more. Each task that has waited long enough then is woken, and then time slices end.
@@ -431,6 +455,8 @@ impl Scheduler {
             Call::AffinitySet { task, mask } => self.set_affinity(core, task, mask),
             Call::PreemptOff(task) => self.preempt_off(task),
             Call::PreemptOn(task) => self.preempt_on(core, task),
+            Call::Suspend(task) => self.suspend(core, task),
+            Call::Resume(task) => self.resume(core, task),
             Call::HoldOpen => self.open_hold(core),
             Call::HoldClose => self.close_hold(core),
             Call::Delay(ticks) => return self.delay(core, task, ticks),

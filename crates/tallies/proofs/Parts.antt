@@ -108,6 +108,8 @@ finish_of caller task core (call.MutexTake mutex ticks) = and-false (caller == t
 finish_of caller task core (call.MutexGive mutex) = and-false (caller == task)
 finish_of caller task core (call.QueueSend queue ticks) = and-false (caller == task)
 finish_of caller task core (call.QueueReceive queue ticks) = and-false (caller == task)
+finish_of caller task core (call.Suspend other) = and-false (caller == task)
+finish_of caller task core (call.Resume other) = and-false (caller == task)
 finish_of caller task core call.Finish = and-true (caller == task)
 finish_of caller task core call.HoldOpen = and-false (caller == task)
 finish_of caller task core call.HoldClose = and-false (caller == task)
@@ -144,6 +146,8 @@ module _ (before after : View) (reply : Reply) (task : ℕ) where
   counted_alike sized later step.Tick = record { switched = refl; displaced = refl; timeouts = refl }
   counted_alike sized later (step.Interrupt core note) = record { switched = refl; displaced = refl; timeouts = refl }
   counted_alike sized later (step.QueueInterrupt core queue direction) = record { switched = refl; displaced = refl; timeouts = refl }
+  counted_alike sized later (step.ResumeInterrupt core task) = record { switched = refl; displaced = refl; timeouts = refl }
+  counted_alike sized later (step.Pass units) = record { switched = refl; displaced = refl; timeouts = refl }
   counted_alike sized later (step.Call core caller call) = record {
     switched = call_switch caller task call reply;
     displaced = call_displaced caller task call reply;
@@ -314,3 +318,5 @@ no_tick (step.Switch core) other = refl
 no_tick (step.Call core task call) other = refl
 no_tick (step.Interrupt core note) other = refl
 no_tick (step.QueueInterrupt core queue direction) other = refl
+no_tick (step.ResumeInterrupt core task) other = refl
+no_tick (step.Pass units) other = refl

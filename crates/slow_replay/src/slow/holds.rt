@@ -96,6 +96,7 @@ impl SlowTable {
             Call::QueueReceive { queue, ticks } => {
                 !self.can_pass(Direction::Receive, queue) && 0 < ticks
             }
+            Call::Suspend(other) => other == task,
             _ => false,
         }
     }
@@ -152,7 +153,11 @@ impl SlowTable {
         ensures { result ≡ refusal stamp_queues step.now self.now }
     {
         match *step {
-            Step::Tick | Step::Interrupt { .. } | Step::QueueInterrupt { .. } => None,
+            Step::Tick
+            | Step::Interrupt { .. }
+            | Step::QueueInterrupt { .. }
+            | Step::ResumeInterrupt { .. }
+            | Step::Pass { .. } => None,
             Step::Switch { .. } if self.hold.is_some() => Some(Refusal::Held),
             Step::Switch { core } => (!self.is_due(core)).then_some(Refusal::NotDue),
             Step::Call { core, .. } if self.is_held_elsewhere(core) => Some(Refusal::Held),

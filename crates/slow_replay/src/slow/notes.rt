@@ -31,7 +31,7 @@ impl SlowTable {
         self.notes[self.slot(task, index)]
     }
 
-    fn set_note(&mut self, task: u32, index: u32, note: Notification)
+    pub(super) fn set_note(&mut self, task: u32, index: u32, note: Notification)
         requires task { task < length self.old.orders.rows }
         requires index { index < self.old.settings.notes }
         ensures { self.new ≡ record self.old {

@@ -13,14 +13,18 @@ use bench_model::until::{is_ahead, next_wake};
 use bench_types::{Call, Direction, MAX_DEPTH, Refusal, Step, Unfinished};
 
 impl Scheduler {
-    // A tick and an interrupt never are.
+    // A tick, an interrupt and a pass never are.
     #[tactic(auto, unfolding(bench_model::specs::Refusals::refusal))]
     pub(crate) fn refusal(&self, step: &Step) -> Option<Refusal>
         requires { step_check self.now.settings step.now ≡ Ok tt }
         ensures { result ≡ refusal list_queues step.now self.now }
     {
         match *step {
-            Step::Tick | Step::Interrupt { .. } | Step::QueueInterrupt { .. } => None,
+            Step::Tick
+            | Step::Interrupt { .. }
+            | Step::QueueInterrupt { .. }
+            | Step::ResumeInterrupt { .. }
+            | Step::Pass { .. } => None,
             Step::Switch { core } => self.switch_refusal(core),
             Step::Call { core, task, call } => self.call_refusal(core, task, call),
         }
@@ -132,6 +136,7 @@ impl Scheduler {
             Call::QueueReceive { queue, ticks } => {
                 !self.queues.can_pass(Direction::Receive, queue) && ticks > 0
             }
+            Call::Suspend(other) => other == task,
             _ => false,
         }
     }

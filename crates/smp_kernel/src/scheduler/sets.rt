@@ -11,7 +11,7 @@ use super::Scheduler;
 
 impl Scheduler {
     // The core that the task runs on is asked, if there is one.
-    fn ask_its_core(&mut self, acting: u32, task: u32)
+    pub(super) fn ask_its_core(&mut self, acting: u32, task: u32)
         requires { task < self.old.settings.tasks }
         ensures { self.new
             ≡ record self.old { control = ask_its_core acting task self.old.control } }

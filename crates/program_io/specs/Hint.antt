@@ -5,10 +5,11 @@ use Rattle.std.specs.List.{starts_with}
 use Rattle.std.specs.Str.{is_utf8}
 use Rattle.serde_json.specs.Read.{read}
 use Rattle.bench_types.specs.declared.flaw.HeaderFlaw.{HeaderFlaw}
-use Rattle.bench_types.specs.declared.flaw.HeaderFlaw.TheVariants.{Cores, Priorities, Mutexes, Notes, Queues, QueueLength, QueueMessages, TaskCount, NoName, Priority, Mask, SharedName}
+use Rattle.bench_types.specs.declared.flaw.HeaderFlaw.TheVariants.{Cores, Priorities, Mutexes, Notes, Queues, QueueLength, QueueMessages, Units, TaskCount, NoName, Priority, Mask, SharedName}
 use Rattle.bench_types.specs.declared.step_flaw.StepFlaw.{StepFlaw}
 use Rattle.bench_types.specs.declared.step_flaw.StepFlaw.TheVariants as flaws
-use Rattle.bench_types.specs.Limits.{min_cores, max_cores, max_priorities, max_tasks, max_mutexes, max_notes, max_queues, max_name, max_input, max_steps}
+use Rattle.bench_types.specs.Limits.{min_cores, max_cores, max_priorities, max_tasks, max_mutexes, max_notes, max_queues, max_units, max_name, max_input, max_steps}
+use Rattle.bench_types.specs.Name.{is_within}
 use Rattle.session_text.specs.declared.bench.Bench.{Bench}
 use Rattle.session_text.specs.declared.detail.Detail.{Detail}
 use Rattle.session_text.specs.declared.detail.Detail.TheVariants as detail
@@ -97,6 +98,13 @@ bad_name_text task most =
 abbrev pub queue_text : ℕ → List ℕ → List ℕ
 queue_text queue text = codes "header: queues[" ++ decimal queue ++ codes "]" ++ text
 
+-- the units of time that a tick may not have; where another session may, this is that of a rig
+abbrev pub units_text : ℕ → List ℕ
+units_text n =
+    if is_within 1 max_units n
+    then codes "header: units is " ++ decimal n ++ codes ", and has to be 1 in a rig: its recordings have no time"
+    else limits_text (codes "units") n 1 max_units
+
 abbrev pub flaw_text : HeaderFlaw → List ℕ
 flaw_text (Cores n) = limits_text (codes "cores") n min_cores max_cores
 flaw_text (Priorities n) = limits_text (codes "priorities") n 1 max_priorities
@@ -106,6 +114,7 @@ flaw_text (Queues n) = limits_text (codes "the number of queues") n 0 max_queues
 flaw_text (QueueLength queue) = queue_text queue (codes ".length has to be 1 or more")
 flaw_text (QueueMessages queue) =
     queue_text queue (codes ".messages has to be at most its length")
+flaw_text (Units n) = units_text n
 flaw_text (TaskCount n) = limits_text (codes "the number of tasks") n 1 max_tasks
 flaw_text (NoName task) = bad_name_text task max_name
 flaw_text (Priority task priorities) =
@@ -225,6 +234,9 @@ step_flaw_text (flaws.Mutex mutex mutexes) = mutex_text mutex mutexes
 step_flaw_text (flaws.Queue queue queues) = no_queue_text queue queues
 step_flaw_text (flaws.Mask mask cores) = mask_text mask cores
 step_flaw_text flaws.Increment = codes "inc has to be 1 or more"
+step_flaw_text flaws.Suspending = codes "only a session of format 3 suspends tasks"
+step_flaw_text flaws.NoUnits = codes "a tick has one unit of time: units of the session has to be 2 or more"
+step_flaw_text flaws.NoTime = codes "units has to be 1 or more"
 step_flaw_text (flaws.Index index notes) =
     none_of_text (codes "index") index (codes "notifications") notes
 step_flaw_text (flaws.NewPriority priority priorities) =

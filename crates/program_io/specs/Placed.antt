@@ -2,7 +2,7 @@
 use Rattle.std.specs.Prelude.{ℕ, List, [], ◌++◌, bytes_eq, codes, decimal, Option, Some, None, if◌then◌else◌}
 use Rattle.std.specs.Str.{is_utf8}
 use Rattle.bench_types.specs.declared.flaw.HeaderFlaw.{HeaderFlaw}
-use Rattle.bench_types.specs.declared.flaw.HeaderFlaw.TheVariants.{Cores, Priorities, Mutexes, Notes, Queues, QueueLength, QueueMessages, TaskCount, NoName, Priority, Mask, SharedName}
+use Rattle.bench_types.specs.declared.flaw.HeaderFlaw.TheVariants.{Cores, Priorities, Mutexes, Notes, Queues, QueueLength, QueueMessages, Units, TaskCount, NoName, Priority, Mask, SharedName}
 use Rattle.text_locations.specs.declared.location.TextLocation.{TextLocation}
 use Rattle.text_locations.specs.Leads.{location_of}
 
@@ -35,6 +35,7 @@ flaw_member (Notes n) = codes "notes"
 flaw_member (Queues n) = codes "queues"
 flaw_member (QueueLength queue) = queue_member queue (codes "length")
 flaw_member (QueueMessages queue) = queue_member queue (codes "messages")
+flaw_member (Units n) = codes "units"
 flaw_member (TaskCount n) = codes "tasks"
 flaw_member (NoName task) = task_member task (codes "name")
 flaw_member (Priority task priorities) = task_member task (codes "priority")

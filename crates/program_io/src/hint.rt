@@ -5,12 +5,12 @@ ghost use Rattle.serde_json.specs.Read.{read};
 ghost use Rattle.bench_types.specs.declared.step_flaw.StepFlaw.TheVariants.{NewPriority};
 ghost use Rattle.session_text.specs.declared.detail.Detail.TheVariants.{Limit, NoTask, OnePerCore};
 ghost use Rattle.session_text.specs.declared.fault.Why.TheVariants.{NoMemory};
-ghost use Rattle.program_io.specs.Hint.{bad_name_text, header_line, IsFaultHint, IsNotJsonHint, IsShortTextHint, TellsLocation, expected_text, fault_line, flaw_text, found_text, limits_text, line_at, mask_text, member_text, mutex_text, nearest_name_text, nearest_text, no_name_text, no_queue_text, no_word_text, none_of_text, number_text, queue_text, quoted, shape_text, step_flaw_text, task_limit_text, task_text, too_long_line, too_many_steps_line, unknown_text, whole_text, word_text, words_text, wrong_text};
+ghost use Rattle.program_io.specs.Hint.{bad_name_text, header_line, IsFaultHint, IsNotJsonHint, IsShortTextHint, TellsLocation, expected_text, fault_line, flaw_text, found_text, limits_text, line_at, mask_text, member_text, mutex_text, nearest_name_text, nearest_text, no_name_text, no_queue_text, no_word_text, none_of_text, number_text, queue_text, quoted, shape_text, step_flaw_text, task_limit_text, task_text, too_long_line, too_many_steps_line, units_text, unknown_text, whole_text, word_text, words_text, wrong_text};
 
 use crate::placed::{fault_location, flaw_path, push_location};
 use bench_types::{
     HeaderFlaw, MAX_CORES, MAX_INPUT, MAX_MUTEXES, MAX_NAME, MAX_NOTES, MAX_PRIORITIES, MAX_QUEUES,
-    MAX_STEPS, MAX_TASKS, MIN_CORES, StepFlaw,
+    MAX_STEPS, MAX_TASKS, MAX_UNITS, MIN_CORES, StepFlaw,
 };
 use serde_json::{Error, Value};
 use session_text::{Detail, Expected, Found, Shown, Stray, TextFault, Why, Words};
@@ -124,6 +124,20 @@ fn push_queue(text: &mut String, queue: usize, wrong: &str) -> Result<(), AllocE
     write!(text, "header: queues[{queue}]{wrong}")
 }
 
+// The units of time that a tick may not have. Where another session may, this is that of a rig.
+fn push_units(text: &mut String, units: u32) -> Result<(), AllocError>
+    ensures { OnOk result (string_bytes text.new ≡ string_bytes text.old ++ units_text units) }
+{
+    if 1 <= units && units <= MAX_UNITS {
+        write!(
+            text,
+            "header: units is {units}, and has to be 1 in a rig: its recordings have no time"
+        )
+    } else {
+        push_limits(text, "units", units as usize, 1, MAX_UNITS)
+    }
+}
+
 fn push_flaw(text: &mut String, flaw: HeaderFlaw) -> Result<(), AllocError>
     ensures { OnOk result (string_bytes text.new ≡ string_bytes text.old ++ flaw_text flaw) }
 {
@@ -137,6 +151,7 @@ fn push_flaw(text: &mut String, flaw: HeaderFlaw) -> Result<(), AllocError>
         HeaderFlaw::QueueMessages(queue) => {
             push_queue(text, queue, ".messages has to be at most its length")
         }
+        HeaderFlaw::Units(n) => push_units(text, n),
         HeaderFlaw::TaskCount(n) => push_limits(text, "the number of tasks", n, 1, MAX_TASKS),
         HeaderFlaw::NoName(task) => push_bad_name(text, task, MAX_NAME as u32),
         HeaderFlaw::Priority { task, priorities } => {
@@ -369,6 +384,11 @@ fn push_step_flaw(text: &mut String, flaw: StepFlaw) -> Result<(), AllocError>
             push_mask(text, mask, cores)
         }
         StepFlaw::Increment => text.push_str("inc has to be 1 or more"),
+        StepFlaw::Suspending => text.push_str("only a session of format 3 suspends tasks"),
+        StepFlaw::NoUnits => {
+            text.push_str("a tick has one unit of time: units of the session has to be 2 or more")
+        }
+        StepFlaw::NoTime => text.push_str("units has to be 1 or more"),
         StepFlaw::Index { index, notes } => {
             push_none_of(text, "index", index, "notifications", notes as usize)
         }

@@ -75,6 +75,7 @@ fn push_flaw_member(path: &mut String, flaw: HeaderFlaw) -> Result<(), AllocErro
         HeaderFlaw::Queues(_) => path.push_str("queues"),
         HeaderFlaw::QueueLength(queue) => push_queue_member(path, queue, "length"),
         HeaderFlaw::QueueMessages(queue) => push_queue_member(path, queue, "messages"),
+        HeaderFlaw::Units(_) => path.push_str("units"),
         HeaderFlaw::TaskCount(_) => path.push_str("tasks"),
         HeaderFlaw::NoName(task) => push_task_member(path, task, "name"),
         HeaderFlaw::Priority { task, .. } => push_task_member(path, task, "priority"),

@@ -60,6 +60,8 @@ of_call format (call.MutexTake mutex ticks) ms known = known
 of_call format (call.MutexGive mutex) ms known = known
 of_call format (call.QueueSend queue ticks) ms known = known
 of_call format (call.QueueReceive queue ticks) ms known = known
+of_call format (call.Suspend task) ms known = known
+of_call format (call.Resume task) ms known = known
 of_call format call.Finish ms known = known
 of_call format call.HoldOpen ms known = known
 of_call format call.HoldClose ms known = known
@@ -72,6 +74,8 @@ known_in format (step.Call core task made) ms known = of_call format made ms kno
 known_in format (step.Interrupt core note) ms known =
     of_interrupt format (action_number note.action) ms known
 known_in format (step.QueueInterrupt core queue direction) ms known = known
+known_in format (step.ResumeInterrupt core task) ms known = known
+known_in format (step.Pass units) ms known = known
 
 same_of_call : (made : Call) → members_of_call Three made ≡ members_of_call Two made
 same_of_call call.Yield = refl
@@ -90,6 +94,8 @@ same_of_call (call.MutexTake mutex ticks) = refl
 same_of_call (call.MutexGive mutex) = refl
 same_of_call (call.QueueSend queue ticks) = refl
 same_of_call (call.QueueReceive queue ticks) = refl
+same_of_call (call.Suspend task) = refl
+same_of_call (call.Resume task) = refl
 same_of_call call.Finish = refl
 same_of_call call.HoldOpen = refl
 same_of_call call.HoldClose = refl
@@ -101,3 +107,5 @@ same_in_three (step.Switch core) = refl
 same_in_three (step.Call core task made) = same_of_call made
 same_in_three (step.Interrupt core note) = refl
 same_in_three (step.QueueInterrupt core queue direction) = refl
+same_in_three (step.ResumeInterrupt core task) = refl
+same_in_three (step.Pass units) = refl

@@ -11,7 +11,7 @@ use Rattle.session_text.specs.Array.{each_at}
 use Rattle.session_text.specs.Member.{object_at, items_at, number_at, only_at}
 use Rattle.session_text.specs.Names.{TaskNames}
 use Rattle.session_text.specs.ReadingRules.{◌>>=◌}
-use Rattle.session_text.specs.Step.{call_at, kind_at, members_of_core_action, note_at}
+use Rattle.session_text.specs.Step.{call_at, kind_at, members_of_core_action, note_at, task_named_at}
 
 unfoldable pub core_action_of_kind_at :
     Format → TaskNames → Kind → List ℕ → Data → Result CoreAction TextFault
@@ -26,6 +26,9 @@ core_action_of_kind_at format names kind.Interrupt at d = do
 core_action_of_kind_at format names (kind.QueueInterrupt direction) at d = do
   queue ← number_at at (codes "queue") d
   Ok (core_action.QueueInterrupt queue direction)
+core_action_of_kind_at format names kind.ResumeInterrupt at d = do
+  task ← task_named_at names at (codes "to") d
+  Ok (core_action.ResumeInterrupt task)
 
 unfoldable pub core_action_at : Format → TaskNames → List ℕ → Data → Result CoreAction TextFault
 core_action_at format names at d = do

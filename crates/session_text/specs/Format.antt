@@ -1,6 +1,6 @@
 -- The formats of a session: in the first each task has one notification; in the second `notes` says
 -- how many it has, and `index` which of them a step means; in the third `queues` says beside that
--- which queues and semaphores there are.
+-- which queues and semaphores there are, and `units` how many units of time a tick has.
 use Rattle.std.specs.Prelude.{ℕ, ◌==◌, List, [], ◌∷◌, codes, Option, Some, None, Result, Ok, if◌then◌else◌}
 use Rattle.serde_json.specs.Data.{Data}
 use Rattle.bench_types.specs.declared.header.QueueArgs.{QueueArgs}
@@ -27,7 +27,7 @@ format_at at d = do
 abbrev pub further_members : Format → List (List ℕ)
 further_members One = []
 further_members Two = codes "notes" ∷ []
-further_members Three = codes "notes" ∷ codes "queues" ∷ []
+further_members Three = codes "notes" ∷ codes "queues" ∷ codes "units" ∷ []
 
 -- how many notifications each task has
 unfoldable pub notes_at : Format → List ℕ → Data → Result ℕ TextFault
@@ -55,6 +55,12 @@ queues_at Two at d = Ok None
 queues_at Three at d = do
   queues ← list_at queue_at at (codes "queues") d
   Ok (Some queues)
+
+-- how many units of time a tick has, 1 where it is left out
+unfoldable pub units_at : Format → List ℕ → Data → Result ℕ TextFault
+units_at One at d = Ok 1
+units_at Two at d = Ok 1
+units_at Three at d = number_or_at 1 at (codes "units") d
 
 -- the member that a step for a notification has beside others from the second format on
 abbrev pub index_member : Format → List (List ℕ)

@@ -10,26 +10,34 @@ use Rattle.bench_types.specs.Flaw.{header_flaw}
 use Rattle.session_text.specs.declared.fault.TextFault.{TextFault}
 use Rattle.session_text.specs.declared.format.Format.{Format}
 use Rattle.session_text.specs.Array.{list_at}
-use Rattle.session_text.specs.Format.{notes_at, queues_at}
+use Rattle.session_text.specs.Format.{notes_at, queues_at, units_at}
 use Rattle.session_text.specs.Member.{object_at, number_at, text_at, flag_at, only_at}
 use Rattle.session_text.specs.ReadingRules.{◌>>=◌}
 
-unfoldable pub config_at : Format → List ℕ → Data → Result Config TextFault
-config_at format at d = do
+-- the settings and the queues
+unfoldable pub settings_at :
+    Format → List ℕ → Data → Result (Config × Option (List QueueArgs)) TextFault
+settings_at format at d = do
   cores ← number_at at (codes "cores") d
   priorities ← number_at at (codes "priorities") d
   slicing ← flag_at at (codes "slicing") d
   tick ← number_at at (codes "tick") d
   mutexes ← number_at at (codes "mutexes") d
   notes ← notes_at format at d
-  Ok (record {
-    cores = cores;
-    priorities = priorities;
-    slicing = slicing;
-    tick = tick;
-    mutexes = mutexes;
-    notes = notes;
-  })
+  queues ← queues_at format at d
+  units ← units_at format at d
+  Ok (
+    record {
+      cores = cores;
+      priorities = priorities;
+      slicing = slicing;
+      tick = tick;
+      mutexes = mutexes;
+      notes = notes;
+      units = units;
+    },
+    queues,
+  )
 
 abbrev pub task_members : List (List ℕ)
 task_members = codes "name" ∷ codes "priority" ∷ codes "mask" ∷ []
@@ -63,6 +71,5 @@ header_of config queues at d = do
 -- the header, accepted or not: its shape alone is judged
 unfoldable pub header_at : Format → List ℕ → Data → Result (Result Header HeaderFlaw) TextFault
 header_at format at d = do
-  config ← config_at format at d
-  queues ← queues_at format at d
-  header_of config queues at d
+  settings ← settings_at format at d
+  header_of settings.0 settings.1 at d

@@ -13,6 +13,7 @@ use Rattle.bench_types.specs.StepFlaw.{core_action_flaw}
 use Rattle.bench_types.specs.declared.core_action.CoreAction.{CoreAction}
 use Rattle.bench_types.specs.declared.fault.Fault.TheVariants.{BadArgument}
 use Rattle.bench_types.specs.declared.flaw.HeaderFlaw.{HeaderFlaw}
+use Rattle.bench_types.specs.declared.flaw.HeaderFlaw.TheVariants.{Units}
 use Rattle.bench_types.specs.declared.header.Header.{Header}
 use Rattle.session_text.specs.declared.detail.Detail.TheVariants as detail
 use Rattle.session_text.specs.declared.fault.TextFault.{TextFault}
@@ -22,8 +23,8 @@ use Rattle.session_text.specs.declared.rig.RigScript.{RigScript}
 use Rattle.session_text.specs.Accepted.{header_fault, item_of, items_accepted}
 use Rattle.session_text.specs.CoreAction.{script_at}
 use Rattle.session_text.specs.Array.{list_at}
-use Rattle.session_text.specs.Format.{format_at, queues_at}
-use Rattle.session_text.specs.Header.{config_at, header_of}
+use Rattle.session_text.specs.Format.{format_at}
+use Rattle.session_text.specs.Header.{header_of, settings_at}
 use Rattle.session_text.specs.Member.{object_at, member_at, array_at, number_at, only_at}
 use Rattle.session_text.specs.Names.{TaskNames, known_names, user_names}
 use Rattle.session_text.specs.ReadingRules.{◌>>=◌, bad_shape}
@@ -47,12 +48,11 @@ unfoldable pub stepless_at :
 stepless_at at d = do
   members ← object_at at d
   format ← format_at at d
-  config ← config_at format at d
-  queues ← queues_at format at d
-  header ← header_of config queues at d
+  settings ← settings_at format at d
+  header ← header_of settings.0 settings.1 at d
   none ← no_steps_at at d
   only ← only_at at (session_members format) members
-  Ok (format, config.cores, header)
+  Ok (format, settings.0.cores, header)
 
 -- each item is an array
 abbrev pub are_arrays : Items → Bool
@@ -92,6 +92,12 @@ rig_shapes_at at d = do
   only ← only_at at rig_members members
   Ok (read.2, limit, scripts)
 
+-- F1 where a tick has more than one unit of time: recordings by threads have no time
+abbrev pub units_accepted : List ℕ → Header → Result ⊤ TextFault
+units_accepted session header =
+    if header.config.units == 1 then Ok tt
+    else Err (header_fault session (Units header.config.units))
+
 -- F5 at `limit`, where it is more than the steps that a session may have
 abbrev pub limit_accepted : List ℕ → ℕ → Result ⊤ TextFault
 limit_accepted at limit =
@@ -126,6 +132,7 @@ unfoldable pub rig_accepted :
 rig_accepted at d (Err flaw) limit scripts =
     Err (header_fault (member_path at (codes "session")) flaw)
 rig_accepted at d (Ok header) limit scripts = do
+  timeless ← units_accepted (member_path at (codes "session")) header
   few ← limit_accepted at limit
   done ← scripts_accepted header (member_path at (codes "scripts")) (get (codes "scripts") d) 0
       scripts
@@ -151,6 +158,7 @@ AreCheckedScripts header scripts =
 -- there is one script per core, and all was checked under the header
 pub record IsCheckedRig (rig : RigScript) : Type 0 where
   pub header : IsCheckedHeader rig.header
+  pub timeless : rig.header.config.units ≡ 1
   pub few : rig.limit ≤ max_steps
   pub one_per_core : length rig.scripts ≡ rig.header.config.cores
   pub core_actions : AreCheckedScripts rig.header rig.scripts

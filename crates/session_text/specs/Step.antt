@@ -1,5 +1,6 @@
 -- A step: `do` says which, and after it stand the members of its kind.
 use Rattle.std.specs.Prelude.{ℕ, List, [], ◌∷◌, ◌++◌, codes, bytes_eq, find, Option, Some, None, option_map, Result, Ok}
+use Rattle.std.specs.Option.{option_or}
 use Rattle.serde_json.specs.Data.{Data}
 use Rattle.bench_types.specs.declared.core_action.CoreAction.{CoreAction}
 use Rattle.bench_types.specs.declared.core_action.CoreAction.TheVariants as core_action
@@ -14,6 +15,8 @@ use Rattle.session_text.specs.declared.detail.Detail.TheVariants.{NoWord}
 use Rattle.session_text.specs.declared.fault.TextFault.{TextFault}
 use Rattle.session_text.specs.declared.step.Kind.{Kind}
 use Rattle.session_text.specs.declared.step.Kind.TheVariants as kind
+use Rattle.session_text.specs.declared.step.StepKind.{StepKind}
+use Rattle.session_text.specs.declared.step.StepKind.TheVariants.{OfCore, Pass}
 use Rattle.session_text.specs.declared.call.CallKind.{CallKind}
 use Rattle.session_text.specs.declared.call.CallKind.TheVariants as callkind
 use Rattle.session_text.specs.declared.format.Format.{Format}
@@ -52,33 +55,58 @@ kinds =
     (codes "hold_close", kind.Call callkind.HoldClose) ∷ []
 
 -- those that the third alone has
-abbrev pub queue_kinds : List (List ℕ × Kind)
-queue_kinds =
+abbrev pub third_kinds : List (List ℕ × Kind)
+third_kinds =
     (codes "queue_send", kind.Call callkind.QueueSend) ∷
     (codes "queue_receive", kind.Call callkind.QueueReceive) ∷
     (codes "isr_send", kind.QueueInterrupt Send) ∷
-    (codes "isr_receive", kind.QueueInterrupt Receive) ∷ []
+    (codes "isr_receive", kind.QueueInterrupt Receive) ∷
+    (codes "suspend", kind.Call callkind.Suspend) ∷
+    (codes "resume", kind.Call callkind.Resume) ∷
+    (codes "isr_resume", kind.ResumeInterrupt) ∷ []
 
 -- those that the format has beside the ones that each has
 abbrev pub further_kinds : Format → List (List ℕ × Kind)
 further_kinds One = []
 further_kinds Two = []
-further_kinds Three = queue_kinds
+further_kinds Three = third_kinds
 
--- the words of `do` in a format
+-- the words of `do` that an action has in a format
 abbrev pub kinds_in : Format → List (List ℕ × Kind)
 kinds_in format = kinds ++ further_kinds format
 
+-- the word that a step has beside them, by which time goes by
+abbrev pub pass_kinds : Format → List (List ℕ × StepKind)
+pass_kinds One = []
+pass_kinds Two = []
+pass_kinds Three = (codes "pass", Pass) ∷ []
+
+-- the words of `do` that a step has in a format
+abbrev pub step_words : Format → List (List ℕ)
+step_words format = words_of (kinds_in format) ++ words_of (pass_kinds format)
+
 -- what a word is among others
-abbrev pub kind_among : List (List ℕ × Kind) → List ℕ → Option Kind
+abbrev pub kind_among : {A : Type 0} → List (List ℕ × A) → List ℕ → Option A
 kind_among entries word =
     option_map (λ entry. entry.1) (find (λ entry. bytes_eq word entry.0) entries)
+
+-- what a word is of a step
+abbrev pub step_kind_of : Format → List ℕ → Option StepKind
+step_kind_of format word =
+    option_or (option_map OfCore (kind_among (kinds_in format) word))
+    (kind_among (pass_kinds format) word)
 
 unfoldable pub kind_at : Format → List ℕ → Data → Result Kind TextFault
 kind_at format at d = do
   word ← text_at at (codes "do") d
   found (kind_among (kinds_in format) word) (member_path at (codes "do"))
       (NoWord (stray word (words_of (kinds_in format))))
+
+unfoldable pub step_kind_at : Format → List ℕ → Data → Result StepKind TextFault
+step_kind_at format at d = do
+  word ← text_at at (codes "do") d
+  found (step_kind_of format word) (member_path at (codes "do"))
+      (NoWord (stray word (step_words format)))
 
 -- the members of a notification: `value` is one where the action has a number
 abbrev pub note_members : Format → Option ℕ → List (List ℕ)
@@ -107,6 +135,8 @@ arguments_of format (call.MutexTake mutex ticks) = codes "mutex" ∷ codes "tick
 arguments_of format (call.MutexGive mutex) = codes "mutex" ∷ []
 arguments_of format (call.QueueSend queue ticks) = codes "queue" ∷ codes "ticks" ∷ []
 arguments_of format (call.QueueReceive queue ticks) = codes "queue" ∷ codes "ticks" ∷ []
+arguments_of format (call.Suspend task) = codes "to" ∷ []
+arguments_of format (call.Resume task) = codes "to" ∷ []
 arguments_of format call.Finish = []
 arguments_of format call.HoldOpen = []
 arguments_of format call.HoldClose = []
@@ -120,8 +150,10 @@ members_of_core_action format (core_action.Interrupt note) =
     codes "do" ∷ note_members format (action_number note.action)
 members_of_core_action format (core_action.QueueInterrupt queue direction) =
     codes "do" ∷ codes "queue" ∷ []
+members_of_core_action format (core_action.ResumeInterrupt task) = codes "do" ∷ codes "to" ∷ []
 
--- a step has `core` beside the members of its action, and a call has `by` too
+-- a step has `core` beside the members of its action, and a call has `by` too; a pass, which no
+-- core makes, has neither
 abbrev pub members_of_call : Format → Call → List (List ℕ)
 members_of_call format made =
     codes "core" ∷ codes "by" ∷ members_of_core_action format (core_action.Call made)
@@ -136,6 +168,9 @@ members_of format (step.Call core task made) = members_of_call format made
 members_of format (step.Interrupt core note) = members_of_interrupt format note
 members_of format (step.QueueInterrupt core queue direction) =
     codes "core" ∷ members_of_core_action format (core_action.QueueInterrupt queue direction)
+members_of format (step.ResumeInterrupt core task) =
+    codes "core" ∷ members_of_core_action format (core_action.ResumeInterrupt task)
+members_of format (step.Pass units) = codes "do" ∷ codes "units" ∷ []
 
 -- the number of the task that a member names
 unfoldable pub task_named_at : TaskNames → List ℕ → List ℕ → Data → Result ℕ TextFault
@@ -222,34 +257,51 @@ call_at format names callkind.MutexGive at d = do
   Ok (call.MutexGive mutex)
 call_at format names callkind.QueueSend at d = transfer_at Send at d
 call_at format names callkind.QueueReceive at d = transfer_at Receive at d
+call_at format names callkind.Suspend at d = do
+  task ← task_named_at names at (codes "to") d
+  Ok (call.Suspend task)
+call_at format names callkind.Resume at d = do
+  task ← task_named_at names at (codes "to") d
+  Ok (call.Resume task)
 call_at format names callkind.Finish at d = Ok call.Finish
 call_at format names callkind.HoldOpen at d = Ok call.HoldOpen
 call_at format names callkind.HoldClose at d = Ok call.HoldClose
 
-unfoldable pub step_of_kind_at :
+unfoldable pub step_of_core_at :
     Format → TaskNames → Kind → List ℕ → Data → Result Step TextFault
-step_of_kind_at format names kind.Tick at d = Ok step.Tick
-step_of_kind_at format names kind.Switch at d = do
+step_of_core_at format names kind.Tick at d = Ok step.Tick
+step_of_core_at format names kind.Switch at d = do
   core ← number_at at (codes "core") d
   Ok (step.Switch core)
-step_of_kind_at format names (kind.Call which) at d = do
+step_of_core_at format names (kind.Call which) at d = do
   core ← number_at at (codes "core") d
   task ← task_named_at names at (codes "by") d
   made ← call_at format names which at d
   Ok (step.Call core task made)
-step_of_kind_at format names kind.Interrupt at d = do
+step_of_core_at format names kind.Interrupt at d = do
   core ← number_at at (codes "core") d
   note ← note_at format names at d
   Ok (step.Interrupt core note)
-step_of_kind_at format names (kind.QueueInterrupt direction) at d = do
+step_of_core_at format names (kind.QueueInterrupt direction) at d = do
   core ← number_at at (codes "core") d
   queue ← number_at at (codes "queue") d
   Ok (step.QueueInterrupt core queue direction)
+step_of_core_at format names kind.ResumeInterrupt at d = do
+  core ← number_at at (codes "core") d
+  task ← task_named_at names at (codes "to") d
+  Ok (step.ResumeInterrupt core task)
+
+unfoldable pub step_of_kind_at :
+    Format → TaskNames → StepKind → List ℕ → Data → Result Step TextFault
+step_of_kind_at format names (OfCore which) at d = step_of_core_at format names which at d
+step_of_kind_at format names Pass at d = do
+  units ← number_at at (codes "units") d
+  Ok (step.Pass units)
 
 unfoldable pub step_at : Format → TaskNames → List ℕ → Data → Result Step TextFault
 step_at format names at d = do
   members ← object_at at d
-  which ← kind_at format at d
+  which ← step_kind_at format at d
   made ← step_of_kind_at format names which at d
   only ← only_at at (members_of format made) members
   Ok made

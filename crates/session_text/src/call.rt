@@ -31,6 +31,8 @@ pub(crate) enum CallKind {
     MutexGive,
     QueueSend,
     QueueReceive,
+    Suspend,
+    Resume,
     Finish,
     HoldOpen,
     HoldClose,
@@ -134,6 +136,8 @@ pub(crate) fn call_at(
         CallKind::MutexGive => Ok(Call::MutexGive(node.number("mutex")?)),
         CallKind::QueueSend => transfer_at(Direction::Send, node),
         CallKind::QueueReceive => transfer_at(Direction::Receive, node),
+        CallKind::Suspend => Ok(Call::Suspend(names.task_named_at(node, "to")?)),
+        CallKind::Resume => Ok(Call::Resume(names.task_named_at(node, "to")?)),
         CallKind::Finish => Ok(Call::Finish),
         CallKind::HoldOpen => Ok(Call::HoldOpen),
         CallKind::HoldClose => Ok(Call::HoldClose),
@@ -150,7 +154,9 @@ pub(crate) fn call_members(format: Format, call: Call) -> &'static [&'static str
         Call::DelayUntil { .. } => &["core", "by", "do", "prev", "inc"],
         Call::PrioritySet { .. } => &["core", "by", "do", "to", "priority"],
         Call::AffinitySet { .. } => &["core", "by", "do", "to", "mask"],
-        Call::PreemptOff(_) | Call::PreemptOn(_) => &["core", "by", "do", "to"],
+        Call::PreemptOff(_) | Call::PreemptOn(_) | Call::Suspend(_) | Call::Resume(_) => {
+            &["core", "by", "do", "to"]
+        }
         Call::Notify(note) => notify_members(format, note),
         Call::NotifyWait { .. } => match format {
             Format::One => &["core", "by", "do", "entry", "exit", "ticks"],

@@ -25,6 +25,7 @@ fn known_members(format: Format, core_action: CoreAction) -> &'static [&'static 
         CoreAction::Call(call) => &call_members(format, call)[2..],
         CoreAction::Interrupt(note) => &interrupt_members(format, note)[1..],
         CoreAction::QueueInterrupt { .. } => &["do", "queue"],
+        CoreAction::ResumeInterrupt { .. } => &["do", "to"],
     }
 }
 
@@ -46,6 +47,9 @@ fn core_action_of_kind_at(
         Kind::QueueInterrupt(direction) => Ok(CoreAction::QueueInterrupt {
             queue: node.number("queue")?,
             direction,
+        }),
+        Kind::ResumeInterrupt => Ok(CoreAction::ResumeInterrupt {
+            task: names.task_named_at(node, "to")?,
         }),
     }
 }

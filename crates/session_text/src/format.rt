@@ -1,6 +1,6 @@
 //! The formats of sessions.
 ghost use Rattle.std.specs.Prelude.{◌≡◌};
-ghost use Rattle.session_text.specs.Format.{format_at, format_of, index_at, notes_at, queue_at, queues_at};
+ghost use Rattle.session_text.specs.Format.{format_at, format_of, index_at, notes_at, queue_at, queues_at, units_at};
 ghost use Rattle.session_text.specs.Node.{data_of, location_of};
 ghost use Rattle.session_text.specs.ReadingRules.{Gives};
 
@@ -18,8 +18,8 @@ pub enum Format {
     /// `format` is 2: `notes` says how many notifications each task has, and `index` which of them
     /// a step means.
     Two,
-    /// `format` is 3: `queues` says which queues and semaphores there are, beside what format 2
-    /// says.
+    /// `format` is 3: `queues` says which queues and semaphores there are, and `units` how many
+    /// units of time a tick has, beside what format 2 says.
     Three,
 }
 
@@ -92,6 +92,18 @@ pub(crate) fn queues_at(
             let queues = list_at(&QueueReader, node, "queues")?;
             Ok(Some(Items::new(queues)))
         }
+    }
+}
+
+/// How many units of time a tick has, 1 where it is left out.
+#[tactic(auto, unfolding(crate::specs::Format::units_at))]
+pub(crate) fn units_at(format: Format, node: &Node<'_, '_, '_>) -> Result<u32, ReadFault>
+    ensures { Gives (λ units. units) result
+        (units_at format (location_of node.now) (data_of node.now)) }
+{
+    match format {
+        Format::One | Format::Two => Ok(1),
+        Format::Three => node.number_or("units", 1),
     }
 }
 

@@ -3,13 +3,13 @@ ghost use Rattle.std.specs.Prelude.{◌≡◌, Some, None, IfOk, MatchResult, if
 ghost use Rattle.bench_types.specs.Flaw.{location_of_no_name};
 ghost use Rattle.bench_types.specs.Header.{IsCheckedHeader};
 ghost use Rattle.bench_types.specs.Name.{is_name};
-ghost use Rattle.session_text.specs.Header.{accepted, config_at, header_at, header_of, task_at};
+ghost use Rattle.session_text.specs.Header.{accepted, header_at, header_of, settings_at, task_at};
 ghost use Rattle.session_text.specs.Node.{data_of, location_of};
 ghost use Rattle.session_text.specs.ReadingRules.{Gives};
 
 use crate::array::{ReadItem, list_at};
 use crate::fault::ReadFault;
-use crate::format::{Format, notes_at, queues_at};
+use crate::format::{Format, notes_at, queues_at, units_at};
 use crate::node::Node;
 use bench_types::{Config, Header, HeaderFlaw, Items, Name, QueueArgs, TaskArgs};
 use std::alloc::{AllocError, Global};
@@ -48,19 +48,33 @@ impl TaskShape<'_> {
     }
 }
 
-#[tactic(auto, unfolding(crate::specs::Header::config_at))]
-pub(crate) fn config_at(format: Format, node: &Node<'_, '_, '_>) -> Result<Config, ReadFault>
-    ensures { Gives (λ config. config) result
-        (config_at format (location_of node.now) (data_of node.now)) }
+/// The settings and the queues.
+#[tactic(auto, unfolding(crate::specs::Header::settings_at))]
+pub(crate) fn settings_at(
+    format: Format,
+    node: &Node<'_, '_, '_>,
+) -> Result<(Config, Option<Items<QueueArgs>>), ReadFault>
+    ensures { Gives (λ settings. settings) result
+        (settings_at format (location_of node.now) (data_of node.now)) }
 {
-    Ok(Config {
-        cores: node.number("cores")?,
-        priorities: node.number("priorities")?,
-        slicing: node.flag("slicing")?,
-        tick: node.number("tick")?,
-        mutexes: node.number("mutexes")?,
-        notes: notes_at(format, node)?,
-    })
+    let cores = node.number("cores")?;
+    let priorities = node.number("priorities")?;
+    let slicing = node.flag("slicing")?;
+    let tick = node.number("tick")?;
+    let mutexes = node.number("mutexes")?;
+    let notes = notes_at(format, node)?;
+    let queues = queues_at(format, node)?;
+    let units = units_at(format, node)?;
+    let config = Config {
+        cores,
+        priorities,
+        slicing,
+        tick,
+        mutexes,
+        notes,
+        units,
+    };
+    Ok((config, queues))
 }
 
 /// Reads the user tasks.
@@ -166,6 +180,6 @@ pub(crate) fn header_at(
         (header_at format (location_of node.now) (data_of node.now)) }
     ensures valid { IfOk result (λ header. IfOk header IsCheckedHeader) }
 {
-    let config = config_at(format, node)?;
-    header_of(config, queues_at(format, node)?, node)
+    let (config, queues) = settings_at(format, node)?;
+    header_of(config, queues, node)
 }

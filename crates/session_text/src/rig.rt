@@ -11,7 +11,7 @@ ghost use Rattle.session_text.specs.Node.{data_of, location_of};
 ghost use Rattle.session_text.specs.Noted.{doubled_view};
 ghost use Rattle.session_text.specs.ReadingRules.{Gives};
 ghost use Rattle.session_text.specs.Path.{path_of};
-ghost use Rattle.session_text.specs.Rig.{has_arrays, limit_accepted, no_steps_at, rig_accepted, rig_at, rig_shapes_at, rig_text, script_accepted, scripts_accepted, scripts_at, stepless_at, AreCheckedScripts, IsCheckedRig};
+ghost use Rattle.session_text.specs.Rig.{has_arrays, limit_accepted, no_steps_at, rig_accepted, rig_at, rig_shapes_at, rig_text, script_accepted, scripts_accepted, scripts_at, stepless_at, units_accepted, AreCheckedScripts, IsCheckedRig};
 ghost use Rattle.session_text.specs.Session.{IsRefusedAtOnce, ReadsAs};
 
 use crate::accepted::{Source, items_accepted};
@@ -19,8 +19,8 @@ use crate::array::list_at;
 use crate::core_action::{OnCore, ScriptReader};
 use crate::detail::Detail;
 use crate::fault::{ReadFault, TextFault, Why};
-use crate::format::{Format, format_at, queues_at};
-use crate::header::{config_at, header_of};
+use crate::format::{Format, format_at};
+use crate::header::{header_of, settings_at};
 use crate::names::Names;
 use crate::node::Node;
 use crate::noted::{Noted, doubled_member};
@@ -147,8 +147,8 @@ fn stepless_at(
 {
     let members = node.object()?;
     let format = format_at(node)?;
-    let config = config_at(format, node)?;
-    let header = header_of(config, queues_at(format, node)?, node)?;
+    let (config, queues) = settings_at(format, node)?;
+    let header = header_of(config, queues, node)?;
     no_steps_at(node)?;
     only_members(format, node, &members)?;
     Ok((format, config.cores, header))
@@ -211,12 +211,11 @@ fn rig_accepted(
         (rig_accepted (location_of node.now) (data_of node.now) header limit scripts.items) }
     ensures checked { IfOk result IsCheckedRig }
 {
+    let session = Location::Member(node.location, "session");
     match header {
-        Err(flaw) => {
-            let session = Location::Member(node.location, "session");
-            Err(ReadFault::of_header(node.alloc, &session, flaw))
-        }
+        Err(flaw) => Err(ReadFault::of_header(node.alloc, &session, flaw)),
         Ok(header) => {
+            units_accepted(node.alloc, &session, &header)?;
             limit_accepted(node, limit)?;
             let source = Source {
                 alloc: node.alloc,
@@ -230,6 +229,20 @@ fn rig_accepted(
                 scripts: Items::new(scripts),
             })
         }
+    }
+}
+
+/// F1 where a tick has more than one unit of time: recordings by threads have no time.
+fn units_accepted(alloc: Global, session: &Location<'_>, header: &Header) -> Result<(), ReadFault>
+    ensures reading { Gives (λ done. done) result
+        (units_accepted (path_of session.now) header.now) }
+    ensures timeless { OnOk result (header.now.config.units ≡ 1) }
+{
+    let units = header.config.units;
+    if units == 1 {
+        Ok(())
+    } else {
+        Err(ReadFault::of_header(alloc, session, HeaderFlaw::Units(units)))
     }
 }
 

@@ -150,6 +150,7 @@ fn members_of(format: Format) -> &'static [&'static str]
             "steps",
             "notes",
             "queues",
+            "units",
         ],
     }
 }

@@ -7,7 +7,7 @@ ghost use Rattle.session_text.specs.declared.format.Format.TheVariants.{One, Thr
 ghost use Rattle.session_text.specs.Member.{only_at};
 ghost use Rattle.session_text.specs.Node.{data_of, location_of};
 ghost use Rattle.session_text.specs.ReadingRules.{Gives};
-ghost use Rattle.session_text.specs.Step.{kind_among, kind_at, kinds, kinds_in, members_of, members_of_call, queue_kinds, step_at, step_of_kind_at};
+ghost use Rattle.session_text.specs.Step.{kind_among, kind_at, kinds, kinds_in, members_of, members_of_call, pass_kinds, step_at, step_kind_at, step_kind_of, step_of_core_at, step_of_kind_at, step_words, third_kinds};
 
 use crate::action::action_number;
 use crate::array::ReadItem;
@@ -19,7 +19,7 @@ use crate::node::Node;
 use bench_types::{Call, Direction, Step};
 use json_data::Object;
 
-/// What `do` says of a step.
+/// What `do` says of an action, and of a step that a core makes.
 #[derive(Clone, Copy)]
 pub(crate) enum Kind {
     Tick,
@@ -27,10 +27,21 @@ pub(crate) enum Kind {
     Call(CallKind),
     Interrupt,
     QueueInterrupt(Direction),
+    ResumeInterrupt,
+}
+
+/// What `do` says of a step.
+#[derive(Clone, Copy)]
+enum StepKind {
+    OfCore(Kind),
+    Pass,
 }
 
 /// How many words of `do` each format has; format 3 has more behind them.
 const FEWEST_WORDS: usize = 20;
+
+/// How many words of `do` an action has in format 3; a step has one more behind them.
+const ACTION_WORDS: usize = 27;
 
 impl Kind {
     #[tactic(auto, using(crate::proofs::Lists::map_take))]
@@ -38,40 +49,9 @@ impl Kind {
         ensures { map (λ word. word.now) result.now ≡ words_of (kinds_in format) }
     {
         match format {
-            Format::One | Format::Two => &Kind::all_words()[..FEWEST_WORDS],
-            Format::Three => Kind::all_words(),
+            Format::One | Format::Two => StepKind::words(format),
+            Format::Three => &StepKind::all_words()[..ACTION_WORDS],
         }
-    }
-
-    fn all_words() -> &'static [&'static str]
-        ensures { map (λ word. word.now) result.now ≡ words_of (kinds_in Three) }
-    {
-        &[
-            "tick",
-            "switch",
-            "isr_notify",
-            "yield",
-            "delay",
-            "delay_until",
-            "priority_set",
-            "affinity_set",
-            "preempt_off",
-            "preempt_on",
-            "notify",
-            "notify_wait",
-            "notify_take",
-            "state_clear",
-            "value_clear",
-            "mutex_take",
-            "mutex_give",
-            "finish",
-            "hold_open",
-            "hold_close",
-            "queue_send",
-            "queue_receive",
-            "isr_send",
-            "isr_receive",
-        ]
     }
 
     fn of(format: Format, word: &str) -> Option<Kind>
@@ -79,7 +59,7 @@ impl Kind {
     {
         match format {
             Format::One | Format::Two => Kind::of_any_format(word),
-            Format::Three => Kind::of_any_format(word).or(Kind::of_queues(word)),
+            Format::Three => Kind::of_any_format(word).or(Kind::of_format_3(word)),
         }
     }
 
@@ -113,15 +93,87 @@ impl Kind {
     }
 
     /// What a word that format 3 alone has says.
-    fn of_queues(word: &str) -> Option<Kind>
-        ensures { result ≡ kind_among queue_kinds word.now }
+    fn of_format_3(word: &str) -> Option<Kind>
+        ensures { result ≡ kind_among third_kinds word.now }
     {
         match word {
             "queue_send" => Some(Kind::Call(CallKind::QueueSend)),
             "queue_receive" => Some(Kind::Call(CallKind::QueueReceive)),
             "isr_send" => Some(Kind::QueueInterrupt(Direction::Send)),
             "isr_receive" => Some(Kind::QueueInterrupt(Direction::Receive)),
+            "suspend" => Some(Kind::Call(CallKind::Suspend)),
+            "resume" => Some(Kind::Call(CallKind::Resume)),
+            "isr_resume" => Some(Kind::ResumeInterrupt),
             _ => None,
+        }
+    }
+}
+
+impl StepKind {
+    #[tactic(auto, using(crate::proofs::Lists::map_take))]
+    fn words(format: Format) -> &'static [&'static str]
+        ensures { map (λ word. word.now) result.now ≡ step_words format }
+    {
+        match format {
+            Format::One | Format::Two => &StepKind::all_words()[..FEWEST_WORDS],
+            Format::Three => StepKind::all_words(),
+        }
+    }
+
+    fn all_words() -> &'static [&'static str]
+        ensures { map (λ word. word.now) result.now ≡ step_words Three }
+    {
+        &[
+            "tick",
+            "switch",
+            "isr_notify",
+            "yield",
+            "delay",
+            "delay_until",
+            "priority_set",
+            "affinity_set",
+            "preempt_off",
+            "preempt_on",
+            "notify",
+            "notify_wait",
+            "notify_take",
+            "state_clear",
+            "value_clear",
+            "mutex_take",
+            "mutex_give",
+            "finish",
+            "hold_open",
+            "hold_close",
+            "queue_send",
+            "queue_receive",
+            "isr_send",
+            "isr_receive",
+            "suspend",
+            "resume",
+            "isr_resume",
+            "pass",
+        ]
+    }
+
+    fn of(format: Format, word: &str) -> Option<StepKind>
+        ensures { result ≡ step_kind_of format word.now }
+    {
+        match Kind::of(format, word) {
+            Some(kind) => Some(StepKind::OfCore(kind)),
+            None => StepKind::of_no_core(format, word),
+        }
+    }
+
+    /// What a word says that a step has and an action has not.
+    fn of_no_core(format: Format, word: &str) -> Option<StepKind>
+        ensures { result ≡ kind_among (pass_kinds format) word.now }
+    {
+        match format {
+            Format::One | Format::Two => None,
+            Format::Three => match word {
+                "pass" => Some(StepKind::Pass),
+                _ => None,
+            },
         }
     }
 }
@@ -136,6 +188,8 @@ fn known_members(format: Format, step: &Step) -> &'static [&'static str]
         Step::Call { call, .. } => call_members(format, *call),
         Step::Interrupt { note, .. } => interrupt_members(format, *note),
         Step::QueueInterrupt { .. } => &["core", "do", "queue"],
+        Step::ResumeInterrupt { .. } => &["core", "do", "to"],
+        Step::Pass { .. } => &["do", "units"],
     }
 }
 
@@ -169,6 +223,7 @@ fn has_only_of_call(call: Call, members: &Object<'_, '_, '_>) -> bool
         Call::QueueSend { .. } | Call::QueueReceive { .. } => {
             members.has_only(&["core", "by", "do", "queue", "ticks"])
         }
+        Call::Suspend(_) | Call::Resume(_) => members.has_only(&["core", "by", "do", "to"]),
     }
 }
 
@@ -186,6 +241,8 @@ fn has_only_in_format_1(step: &Step, members: &Object<'_, '_, '_>) -> bool
             Some(_) => members.has_only(&["core", "do", "to", "action", "value"]),
         },
         Step::QueueInterrupt { .. } => members.has_only(&["core", "do", "queue"]),
+        Step::ResumeInterrupt { .. } => members.has_only(&["core", "do", "to"]),
+        Step::Pass { .. } => members.has_only(&["do", "units"]),
     }
 }
 
@@ -264,15 +321,29 @@ pub(crate) fn kind_at(format: Format, node: &Node<'_, '_, '_>) -> Result<Kind, R
     node.meant("do", word, Kind::words(format), Kind::of(format, word))
 }
 
-#[tactic(auto, unfolding(crate::specs::Step::step_of_kind_at))]
-fn step_of_kind_at(
+#[tactic(auto, unfolding(crate::specs::Step::step_kind_at))]
+fn step_kind_at(format: Format, node: &Node<'_, '_, '_>) -> Result<StepKind, ReadFault>
+    ensures { Gives (λ kind. kind) result
+        (step_kind_at format (location_of node.now) (data_of node.now)) }
+{
+    let word = node.text("do")?;
+    node.meant(
+        "do",
+        word,
+        StepKind::words(format),
+        StepKind::of(format, word),
+    )
+}
+
+#[tactic(auto, unfolding(crate::specs::Step::step_of_core_at))]
+fn step_of_core_at(
     format: Format,
     names: &Names<'_>,
     kind: Kind,
     node: &Node<'_, '_, '_>,
 ) -> Result<Step, ReadFault>
     ensures { Gives (λ step. step) result
-        (step_of_kind_at format names.now kind (location_of node.now) (data_of node.now)) }
+        (step_of_core_at format names.now kind (location_of node.now) (data_of node.now)) }
 {
     match kind {
         Kind::Tick => Ok(Step::Tick),
@@ -293,6 +364,28 @@ fn step_of_kind_at(
             queue: node.number("queue")?,
             direction,
         }),
+        Kind::ResumeInterrupt => Ok(Step::ResumeInterrupt {
+            core: node.number("core")?,
+            task: names.task_named_at(node, "to")?,
+        }),
+    }
+}
+
+#[tactic(auto, unfolding(crate::specs::Step::step_of_kind_at))]
+fn step_of_kind_at(
+    format: Format,
+    names: &Names<'_>,
+    kind: StepKind,
+    node: &Node<'_, '_, '_>,
+) -> Result<Step, ReadFault>
+    ensures { Gives (λ step. step) result
+        (step_of_kind_at format names.now kind (location_of node.now) (data_of node.now)) }
+{
+    match kind {
+        StepKind::OfCore(kind) => step_of_core_at(format, names, kind, node),
+        StepKind::Pass => Ok(Step::Pass {
+            units: node.number("units")?,
+        }),
     }
 }
 
@@ -311,7 +404,7 @@ impl<'v> ReadItem<'v> for StepReader<'_, '_> {
     #[tactic(auto, unfolding(crate::specs::Step::step_at))]
     fn read(&self, node: &Node<'_, '_, 'v>) -> Result<Step, ReadFault> {
         let members = node.object()?;
-        let kind = kind_at(self.format, node)?;
+        let kind = step_kind_at(self.format, node)?;
         let step = step_of_kind_at(self.format, self.names, kind, node)?;
         only_known(self.format, node, &step, &members)?;
         Ok(step)

@@ -1,5 +1,5 @@
 -- The value of a session is plain, and nests three deep.
-use Rattle.std.proofs.Common.{◌≡◌, ℕ, Bool, ◌+◌, ◌^◌, ◌<◌, ◌≤◌, true, ◌&&◌, List, [], ◌∷◌, length, map, refl, arith, IsUtf8}
+use Rattle.std.proofs.Common.{◌≡◌, ℕ, Bool, ◌+◌, ◌^◌, ◌<◌, ◌≤◌, ◌==◌, true, false, ◌&&◌, List, [], ◌∷◌, length, map, refl, arith, IsUtf8}
 use Rattle.std.specs.Prelude.{IsTrue, unwrap_or}
 use Rattle.std.specs.List.{list_all, AllByRecursion}
 use Rattle.std.proofs.lemmas.Bool.{and_parts, and_from}
@@ -26,9 +26,9 @@ use Rattle.bench_types.specs.Limits.{max_name, max_priorities}
 use Rattle.session_text.specs.declared.format.Format.{Format}
 use Rattle.session_text.specs.declared.format.Format.TheVariants.{One, Two, Three}
 use Rattle.session_write.specs.Written.{queue_data, task_data, task_name, bare_call, call_for, notify_data, interrupt_data, wait_data, take_data, state_clear_data}
-use Rattle.session_write.specs.Written.{value_clear_data, transfer_data, queue_interrupt_data, call_data, step_data, format_for, data_in, session_data}
+use Rattle.session_write.specs.Written.{value_clear_data, transfer_data, queue_interrupt_data, resume_interrupt_data, third_data, queues_data, tasks_data, steps_data, call_data, step_data, format_for, data_in, session_data}
 use Rattle.bench_types.proofs.Passes.{has_valid_args, IsQueueOfWords, IsWithinLimits}
-use Rattle.session_write.proofs.Limits.{StepFits, HasTarget, IsQueueThere}
+use Rattle.session_write.proofs.Limits.{StepFits, HasTarget, IsQueueThere, AreUnits}
 use Rattle.session_write.proofs.ReadBack.{IsPlain, ArePlain}
 
 ascii_bytes : (bytes : List ℕ) → list_all is_name_byte bytes ≡ true → are_ascii bytes ≡ true
@@ -293,6 +293,9 @@ queue_interrupt_plain header core queue Send there small = (refl, refl, small, (
 queue_interrupt_plain header core queue Receive there small =
     (refl, refl, small, (refl, refl, IsUtf8-are_ascii _ refl, (refl, refl, omega (arith, there.few), tt)))
 
+resume_interrupt_plain : (core : ℕ) (to : List ℕ) → core < 2 ^ 64 → IsUtf8 to → IsPlain (resume_interrupt_data core to)
+resume_interrupt_plain core to small utf8 = (refl, refl, small, (refl, refl, IsUtf8-are_ascii _ refl, (refl, refl, utf8, tt)))
+
 -- an index is a small number
 few_index : (header : Header) (index : ℕ) → IsWithinLimits header → index < header.config.notes → index < 2 ^ 64
 few_index header index h there = omega (arith, h.few_notes, there)
@@ -344,6 +347,10 @@ call_plain format header by core (call.QueueSend queue ticks) h names target utf
     (IsUtf8-are_ascii _ refl) words
 call_plain format header by core (call.QueueReceive queue ticks) h names target utf8 small words = transfer_plain header by core _ queue ticks target utf8
     small (IsUtf8-are_ascii _ refl) words
+call_plain format header by core (call.Suspend task) h names target utf8 small words = for_plain by core _ _ utf8 small (IsUtf8-are_ascii _ refl)
+    (names task target.owner.1 target.owner.0)
+call_plain format header by core (call.Resume task) h names target utf8 small words = for_plain by core _ _ utf8 small (IsUtf8-are_ascii _ refl)
+    (names task target.owner.1 target.owner.0)
 call_plain format header by core call.Finish h names target utf8 small words = bare_plain by core _ utf8 small (IsUtf8-are_ascii _ refl)
 call_plain format header by core call.HoldOpen h names target utf8 small words = bare_plain by core _ utf8 small (IsUtf8-are_ascii _ refl)
 call_plain format header by core call.HoldClose h names target utf8 small words = bare_plain by core _ utf8 small (IsUtf8-are_ascii _ refl)
@@ -359,6 +366,9 @@ step_plain format header (step.Interrupt core note) h names place words = interr
     (few_index header note.index h place.target.index_there) words
 step_plain format header (step.QueueInterrupt core queue direction) h names place words = queue_interrupt_plain header core queue direction place.target
     (omega (arith, h.few_cores, place.core_there))
+step_plain format header (step.ResumeInterrupt core task) h names place words = resume_interrupt_plain core _ (omega (arith, h.few_cores, place.core_there))
+    (names task place.target.owner.1 place.target.owner.0)
+step_plain format header (step.Pass units) h names place words = (refl, refl, IsUtf8-are_ascii _ refl, (refl, refl, omega (arith, words), tt))
 
 steps_plain : (format : Format) (header : Header) (steps : List Step) → IsWithinLimits header → AreNames header → AllByRecursion
     (λ made. StepFits header made × IsStepOfWords made) steps → ArePlain (items_of (map (step_data format header) steps))
@@ -391,10 +401,109 @@ queues_plain (queue ∷ queues) each =
 pub record IsWritable (header : Header) (steps : List Step) : Type 0 where
   pub limits : IsWithinLimits header
   pub tick : header.config.tick < 2 ^ 32
+  pub units : AreUnits header
   pub each_task : AllByRecursion (IsTask header.config) header.tasks
   pub names : AreNames header
   pub each_queue : AllByRecursion IsQueueOfWords (unwrap_or header.queues [])
   pub each_step : AllByRecursion (λ made. StepFits header made × IsStepOfWords made) steps
+
+-- a session of the third format, by whether a tick has one unit of time
+third_plain : (header : Header) (steps : List Step) → IsWritable header steps → IsPlain (third_data header.config (queues_data header.queues)
+    (steps_data Three header steps) (tasks_data header.tasks))
+third_plain header steps h = from (header.config.units == 1) refl
+  where
+    limits : IsWithinLimits header
+    limits = h.limits
+
+    from : (b : Bool) → (header.config.units == 1) ≡ b → IsPlain (third_data header.config (queues_data header.queues) (steps_data Three header steps)
+        (tasks_data header.tasks))
+    from true one = rw one (
+      refl,
+      refl,
+      omega (arith, limits.few_cores),
+      (
+        refl,
+        refl,
+        omega arith,
+        (
+          refl,
+          refl,
+          omega (arith, limits.few_mutexes),
+          (
+            refl,
+            refl,
+            omega (arith, limits.few_notes),
+            (
+              refl,
+              refl,
+              omega (arith, limits.few_priorities),
+              (
+                refl,
+                refl,
+                queues_plain (unwrap_or header.queues []) h.each_queue,
+                (
+                  refl,
+                  refl,
+                  tt,
+                  (
+                    refl,
+                    refl,
+                    steps_plain Three header steps limits h.names h.each_step,
+                    (refl, refl, tasks_plain header.config header.tasks limits.few_priorities h.each_task, (refl, refl, omega (arith, h.tick), tt)),
+                  ),
+                ),
+              ),
+            ),
+          ),
+        ),
+      ),
+    )
+    from false more = rw more (
+      refl,
+      refl,
+      omega (arith, limits.few_cores),
+      (
+        refl,
+        refl,
+        omega arith,
+        (
+          refl,
+          refl,
+          omega (arith, limits.few_mutexes),
+          (
+            refl,
+            refl,
+            omega (arith, limits.few_notes),
+            (
+              refl,
+              refl,
+              omega (arith, limits.few_priorities),
+              (
+                refl,
+                refl,
+                queues_plain (unwrap_or header.queues []) h.each_queue,
+                (
+                  refl,
+                  refl,
+                  tt,
+                  (
+                    refl,
+                    refl,
+                    steps_plain Three header steps limits h.names h.each_step,
+                    (
+                      refl,
+                      refl,
+                      tasks_plain header.config header.tasks limits.few_priorities h.each_task,
+                      (refl, refl, omega (arith, h.tick), (refl, refl, omega (arith, h.units.few), tt)),
+                    ),
+                  ),
+                ),
+              ),
+            ),
+          ),
+        ),
+      ),
+    )
 
 data_plain : (format : Format) (header : Header) (steps : List Step) → IsWritable header steps → IsPlain (data_in format header steps)
 unfolding data_in
@@ -467,48 +576,7 @@ data_plain Two header steps h =
         ),
       ),
     )
-data_plain Three header steps h =
-    let limits = h.limits in (
-      refl,
-      refl,
-      omega (arith, limits.few_cores),
-      (
-        refl,
-        refl,
-        omega arith,
-        (
-          refl,
-          refl,
-          omega (arith, limits.few_mutexes),
-          (
-            refl,
-            refl,
-            omega (arith, limits.few_notes),
-            (
-              refl,
-              refl,
-              omega (arith, limits.few_priorities),
-              (
-                refl,
-                refl,
-                queues_plain (unwrap_or header.queues []) h.each_queue,
-                (
-                  refl,
-                  refl,
-                  tt,
-                  (
-                    refl,
-                    refl,
-                    steps_plain Three header steps limits h.names h.each_step,
-                    (refl, refl, tasks_plain header.config header.tasks limits.few_priorities h.each_task, (refl, refl, omega (arith, h.tick), tt)),
-                  ),
-                ),
-              ),
-            ),
-          ),
-        ),
-      ),
-    )
+data_plain Three header steps h = third_plain header steps h
 
 pub session_plain : (header : Header) (steps : List Step) → IsWritable header steps → IsPlain (session_data header steps)
 session_plain header steps h = data_plain (format_for header) header steps h
@@ -562,6 +630,8 @@ call_depth format header by core (call.MutexTake mutex ticks) = omega arith
 call_depth format header by core (call.MutexGive mutex) = omega arith
 call_depth format header by core (call.QueueSend queue ticks) = omega arith
 call_depth format header by core (call.QueueReceive queue ticks) = omega arith
+call_depth format header by core (call.Suspend task) = omega arith
+call_depth format header by core (call.Resume task) = omega arith
 call_depth format header by core call.Finish = omega arith
 call_depth format header by core call.HoldOpen = omega arith
 call_depth format header by core call.HoldClose = omega arith
@@ -572,6 +642,26 @@ step_depth format header (step.Switch core) = omega arith
 step_depth format header (step.Call core task made) = call_depth format header (task_name header task) core made
 step_depth format header (step.Interrupt core note) = interrupt_depth format core (task_name header note.task) note.action note.index
 step_depth format header (step.QueueInterrupt core queue direction) = omega arith
+step_depth format header (step.ResumeInterrupt core task) = omega arith
+step_depth format header (step.Pass units) = omega arith
+
+third_depth : (header : Header) (steps : List Step) → depth
+    (third_data header.config (queues_data header.queues) (steps_data Three header steps) (tasks_data header.tasks)) ≤ max_depth
+third_depth header steps = from (header.config.units == 1) refl
+  where
+    each_step : items_depth (items_of (map (step_data Three header) steps)) ≤ 1
+    each_step = items_within (step_data Three header) 1 (step_depth Three header) steps
+
+    each_task : items_depth (items_of (map task_data header.tasks)) ≤ 1
+    each_task = items_within task_data 1 (λ task. omega arith) header.tasks
+
+    each_queue : items_depth (items_of (map queue_data (unwrap_or header.queues []))) ≤ 1
+    each_queue = items_within queue_data 1 (λ queue. omega arith) (unwrap_or header.queues [])
+
+    from : (b : Bool) → (header.config.units == 1) ≡ b → depth
+        (third_data header.config (queues_data header.queues) (steps_data Three header steps) (tasks_data header.tasks)) ≤ max_depth
+    from true one = rw one (omega (arith, each_step, each_task, each_queue))
+    from false more = rw more (omega (arith, each_step, each_task, each_queue))
 
 data_depth : (format : Format) (header : Header) (steps : List Step) → depth (data_in format header steps) ≤ max_depth
 unfolding data_in
@@ -579,13 +669,7 @@ data_depth One header steps =
     omega (arith, items_within (step_data One header) 1 (step_depth One header) steps, items_within task_data 1 (λ task. omega arith) header.tasks)
 data_depth Two header steps =
     omega (arith, items_within (step_data Two header) 1 (step_depth Two header) steps, items_within task_data 1 (λ task. omega arith) header.tasks)
-data_depth Three header steps =
-    omega (
-      arith,
-      items_within (step_data Three header) 1 (step_depth Three header) steps,
-      items_within task_data 1 (λ task. omega arith) header.tasks,
-      items_within queue_data 1 (λ queue. omega arith) (unwrap_or header.queues []),
-    )
+data_depth Three header steps = third_depth header steps
 
 pub session_depth : (header : Header) (steps : List Step) → depth (session_data header steps) ≤ max_depth
 session_depth header steps = data_depth (format_for header) header steps

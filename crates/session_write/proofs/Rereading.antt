@@ -33,16 +33,17 @@ use Rattle.session_text.specs.NotifyAction.{action_at, action_kind_at, action_of
 use Rattle.session_text.specs.Array.{each_at, list_at}
 use Rattle.session_text.specs.declared.format.Format.{Format}
 use Rattle.session_text.specs.declared.format.Format.TheVariants.{One, Two, Three}
-use Rattle.session_text.specs.Format.{format_at, notes_at, index_at, queue_at, queues_at}
-use Rattle.session_text.specs.Header.{task_at, config_at, header_at}
+use Rattle.session_text.specs.Format.{format_at, notes_at, index_at, queue_at, queues_at, units_at}
+use Rattle.session_text.specs.Header.{task_at, settings_at, header_at}
 use Rattle.session_text.specs.Member.{number_at, number_or_at, text_at, flag_at, array_at}
 use Rattle.bench_types.proofs.Passes.{has_valid_args, checked_flaw, checked_header, queue_words, IsQueueOfWords, IsWithinLimits}
 use Rattle.bench_types.proofs.StepFlaws.{step_unflawed}
 use Rattle.session_text.specs.Names.{names_of, number_of, user_names}
 use Rattle.session_text.specs.Session.{session_at, session_accepted, steps_accepted, session}
-use Rattle.session_text.specs.Step.{step_at, kind_at, step_of_kind_at, task_named_at, note_at, wait_at, transfer_at, call_at}
+use Rattle.session_text.specs.declared.fault.TextFault.{TextFault}
+use Rattle.session_text.specs.Step.{step_at, step_kind_at, step_of_core_at, step_of_kind_at, task_named_at, note_at, wait_at, transfer_at, call_at}
 use Rattle.session_write.specs.Written.{queue_data, task_data, task_name, step_data, format_for, data_in, session_data, WrittenReadsBack}
-use Rattle.session_write.proofs.Limits.{StepFits, IsCallInPlace, IsNoteThere, IsQueueInterruptInPlace, IsQueueThere, IsUserTask, in_place}
+use Rattle.session_write.proofs.Limits.{StepFits, IsCallInPlace, IsNoteThere, IsQueueInterruptInPlace, IsQueueThere, IsResumeInPlace, IsUserTask, checked_time, in_place}
 use Rattle.session_write.proofs.Plain.{IsTask, IsWritable, session_plain, session_depth, utf8_name}
 use Rattle.session_write.proofs.ReadBack.{document-compact_text}
 use Rattle.session_write.proofs.TaskNames.{number_of_name}
@@ -96,7 +97,7 @@ notify_read : (format : Format) (header : Header) (at : List ℕ) (core task to 
     header → core < header.config.cores → IsUserTask header task → IsNoteThere header to index → IsNotifyActionOfWord what → step_at format (names_of header)
     at (step_data format header (step.Call core task (call.Notify (record { task = to; action = what; index = index })))) ≡ Ok
     (step.Call core task (call.Notify (record { task = to; action = what; index = index })))
-unfolding step_at kind_at text_at step_of_kind_at number_at task_named_at call_at note_at action_at action_kind_at action_of_kind_at index_at number_or_at
+unfolding step_at step_kind_at text_at step_of_kind_at step_of_core_at number_at task_named_at call_at note_at action_at action_kind_at action_of_kind_at index_at number_or_at
 notify_read One header at core task to action.Nothing index fits h there caller target word = rw (
   first_index header index fits.0 target.index_there,
   core_number header core h there,
@@ -170,7 +171,7 @@ interrupt_read : (format : Format) (header : Header) (at : List ℕ) (core to : 
     → core < header.config.cores → IsNoteThere header to index → IsNotifyActionOfWord what → step_at format (names_of header)
     at (step_data format header (step.Interrupt core (record { task = to; action = what; index = index }))) ≡ Ok
     (step.Interrupt core (record { task = to; action = what; index = index }))
-unfolding step_at kind_at text_at step_of_kind_at number_at task_named_at note_at action_at action_kind_at action_of_kind_at index_at number_or_at
+unfolding step_at step_kind_at text_at step_of_kind_at step_of_core_at number_at task_named_at note_at action_at action_kind_at action_of_kind_at index_at number_or_at
 interrupt_read One header at core to action.Nothing index fits h there target word = rw
     (first_index header index fits.0 target.index_there, core_number header core h there, target_named header to h target.owner) refl
 interrupt_read One header at core to (action.SetBits bits) index fits h there target word = rw
@@ -204,16 +205,31 @@ no_queue header queue none there =
 queue_interrupt_read : (format : Format) (header : Header) (at : List ℕ) (core queue : ℕ) (direction : Direction) → Fits format header → IsWithinLimits header
     → IsQueueInterruptInPlace header core queue → step_at format (names_of header) at (step_data format header (step.QueueInterrupt core queue direction)) ≡ Ok
     (step.QueueInterrupt core queue direction)
-unfolding step_at kind_at text_at step_of_kind_at number_at
+unfolding step_at step_kind_at text_at step_of_kind_at step_of_core_at number_at
 queue_interrupt_read One header at core queue direction fits h place = absurd (no_queue header queue fits.1 place.target)
 queue_interrupt_read Two header at core queue direction fits h place = absurd (no_queue header queue fits place.target)
 queue_interrupt_read Three header at core queue Send fits h place = rw (core_number header core h place.core_there, queue_number header queue place.target) refl
 queue_interrupt_read Three header at core queue Receive fits h place = rw
     (core_number header core h place.core_there, queue_number header queue place.target) refl
 
+resume_interrupt_read : (format : Format) (header : Header) (at : List ℕ) (core task : ℕ) → Fits format header → IsWithinLimits header → IsResumeInPlace header
+    core task → step_at format (names_of header) at (step_data format header (step.ResumeInterrupt core task)) ≡ Ok (step.ResumeInterrupt core task)
+unfolding step_at step_kind_at text_at step_of_kind_at step_of_core_at number_at task_named_at
+resume_interrupt_read One header at core task fits h place = absurd (place.target.third fits.1)
+resume_interrupt_read Two header at core task fits h place = absurd (place.target.third fits)
+resume_interrupt_read Three header at core task fits h place = rw
+    (core_number header core h place.core_there, target_named header task h place.target.owner) refl
+
+pass_read : (format : Format) (header : Header) (at : List ℕ) (units : ℕ) → Fits format header → StepFits header (step.Pass units) → units < 2 ^ 32 → step_at
+    format (names_of header) at (step_data format header (step.Pass units)) ≡ Ok (step.Pass units)
+unfolding step_at step_kind_at text_at step_of_kind_at number_at
+pass_read One header at units fits third words = absurd (third fits.1)
+pass_read Two header at units fits third words = absurd (third fits)
+pass_read Three header at units fits third words = rw (lt-ltb _ _ words) refl
+
 call_read : (format : Format) (header : Header) (at : List ℕ) (core task : ℕ) (made : Call) → Fits format header → IsWithinLimits header → IsCallInPlace header
     core task made → IsOfWords made → step_at format (names_of header) at (step_data format header (step.Call core task made)) ≡ Ok (step.Call core task made)
-unfolding step_at kind_at text_at step_of_kind_at number_at flag_at task_named_at call_at wait_at transfer_at index_at number_or_at
+unfolding step_at step_kind_at text_at step_of_kind_at step_of_core_at number_at flag_at task_named_at call_at wait_at transfer_at index_at number_or_at
 call_read format header at core task call.Yield fits h place words = rw (core_number header core h place.core_there, target_named header task h place.caller)
     refl
 call_read format header at core task (call.Delay ticks) fits h place words = rw
@@ -292,6 +308,14 @@ call_read One header at core task (call.QueueReceive queue ticks) fits h place w
 call_read Two header at core task (call.QueueReceive queue ticks) fits h place words = absurd (no_queue header queue fits place.target)
 call_read Three header at core task (call.QueueReceive queue ticks) fits h place words = rw
     (core_number header core h place.core_there, queue_number header queue place.target, lt-ltb _ _ words, target_named header task h place.caller) refl
+call_read One header at core task (call.Suspend to) fits h place words = absurd (place.target.third fits.1)
+call_read Two header at core task (call.Suspend to) fits h place words = absurd (place.target.third fits)
+call_read Three header at core task (call.Suspend to) fits h place words = rw
+    (core_number header core h place.core_there, target_named header task h place.caller, target_named header to h place.target.owner) refl
+call_read One header at core task (call.Resume to) fits h place words = absurd (place.target.third fits.1)
+call_read Two header at core task (call.Resume to) fits h place words = absurd (place.target.third fits)
+call_read Three header at core task (call.Resume to) fits h place words = rw
+    (core_number header core h place.core_there, target_named header task h place.caller, target_named header to h place.target.owner) refl
 call_read format header at core task call.Finish fits h place words = rw (core_number header core h place.core_there, target_named header task h place.caller)
     refl
 call_read format header at core task call.HoldOpen fits h place words = rw (core_number header core h place.core_there, target_named header task h place.caller)
@@ -301,7 +325,7 @@ call_read format header at core task call.HoldClose fits h place words = rw
 
 step_read : (format : Format) (header : Header) (at : List ℕ) (made : Step) → Fits format header → IsWithinLimits header → StepFits header made → IsStepOfWords
     made → step_at format (names_of header) at (step_data format header made) ≡ Ok made
-unfolding step_at kind_at text_at step_of_kind_at number_at
+unfolding step_at step_kind_at text_at step_of_kind_at step_of_core_at number_at
 step_read format header at step.Tick fits h place words = refl
 step_read format header at (step.Switch core) fits h place words = rw (core_number header core h place) refl
 step_read format header at (step.Call core task made) fits h place words = call_read format header at core task made fits h place words
@@ -309,6 +333,8 @@ step_read format header at (step.Interrupt core note) fits h place words = inter
     place.core_there place.target words
 step_read format header at (step.QueueInterrupt core queue direction) fits h place words = queue_interrupt_read format header at core queue direction fits h
     place
+step_read format header at (step.ResumeInterrupt core task) fits h place words = resume_interrupt_read format header at core task fits h place
+step_read format header at (step.Pass units) fits h place words = pass_read format header at units fits place words
 
 steps_read : (format : Format) (header : Header) (at : List ℕ) (index : ℕ) (steps : List Step) → Fits format header → IsWithinLimits header → AllByRecursion
     (λ made. StepFits header made × IsStepOfWords made) steps → each_at (step_at format (names_of header)) at index
@@ -320,50 +346,24 @@ steps_read format header at index (made ∷ steps) fits h each = rw (
       at (suc index) steps fits h each.1,
 ) refl
 
--- the settings, with the number of notifications that the first format means
-config_of_one : (config : Config) → config.notes ≡ 1 → record {
-  cores = config.cores;
-  priorities = config.priorities;
-  slicing = config.slicing;
-  tick =
-      config.tick;
-  mutexes = config.mutexes;
-  notes = 1;
-} ≡ config
-config_of_one config one = ap with_notes (sym one)
-  where
-    with_notes : ℕ → Config
-    with_notes notes = record {
-      cores = config.cores;
-      priorities = config.priorities;
-      slicing = config.slicing;
-      tick = config.tick;
-      mutexes = config.mutexes;
-      notes = notes;
-    }
+abbrev with_settings : Header → ℕ → ℕ → Option (List QueueArgs) → Result (Config × Option (List QueueArgs)) TextFault
+with_settings header notes units queues = Ok (
+  record {
+    cores = header.config.cores;
+    priorities = header.config.priorities;
+    slicing = header.config.slicing;
+    tick = header.config.tick;
+    mutexes = header.config.mutexes;
+    notes = notes;
+    units = units;
+  },
+  queues,
+)
 
-config_read : (format : Format) (header : Header) (steps : List Step) (at : List ℕ) → Fits format header → IsWritable header steps → config_at format
-    at (data_in format header steps) ≡ Ok header.config
-unfolding data_in config_at notes_at number_at flag_at
-config_read One header steps at fits h =
-    let limits = h.limits in
-    let cores : header.config.cores < 2 ^ 32 = omega (arith, limits.few_cores) in
-    let priorities : header.config.priorities < 2 ^ 32 = omega (arith, limits.few_priorities) in
-    let mutexes : header.config.mutexes < 2 ^ 32 = omega (arith, limits.few_mutexes) in
-    rw (lt-ltb _ _ cores, lt-ltb _ _ priorities, lt-ltb _ _ mutexes, lt-ltb _ _ h.tick) (ap Ok (config_of_one header.config fits.0))
-config_read later header steps at fits h =
-    let limits = h.limits in
-    let cores : header.config.cores < 2 ^ 32 = omega (arith, limits.few_cores) in
-    let priorities : header.config.priorities < 2 ^ 32 = omega (arith, limits.few_priorities) in
-    let mutexes : header.config.mutexes < 2 ^ 32 = omega (arith, limits.few_mutexes) in
-    let notes : header.config.notes < 2 ^ 32 = omega (arith, limits.few_notes) in
-    rw (lt-ltb _ _ cores, lt-ltb _ _ priorities, lt-ltb _ _ mutexes, lt-ltb _ _ notes, lt-ltb _ _ h.tick) refl
-
-tasks_found : (format : Format) (header : Header) (steps : List Step) (at : List ℕ) → IsWritable header steps → list_at task_at at (codes "tasks")
-    (data_in format header steps) ≡ Ok header.tasks
-unfolding data_in list_at array_at
-tasks_found One header steps at h = tasks_read header.config _ 0 header.tasks h.limits.few_priorities h.each_task
-tasks_found later header steps at h = tasks_read header.config _ 0 header.tasks h.limits.few_priorities h.each_task
+-- the settings and the queues, as they are read
+settings_made : (header : Header) (notes units : ℕ) (queues : Option (List QueueArgs)) → notes ≡ header.config.notes → units ≡ header.config.units → queues ≡
+    header.queues → with_settings header notes units queues ≡ Ok (header.config, header.queues)
+settings_made header notes units queues same_notes same_units same_queues = rw (same_notes, same_units, same_queues) refl
 
 queue_read : (at : List ℕ) (queue : QueueArgs) → IsQueueOfWords queue → queue_at at (queue_data queue) ≡ Ok queue
 unfolding queue_at number_at
@@ -374,20 +374,74 @@ queues_read : (at : List ℕ) (index : ℕ) (queues : List QueueArgs) → AllByR
 queues_read at index [] each = refl
 queues_read at index (queue ∷ queues) each = rw (queue_read _ queue each.0, queues_read at (suc index) queues each.1) refl
 
-queues_found : (format : Format) (header : Header) (steps : List Step) (at : List ℕ) → Fits format header → IsWritable header steps → queues_at format at
-    (data_in format header steps) ≡ Ok header.queues
-unfolding data_in queues_at list_at array_at
-queues_found One header steps at fits h = ap Ok (sym fits.1)
-queues_found Two header steps at fits h = ap Ok (sym fits)
-queues_found Three header steps at fits h =
-    let words = h.each_queue in
-    rw fits.1 (rw (queues_read _ 0 fits.0 (rw fits.1 at words)) refl)
+-- the settings of the third format, by whether a tick has one unit of time
+third_read : (header : Header) (steps : List Step) (at : List ℕ) (queues : List QueueArgs) → header.queues ≡ Some queues → IsWritable header steps → settings_at
+    Three at (data_in Three header steps) ≡ Ok (header.config, header.queues)
+unfolding data_in settings_at notes_at queues_at units_at list_at array_at number_at number_or_at flag_at
+third_read header steps at queues some h = from (header.config.units == 1) refl
+  where
+    limits : IsWithinLimits header
+    limits = h.limits
+
+    cores : header.config.cores < 2 ^ 32
+    cores = omega (arith, limits.few_cores)
+
+    priorities : header.config.priorities < 2 ^ 32
+    priorities = omega (arith, limits.few_priorities)
+
+    mutexes : header.config.mutexes < 2 ^ 32
+    mutexes = omega (arith, limits.few_mutexes)
+
+    notes : header.config.notes < 2 ^ 32
+    notes = omega (arith, limits.few_notes)
+
+    units : header.config.units < 2 ^ 32
+    units = omega (arith, h.units.few)
+
+    each : AllByRecursion IsQueueOfWords queues
+    each = rw some at h.each_queue
+
+    from : (b : Bool) → (header.config.units == 1) ≡ b → settings_at Three at (data_in Three header steps) ≡ Ok (header.config, header.queues)
+    from true one = rw
+        (one, some, lt-ltb _ _ cores, lt-ltb _ _ priorities, lt-ltb _ _ mutexes, lt-ltb _ _ notes, lt-ltb _ _ h.tick, queues_read _ 0 queues each)
+        (ap (λ units. with_settings header header.config.notes units (Some queues)) single)
+      where
+        single : 1 ≡ header.config.units
+        single = grind (arith, nat_tests, one)
+    from false more = rw
+        (more, some, lt-ltb _ _ cores, lt-ltb _ _ priorities, lt-ltb _ _ mutexes, lt-ltb _ _ notes, lt-ltb _ _ units, lt-ltb _ _ h.tick, queues_read _ 0 queues each)
+        refl
+
+settings_read : (format : Format) (header : Header) (steps : List Step) (at : List ℕ) → Fits format header → IsWritable header steps → settings_at format
+    at (data_in format header steps) ≡ Ok (header.config, header.queues)
+unfolding data_in settings_at notes_at queues_at units_at number_at flag_at
+settings_read One header steps at fits h =
+    let limits = h.limits in
+    let cores : header.config.cores < 2 ^ 32 = omega (arith, limits.few_cores) in
+    let priorities : header.config.priorities < 2 ^ 32 = omega (arith, limits.few_priorities) in
+    let mutexes : header.config.mutexes < 2 ^ 32 = omega (arith, limits.few_mutexes) in
+    rw (lt-ltb _ _ cores, lt-ltb _ _ priorities, lt-ltb _ _ mutexes, lt-ltb _ _ h.tick)
+    (settings_made header 1 1 None (sym fits.0) (sym (h.units.single fits.1)) (sym fits.1))
+settings_read Two header steps at fits h =
+    let limits = h.limits in
+    let cores : header.config.cores < 2 ^ 32 = omega (arith, limits.few_cores) in
+    let priorities : header.config.priorities < 2 ^ 32 = omega (arith, limits.few_priorities) in
+    let mutexes : header.config.mutexes < 2 ^ 32 = omega (arith, limits.few_mutexes) in
+    let notes : header.config.notes < 2 ^ 32 = omega (arith, limits.few_notes) in
+    rw (lt-ltb _ _ cores, lt-ltb _ _ priorities, lt-ltb _ _ mutexes, lt-ltb _ _ notes, lt-ltb _ _ h.tick)
+    (settings_made header header.config.notes 1 None refl (sym (h.units.single fits)) (sym fits))
+settings_read Three header steps at fits h = third_read header steps at fits.0 fits.1 h
+
+tasks_found : (format : Format) (header : Header) (steps : List Step) (at : List ℕ) → IsWritable header steps → list_at task_at at (codes "tasks")
+    (data_in format header steps) ≡ Ok header.tasks
+unfolding data_in list_at array_at
+tasks_found One header steps at h = tasks_read header.config _ 0 header.tasks h.limits.few_priorities h.each_task
+tasks_found later header steps at h = tasks_read header.config _ 0 header.tasks h.limits.few_priorities h.each_task
 
 header_read : (format : Format) (header : Header) (steps : List Step) (at : List ℕ) → Fits format header → header_flaw header ≡ None → IsWritable header steps →
     header_at format at (data_in format header steps) ≡ Ok (Ok header)
 unfolding header_at
-header_read format header steps at fits valid h =
-    rw (config_read format header steps at fits h, queues_found format header steps at fits h, tasks_found format header steps at h, valid) refl
+header_read format header steps at fits valid h = rw (settings_read format header steps at fits h, tasks_found format header steps at h, valid) refl
 
 format_read : (format : Format) (header : Header) (steps : List Step) (at : List ℕ) → format_at at (data_in format header steps) ≡ Ok format
 unfolding data_in format_at number_at
@@ -401,6 +455,16 @@ unfolding data_in list_at array_at
 steps_found One header steps at fits h = steps_read One header _ 0 steps fits h.limits h.each_step
 steps_found Two header steps at fits h = steps_read Two header _ 0 steps fits h.limits h.each_step
 steps_found Three header steps at fits h = steps_read Three header _ 0 steps fits h.limits h.each_step
+
+-- by whether a tick has one unit of time
+third_data_read : (header : Header) (steps : List Step) (at : List ℕ) → Fits Three header → header_flaw header ≡ None → IsWritable header steps → session_at at
+    (data_in Three header steps) ≡ Ok (Three, Ok header, steps)
+unfolding data_in session_at
+third_data_read header steps at fits valid h = from (header.config.units == 1) refl
+  where
+    from : (b : Bool) → (header.config.units == 1) ≡ b → session_at at (data_in Three header steps) ≡ Ok (Three, Ok header, steps)
+    from true one = rw (format_read Three header steps at, header_read Three header steps at fits valid h, steps_found Three header steps at fits h, one) refl
+    from false more = rw (format_read Three header steps at, header_read Three header steps at fits valid h, steps_found Three header steps at fits h, more) refl
 
 data_read : (format : Format) (header : Header) (steps : List Step) (at : List ℕ) → Fits format header → header_flaw header ≡ None → IsWritable header steps →
     session_at at (data_in format header steps) ≡ Ok (format, Ok header, steps)
@@ -417,12 +481,7 @@ data_read Two header steps at fits valid h = rw (
   steps_found Two header steps
       at fits h,
 ) refl
-data_read Three header steps at fits valid h = rw (
-  format_read Three header steps at,
-  header_read Three header steps at fits valid h,
-  steps_found Three header steps
-      at fits h,
-) refl
+data_read Three header steps at fits valid h = third_data_read header steps at fits valid h
 
 all_of : (config : Config) (tasks : List TaskArgs) → list_all (has_valid_args config) tasks ≡ true → AllByRecursion (λ task. IsTrue (is_name task.name)) tasks →
     AllByRecursion (λ task. task.mask < 2 ^ 32) tasks → AllByRecursion (IsTask config) tasks
@@ -439,6 +498,7 @@ writable header steps h =
     record {
       limits = within;
       tick = h.header.tick;
+      units = checked_time header h.header.passes;
       each_task = all_of header.config header.tasks within.args names masks;
       names = λ task high low. utf8_name (task_name header task) (h.header.names (task - header.config.cores) _ (omega arith));
       each_queue = queue_words header h.header.passes;

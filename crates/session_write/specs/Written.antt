@@ -180,6 +180,16 @@ queue_interrupt_data core queue direction =
     object_with ((codes "core", whole core)
     ∷ (codes "do", string (queue_interrupt_word direction)) ∷ (codes "queue", whole queue) ∷ [])
 
+-- an interrupt whose handler resumes the task of this name
+abbrev pub resume_interrupt_data : ℕ → List ℕ → Data
+resume_interrupt_data core to =
+    object_with ((codes "core", whole core) ∷ (codes "do", string (codes "isr_resume"))
+    ∷ (codes "to", string to) ∷ [])
+
+abbrev pub pass_data : ℕ → Data
+pass_data units =
+    object_with ((codes "do", string (codes "pass")) ∷ (codes "units", whole units) ∷ [])
+
 abbrev pub call_data : Format → Header → List ℕ → ℕ → Call → Data
 call_data format header by core call.Yield = bare_call by core (codes "yield")
 call_data format header by core (call.Delay ticks) = delay_data by core ticks
@@ -208,6 +218,10 @@ call_data format header by core (call.QueueSend queue ticks) =
     transfer_data by core (codes "queue_send") queue ticks
 call_data format header by core (call.QueueReceive queue ticks) =
     transfer_data by core (codes "queue_receive") queue ticks
+call_data format header by core (call.Suspend task) =
+    call_for by core (codes "suspend") (task_name header task)
+call_data format header by core (call.Resume task) =
+    call_for by core (codes "resume") (task_name header task)
 call_data format header by core call.Finish = bare_call by core (codes "finish")
 call_data format header by core call.HoldOpen = bare_call by core (codes "hold_open")
 call_data format header by core call.HoldClose = bare_call by core (codes "hold_close")
@@ -222,6 +236,9 @@ step_data format header (step.Interrupt core note) =
     interrupt_data format core (task_name header note.task) note.action note.index
 step_data format header (step.QueueInterrupt core queue direction) =
     queue_interrupt_data core queue direction
+step_data format header (step.ResumeInterrupt core task) =
+    resume_interrupt_data core (task_name header task)
+step_data format header (step.Pass units) = pass_data units
 
 abbrev pub tasks_data : List TaskArgs → Data
 tasks_data tasks = array (items_of (map task_data tasks))
@@ -254,6 +271,10 @@ second_data config steps tasks = object_with (
     (codes "tasks", tasks) ∷
     (codes "tick", whole config.tick) ∷ [])
 
+-- how many units of time a tick has, where it has more than one
+abbrev pub units_member : ℕ → List (List ℕ × Data)
+units_member units = if units == 1 then [] else (codes "units", whole units) ∷ []
+
 -- and of the third, with these queues
 abbrev pub third_data : Config → Data → Data → Data → Data
 third_data config queues steps tasks = object_with (
@@ -266,7 +287,7 @@ third_data config queues steps tasks = object_with (
     (codes "slicing", boolean config.slicing) ∷
     (codes "steps", steps) ∷
     (codes "tasks", tasks) ∷
-    (codes "tick", whole config.tick) ∷ [])
+    (codes "tick", whole config.tick) ∷ units_member config.units)
 
 unfoldable pub data_in : Format → Header → List Step → Data
 data_in One header steps =

@@ -3,7 +3,7 @@ ghost use Rattle.std.specs.Prelude.{◌≡◌, OnOk};
 ghost use Rattle.serde_json.specs.Data.{boolean, string, put as with_member};
 ghost use Rattle.serde_json.specs.View.{members_view};
 ghost use Rattle.session_text.specs.NotifyAction.{action_number};
-ghost use Rattle.session_write.specs.Written.{index_member, value_member, whole, with_members};
+ghost use Rattle.session_write.specs.Written.{index_member, units_member, value_member, whole, with_members};
 
 use bench_types::NotifyAction;
 use serde_json::{Map, Value, put};
@@ -48,6 +48,22 @@ pub(crate) fn put_flag(
         ≡ with_member name.now (boolean flag) (members_view object.old.entries)) }
 {
     put(object, alloc, name, Value::from(flag))
+}
+
+/// Puts how many units of time a tick has into the object, where it has more than one.
+pub(crate) fn put_units(
+    object: &mut Map<String, Value>,
+    alloc: Global,
+    units: u32,
+) -> Result<(), AllocError>
+    ensures { OnOk result (members_view object.new.entries
+        ≡ with_members (units_member units) (members_view object.old.entries)) }
+{
+    if units == 1 {
+        Ok(())
+    } else {
+        put_whole(object, alloc, "units", units)
+    }
 }
 
 /// Puts the index of a notification into the object, where the format has it.

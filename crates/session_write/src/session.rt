@@ -5,16 +5,18 @@ ghost use Rattle.bench_types.specs.Session.{IsSession};
 ghost use Rattle.session_text.specs.Session.{session};
 ghost use Rattle.session_write.specs.Written.{first_data, format_for, queue_data, queues_data, second_data, session_data, task_data, tasks_data, third_data, written};
 
+use crate::object::{put_flag, put_units, put_whole};
 use crate::step::steps_value;
 use bench_types::{Config, Header, Items, QueueArgs, Step, TaskArgs};
-use serde_json::{Value, json};
+use serde_json::{Map, Value, json, put};
 use session_text::Format;
 use std::alloc::{AllocError, Global};
 
 /// Writes a session as a JSON text without spaces, with the members of each object in ascending
-/// byte order. The text has format 3 where the session says which queues there are. Else it has
-/// format 1 where each task has one notification, and format 2 where it has more. From format 2 on
-/// each step that is for a notification says its index.
+/// byte order. The text has format 3 where the session says which queues there are, and says then
+/// how many units of time a tick has where it has more than one. Else it has format 1 where each
+/// task has one notification, and format 2 where it has more. From format 2 on each step that is
+/// for a notification says its index.
 pub fn write_session(alloc: Global, header: &Header, steps: &[Step]) -> Result<Vec<u8>, AllocError>
     requires { IsSession (record { header = header.now; steps = steps.now }) }
     ensures text { IfOk result (λ text. text.items ≡ written header.now steps.now) }
@@ -109,18 +111,19 @@ fn third_value(
     ensures { IfOk result
         (λ value. view value ≡ third_data config (view queues) (view steps) (view tasks)) }
 {
-    json!(in alloc; {
-        "cores": config.cores,
-        "format": 3u32,
-        "mutexes": config.mutexes,
-        "notes": config.notes,
-        "priorities": config.priorities,
-        "queues": queues,
-        "slicing": config.slicing,
-        "steps": steps,
-        "tasks": tasks,
-        "tick": config.tick
-    })
+    let mut object = Map::new(alloc);
+    put_whole(&mut object, alloc, "cores", config.cores)?;
+    put_whole(&mut object, alloc, "format", 3)?;
+    put_whole(&mut object, alloc, "mutexes", config.mutexes)?;
+    put_whole(&mut object, alloc, "notes", config.notes)?;
+    put_whole(&mut object, alloc, "priorities", config.priorities)?;
+    put(&mut object, alloc, "queues", queues)?;
+    put_flag(&mut object, alloc, "slicing", config.slicing)?;
+    put(&mut object, alloc, "steps", steps)?;
+    put(&mut object, alloc, "tasks", tasks)?;
+    put_whole(&mut object, alloc, "tick", config.tick)?;
+    put_units(&mut object, alloc, config.units)?;
+    Ok(Value::Object(object))
 }
 
 fn queue_value(alloc: Global, queue: QueueArgs) -> Result<Value, AllocError>

@@ -2,7 +2,7 @@
 ghost use Rattle.std.specs.Prelude.{◌≡◌, ◌+◌, ◌<◌, ◌≤◌, All, IfOk, Ok, length};
 ghost use Rattle.serde_json.specs.View.{view};
 ghost use Rattle.bench_types.specs.Step.{IsCheckedStep, call_check, settings_of, step_check};
-ghost use Rattle.session_write.specs.Written.{call_data, queue_interrupt_data, queue_interrupt_word, step_data, steps_data, task_name};
+ghost use Rattle.session_write.specs.Written.{call_data, queue_interrupt_data, queue_interrupt_word, resume_interrupt_data, step_data, steps_data, task_name};
 
 use crate::caller::Caller;
 use crate::notes::interrupt_value;
@@ -56,6 +56,10 @@ fn step_value(
             queue,
             direction,
         } => queue_interrupt_value(alloc, *core, *queue, *direction),
+        Step::ResumeInterrupt { core, task } => {
+            resume_interrupt_value(alloc, *core, task_name(header, *task))
+        }
+        Step::Pass { units } => json!(in alloc; {"do": "pass", "units": *units}),
     }
 }
 
@@ -77,6 +81,12 @@ fn queue_interrupt_value(
     ensures { IfOk result (λ value. view value ≡ queue_interrupt_data core queue direction) }
 {
     json!(in alloc; {"core": core, "do": queue_interrupt_word(direction), "queue": queue})
+}
+
+fn resume_interrupt_value(alloc: Global, core: u32, to: &str) -> Result<Value, AllocError>
+    ensures { IfOk result (λ value. view value ≡ resume_interrupt_data core to.now) }
+{
+    json!(in alloc; {"core": core, "do": "isr_resume", "to": to})
 }
 
 fn call_value(header: &Header, caller: &Caller<'_>, call: Call) -> Result<Value, AllocError>
@@ -115,6 +125,8 @@ fn call_value(header: &Header, caller: &Caller<'_>, call: Call) -> Result<Value,
         Call::MutexGive(mutex) => caller.mutex_give(mutex),
         Call::QueueSend { queue, ticks } => caller.transfer("queue_send", queue, ticks),
         Call::QueueReceive { queue, ticks } => caller.transfer("queue_receive", queue, ticks),
+        Call::Suspend(task) => caller.call_for("suspend", task_name(header, task)),
+        Call::Resume(task) => caller.call_for("resume", task_name(header, task)),
         Call::Finish => caller.bare("finish"),
         Call::HoldOpen => caller.bare("hold_open"),
         Call::HoldClose => caller.bare("hold_close"),

@@ -38,6 +38,7 @@ own_entry : (core : ℕ) (core_action : CoreAction) (view : RecordingView) → c
 own_entry core (core_actions.Call call) view checked = refl
 own_entry core (core_actions.Interrupt note) view checked = refl
 own_entry core (core_actions.QueueInterrupt queue direction) view checked = refl
+own_entry core (core_actions.ResumeInterrupt task) view checked = refl
 own_entry core core_actions.Tick view checked = at (eqb core 0) refl checked
   where
     at : (b : Bool) → eqb core 0 ≡ b → cond {A = Result ⊤ Fault} b (Ok tt) (Err BadCore) ≡ Ok tt → 0 ≡ core
@@ -256,6 +257,7 @@ pub no_call : (core_action : CoreAction) → is_by_task core_action ≡ false �
 no_call (core_actions.Call call) none = absurd (cc none)
 no_call (core_actions.Interrupt note) none = refl
 no_call (core_actions.QueueInterrupt queue direction) none = refl
+no_call (core_actions.ResumeInterrupt task) none = refl
 no_call core_actions.Tick none = refl
 no_call core_actions.Switch none = refl
 

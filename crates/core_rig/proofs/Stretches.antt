@@ -99,6 +99,10 @@ core_action_keeps_hold core (core_actions.QueueInterrupt queue direction) view s
     let added = is_ok (answer_to_core_action core (core_actions.QueueInterrupt queue direction) view) in
     let step = steps.QueueInterrupt core queue direction in
     hold_stays step view added (sound_in step view added sound) refl
+core_action_keeps_hold core (core_actions.ResumeInterrupt task) view sound none =
+    let added = is_ok (answer_to_core_action core (core_actions.ResumeInterrupt task) view) in
+    let step = steps.ResumeInterrupt core task in
+    hold_stays step view added (sound_in step view added sound) refl
 core_action_keeps_hold core core_actions.Tick view sound none =
     let added = is_ok (answer_to_core_action core core_actions.Tick view) in
     hold_stays steps.Tick view added (sound_in steps.Tick view added sound) refl
@@ -140,6 +144,8 @@ module _ (core : ℕ) (view : RecordingView) (owns : Bool) where
   may_follow (core_actions.Interrupt note) growth sound free taken = record { growth = growth; hold = inl (unchanged (core_actions.Interrupt note) sound refl) }
   may_follow (core_actions.QueueInterrupt queue direction) growth sound free taken =
       record { growth = growth; hold = inl (unchanged (core_actions.QueueInterrupt queue direction) sound refl) }
+  may_follow (core_actions.ResumeInterrupt task) growth sound free taken =
+      record { growth = growth; hold = inl (unchanged (core_actions.ResumeInterrupt task) sound refl) }
   may_follow core_actions.Tick growth sound free taken = record { growth = growth; hold = inl (unchanged core_actions.Tick sound refl) }
   may_follow core_actions.Switch growth sound free taken = record { growth = growth; hold = inl (unchanged core_actions.Switch sound refl) }
 

@@ -29,6 +29,7 @@ abbrev pub is_call : CoreAction → Bool
 is_call (core_actions.Call call) = true
 is_call (core_actions.Interrupt note) = false
 is_call (core_actions.QueueInterrupt queue direction) = false
+is_call (core_actions.ResumeInterrupt task) = false
 is_call core_actions.Tick = false
 is_call core_actions.Switch = false
 
@@ -37,6 +38,7 @@ abbrev pub is_by_task : CoreAction → Bool
 is_by_task (core_actions.Call call) = true
 is_by_task (core_actions.Interrupt note) = false
 is_by_task (core_actions.QueueInterrupt queue direction) = false
+is_by_task (core_actions.ResumeInterrupt task) = false
 is_by_task core_actions.Tick = false
 is_by_task core_actions.Switch = true
 

@@ -167,6 +167,24 @@ impl CoreSeat {
         self.act_by_interrupt(rt, rig, CoreAction::QueueInterrupt { queue, direction })
     }
 
+    /// Interrupts the core, whose handler resumes the task (`xTaskResumeFromISR`), and waits as
+    /// [`CoreSeat::interrupt`] does.
+    ///
+    /// F3 where there is no such user task, F5 in a session without queues, else G1 where there is
+    /// no room.
+    pub fn interrupt_resume<R: Wait>(
+        &mut self,
+        rt: &R,
+        rig: &Rig,
+        task: u32,
+    ) -> Result<Answer, RigRefusal>
+        requires own { IsSeatOf rig.now self.old }
+        ensures seat { IsSameSeat self.old self.new }
+        ensures answered { IsAnswered (core_actions.ResumeInterrupt task) self.old self.new result }
+    {
+        self.act_by_interrupt(rt, rig, CoreAction::ResumeInterrupt { task })
+    }
+
     /// Interrupts the core as [`CoreSeat::interrupt`] does, but never waits: G3 where another core
     /// was calling the kernel at the one moment when this one tried.
     ///
@@ -195,6 +213,20 @@ impl CoreSeat {
             self.old self.new result }
     {
         self.try_act(rig, CoreAction::QueueInterrupt { queue, direction })
+    }
+
+    /// Interrupts the core as [`CoreSeat::interrupt_resume`] does, but never waits: G3 as
+    /// [`CoreSeat::try_interrupt`].
+    ///
+    /// F3 where there is no such user task, F5 in a session without queues, else G3, else G1 where
+    /// there is no room.
+    pub fn try_interrupt_resume(&mut self, rig: &Rig, task: u32) -> Result<Answer, RigRefusal>
+        requires own { IsSeatOf rig.now self.old }
+        ensures seat { IsSameSeat self.old self.new }
+        ensures answered { IsAnsweredAtOnce (core_actions.ResumeInterrupt task)
+            self.old self.new result }
+    {
+        self.try_act(rig, CoreAction::ResumeInterrupt { task })
     }
 
     // An interrupt of the core, or a tick, tried once.

@@ -66,6 +66,7 @@ module _ (header : Header) (limit : ℕ) (entries : List Entry) (seat : CoreView
     kept = ended.kept;
     closes = ended.closes;
     made = end.1 ∙ ended.made;
+    actions = ended.is_kept.actions;
     part = ended.is_kept.part;
     are_closes = ended.are_closes;
     interrupts = λ few. at few ended.is_kept.interrupts;

@@ -1,11 +1,11 @@
 -- A core's part of its script, from one action to the next.
-use Rattle.std.proofs.Common.{inl, inr, ◌≡◌, ℕ, ◌+◌, ◌<◌, ◌≤◌, Bool, true, false, cond, ◌||◌, List, [], ◌∷◌, ◌++◌, length, take, get_or, suc, Option, Result}
+use Rattle.std.proofs.Common.{inl, inr, ◌≡◌, ℕ, ◌+◌, ◌<◌, ◌≤◌, Bool, true, false, cond, ◌||◌, List, [], ◌∷◌, ◌++◌, length, take, get_or, suc, Option, Some, None, Result}
 use Rattle.std.proofs.Common.{Ok, Err, refl, sym, ap, subst, ◌∙◌, arith}
 use Rattle.std.specs.Prelude.{◌⊎◌, ◌≢◌, OnOk, OnErr, nat_lt, not}
-use Rattle.std.specs.List.{list_any}
+use Rattle.std.specs.List.{cons_option, list_any}
 use Rattle.std.proofs.lemmas.Bool.Decides.{nat_tests}
-use Rattle.std.proofs.lemmas.List.{append-nil, map-append}
-use Rattle.std.proofs.lemmas.List.Elements.{All-get_or, filter-append}
+use Rattle.std.proofs.lemmas.List.{append-nil, length-append}
+use Rattle.std.proofs.lemmas.List.Elements.{All-get_or, filter-append, filter_map-append}
 use Rattle.std.proofs.lemmas.List.Folds.{list_any-append}
 use Rattle.std.proofs.Math.Seq.{take-suc}
 use Rattle.bench_types.specs.CoreAction.{core_action_check}
@@ -71,10 +71,11 @@ module _ (core_action : CoreAction) (old new : CoreView) (result : Result Answer
           (begins_with_all acted.found)
 
 -- the action of a step that an action makes is that action
-core_action_made : (core : ℕ) (core_action : CoreAction) (found : RecordingView) → core_action_of (act_on core core_action found) ≡ core_action
+core_action_made : (core : ℕ) (core_action : CoreAction) (found : RecordingView) → core_action_of (act_on core core_action found) ≡ Some core_action
 core_action_made core (core_actions.Call call) found = refl
 core_action_made core (core_actions.Interrupt note) found = refl
 core_action_made core (core_actions.QueueInterrupt queue direction) found = refl
+core_action_made core (core_actions.ResumeInterrupt task) found = refl
 core_action_made core core_actions.Tick found = refl
 core_action_made core core_actions.Switch found = refl
 
@@ -114,6 +115,8 @@ core_action_refused core (core_actions.Call call) from why is = call_refused cor
 core_action_refused core (core_actions.Interrupt note) from why is = inr (let less = no_room (steps.Interrupt core note) from why is in omega (arith, less))
 core_action_refused core (core_actions.QueueInterrupt queue direction) from why is = inr
     (let less = no_room (steps.QueueInterrupt core queue direction) from why is in omega (arith, less))
+core_action_refused core (core_actions.ResumeInterrupt task) from why is = inr
+    (let less = no_room (steps.ResumeInterrupt core task) from why is in omega (arith, less))
 core_action_refused core core_actions.Tick from why is = inr (let less = no_room steps.Tick from why is in omega (arith, less))
 core_action_refused core core_actions.Switch from why is = inr (let less = no_room (steps.Switch core) from why is in omega (arith, less))
 
@@ -123,6 +126,8 @@ interrupt_refused core (core_actions.Call call) from why none is = absurd (cc no
 interrupt_refused core (core_actions.Interrupt note) from why none is = no_room (steps.Interrupt core note) from why is
 interrupt_refused core (core_actions.QueueInterrupt queue direction) from why none is =
     no_room (steps.QueueInterrupt core queue direction) from why is
+interrupt_refused core (core_actions.ResumeInterrupt task) from why none is =
+    no_room (steps.ResumeInterrupt core task) from why is
 interrupt_refused core core_actions.Tick from why none is = no_room steps.Tick from why is
 interrupt_refused core core_actions.Switch from why none is = absurd (cc none)
 
@@ -170,6 +175,7 @@ module _ (old new : CoreView) (terms : new.terms ≡ old.terms) (core : new.core
   -- no matter which actions it kept, these stand as they did
   pub kept_still : (script : List CoreAction) (kept : List Entry) → IsKept script kept old → IsKept script kept new
   kept_still script kept is = record {
+    actions = is.actions;
     part = is.part;
     interrupts = at is.interrupts;
     all = at_all is.all;
@@ -192,15 +198,16 @@ module _ (done : List CoreAction) (core_action : CoreAction) (kept : List Entry)
   both_more : SwitchesAndHolds done → SwitchesAndHolds (done ++ core_action ∷ [])
   both_more both = (any_longer is_switch done core_action both.0, any_longer opens_hold done core_action both.1)
 
-  pub keeps : (entry : Entry) → core_action_of entry.step ≡ core_action → IsKept (done ++ core_action ∷ []) (kept ++ entry ∷ []) seat
+  pub keeps : (entry : Entry) → core_action_of entry.step ≡ Some core_action → IsKept (done ++ core_action ∷ []) (kept ++ entry ∷ []) seat
   keeps entry its = record {
+    actions = omega (arith, is.actions, ap length core_actions, length-append (core_actions_of kept) (core_action ∷ []), length-append kept (entry ∷ []));
     part = subst (IsPartOf (done ++ core_action ∷ [])) (sym core_actions) (kept_more done (core_actions_of kept) core_action is.part);
     interrupts = at is.interrupts;
     all = at_all is.all;
   }
     where
       core_actions : core_actions_of (kept ++ entry ∷ []) ≡ core_actions_of kept ++ core_action ∷ []
-      core_actions = map-append (λ (entry : Entry). core_action_of entry.step) kept (entry ∷ []) ∙ ap (λ core_action. core_actions_of kept ++ core_action ∷ [])
+      core_actions = filter_map-append (λ (entry : Entry). core_action_of entry.step) kept (entry ∷ []) ∙ ap (λ made. core_actions_of kept ++ cons_option made [])
           its
 
       at : (interrupts_of (core_actions_of kept) ≡ interrupts_of done) ⊎ HasLessRoom 1 seat →
@@ -220,6 +227,7 @@ module _ (done : List CoreAction) (core_action : CoreAction) (kept : List Entry)
   pub passes : (is_by_task core_action ≡ true) ⊎ HasLessRoom 1 seat → HasIdleOn seat.terms.header seat.core seat.seen ⊎ HasLessRoom 2 seat ⊎ SwitchesAndHolds
       (done ++ core_action ∷ []) → IsKept (done ++ core_action ∷ []) kept seat
   passes one why = record {
+    actions = is.actions;
     part = passed_more done (core_actions_of kept) core_action is.part;
     interrupts = at is.interrupts one;
     all = inr why;
@@ -316,7 +324,7 @@ new_holds_nothing rig core =
 
 pub initial : (rig : PairView) (seat : CoreView) → seat ≡ new_seat rig seat.core → IsUnderWay [] seat
 initial rig seat is = subst (IsUnderWay []) (sym is) (record {
-  kept = record { part = refl; interrupts = inl refl; all = inl refl };
+  kept = record { actions = refl; part = refl; interrupts = inl refl; all = inl refl };
   holds = λ some. absurd (some (new_holds_nothing rig seat.core));
 })
 

@@ -1,5 +1,5 @@
 -- What one core's thread knows of its part, before the end of the rig.
-use Rattle.std.specs.Prelude.{◌≡◌, ◌≢◌, ◌⊎◌, ◌<◌, ℕ, List, ◌++◌, All, true, Result}
+use Rattle.std.specs.Prelude.{◌≡◌, ◌≢◌, ◌⊎◌, ◌<◌, ℕ, List, ◌++◌, length, All, true, Result}
 use Rattle.std.specs.List.{list_any}
 use Rattle.bench_types.specs.declared.core_action.CoreAction.{CoreAction}
 use Rattle.bench_types.specs.declared.core_action.CoreAction.TheVariants.{Switch}
@@ -32,10 +32,11 @@ HasLessRoom places seat =
     (first : List Entry) × StartsWith seat.seen first
     × (room_of (recording_of seat.terms first) < places)
 
--- The kept entries are those of the script, some passed over: a tick or an interrupt only where
--- there was no room for one entry, and nothing else but where there was no room for two, an idle
--- task was on the core, or the script both switches and holds.
+-- Each kept entry is an action, and they are those of the script, some passed over: a tick or an
+-- interrupt only where there was no room for one entry, and nothing else but where there was no
+-- room for two, an idle task was on the core, or the script both switches and holds.
 pub record IsKept (script : List CoreAction) (kept : List Entry) (seat : CoreView) : Type 0 where
+  pub actions : length (core_actions_of kept) ≡ length kept
   pub part : IsPartOf script (core_actions_of kept)
   pub interrupts :
       (interrupts_of (core_actions_of kept) ≡ interrupts_of script) ⊎ HasLessRoom 1 seat

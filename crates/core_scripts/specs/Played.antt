@@ -7,7 +7,8 @@ use Rattle.bench_model.specs.History.{made_by}
 use Rattle.core_scripts.specs.Parts.{HasIdleOn}
 use Rattle.core_scripts.specs.Scripts.{IsClose, IsPartOf, SwitchesAndHolds, core_actions_of, interrupts_of}
 
--- The entries of a core are those kept of its script, in its order, and then closes of its holds.
+-- The entries of a core are those kept of its script, each an action of it, in its order, and then
+-- closes of its holds.
 -- With room left, each tick and interrupt is kept. With more than one place left, all is, unless an
 -- idle task was on the core or the script both switches and holds.
 pub record IsPlayed (header : Header) (limit : ℕ) (entries : List Entry) (core : ℕ)
@@ -15,6 +16,7 @@ pub record IsPlayed (header : Header) (limit : ℕ) (entries : List Entry) (core
   pub kept : List Entry
   pub closes : List Entry
   pub made : made_by core entries ≡ kept ++ closes
+  pub actions : length (core_actions_of kept) ≡ length kept
   pub part : IsPartOf script (core_actions_of kept)
   pub are_closes : All IsClose closes
   pub interrupts :

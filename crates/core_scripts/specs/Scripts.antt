@@ -1,6 +1,6 @@
 -- The scripts of cores, and what entries have of them.
-use Rattle.std.specs.Prelude.{◌≡◌, ◌⊎◌, ℕ, length, map, filter, get_or, not, Bool, true, false, List, [], ◌∷◌, All, EachIndex, Ok}
-use Rattle.std.specs.List.{list_any}
+use Rattle.std.specs.Prelude.{◌≡◌, ◌⊎◌, ℕ, length, filter, get_or, not, Bool, true, false, List, [], ◌∷◌, All, EachIndex, Ok, Option, Some, None}
+use Rattle.std.specs.List.{filter_map, list_any}
 use Rattle.bench_types.specs.CoreAction.{core_action_check}
 use Rattle.bench_types.specs.declared.core_action.CoreAction.{CoreAction}
 use Rattle.bench_types.specs.declared.core_action.CoreAction.TheVariants as core_actions
@@ -26,17 +26,20 @@ pub record AreScripts (header : Header) (scripts : List (List CoreAction)) : Typ
       EachIndex scripts
       (λ core. IsScriptOf (settings_of header) core (get_or scripts core []))
 
--- the action that a step is, without its core and its task
-abbrev pub core_action_of : Step → CoreAction
-core_action_of steps.Tick = core_actions.Tick
-core_action_of (steps.Switch core) = core_actions.Switch
-core_action_of (steps.Call core task call) = core_actions.Call call
-core_action_of (steps.Interrupt core note) = core_actions.Interrupt note
+-- the action that a step is, without its core and its task; a pass is none, for no core makes it
+abbrev pub core_action_of : Step → Option CoreAction
+core_action_of steps.Tick = Some core_actions.Tick
+core_action_of (steps.Switch core) = Some core_actions.Switch
+core_action_of (steps.Call core task call) = Some (core_actions.Call call)
+core_action_of (steps.Interrupt core note) = Some (core_actions.Interrupt note)
 core_action_of (steps.QueueInterrupt core queue direction) =
-    core_actions.QueueInterrupt queue direction
+    Some (core_actions.QueueInterrupt queue direction)
+core_action_of (steps.ResumeInterrupt core task) = Some (core_actions.ResumeInterrupt task)
+core_action_of (steps.Pass units) = None
 
+-- the actions among the entries
 abbrev pub core_actions_of : List Entry → List CoreAction
-core_actions_of entries = map (λ entry. core_action_of entry.step) entries
+core_actions_of entries = filter_map (λ entry. core_action_of entry.step) entries
 
 -- the part is the whole, in its order, with some items passed over
 abbrev pub IsPartOf : {X : Type 0} → List X → List X → Type 0
@@ -63,4 +66,5 @@ SwitchesAndHolds script =
 
 -- a call that closed the caller's hold
 abbrev pub IsClose : Entry → Type 0
-IsClose entry = (core_action_of entry.step ≡ core_actions.Call HoldClose) × (entry.reply ≡ Done)
+IsClose entry =
+    (core_action_of entry.step ≡ Some (core_actions.Call HoldClose)) × (entry.reply ≡ Done)

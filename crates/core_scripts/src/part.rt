@@ -68,6 +68,7 @@ fn act_once<R: Wait>(
         CoreAction::QueueInterrupt { queue, direction } => {
             seat.interrupt_queue(rt, rig, queue, direction)
         }
+        CoreAction::ResumeInterrupt { task } => seat.interrupt_resume(rt, rig, task),
         CoreAction::Tick => seat.tick(rt, rig),
         CoreAction::Switch => seat.switch(rt, rig),
     }

@@ -19,6 +19,7 @@ no_terms = record {
       tick = 0;
       mutexes = 0;
       notes = 0;
+      units = 0;
     };
     queues = None;
     tasks = [];

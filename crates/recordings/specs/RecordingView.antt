@@ -84,6 +84,7 @@ act_on core (core_actions.Call call) view = call_on core call view
 act_on core (core_actions.Interrupt note) view = steps.Interrupt core note
 act_on core (core_actions.QueueInterrupt queue direction) view =
     steps.QueueInterrupt core queue direction
+act_on core (core_actions.ResumeInterrupt task) view = steps.ResumeInterrupt core task
 act_on core core_actions.Tick view = steps.Tick
 act_on core core_actions.Switch view = steps.Switch core
 
@@ -94,6 +95,8 @@ answer_to_core_action core (core_actions.Interrupt note) view =
     answer_in_room (steps.Interrupt core note) view
 answer_to_core_action core (core_actions.QueueInterrupt queue direction) view =
     answer_in_room (steps.QueueInterrupt core queue direction) view
+answer_to_core_action core (core_actions.ResumeInterrupt task) view =
+    answer_in_room (steps.ResumeInterrupt core task) view
 answer_to_core_action core core_actions.Tick view = answer_in_room steps.Tick view
 answer_to_core_action core core_actions.Switch view = answer_in_room (steps.Switch core) view
 

@@ -3,7 +3,7 @@ ghost use Rattle.std.specs.Prelude.{◌≡◌, ◌<◌, ◌≤◌, ◌+◌, ◌�
 ghost use Rattle.std.specs.Vec.{vec_capacity};
 ghost use Rattle.bench_types.specs.CoreAction.{IsCheckedCoreAction};
 ghost use Rattle.bench_types.specs.Header.{header_check};
-ghost use Rattle.bench_types.specs.Step.{settings_of, note_check, queue_check, IsNotifyActionOfWord, IsCheckedCall, IsCheckedStep};
+ghost use Rattle.bench_types.specs.Step.{settings_of, note_check, queue_check, resume_check, IsNotifyActionOfWord, IsCheckedCall, IsCheckedStep};
 ghost use Rattle.bench_model.specs.History.{is_kept_out, places_of, AreByCurrent, IsByCurrent, IsGrowthBy, IsLegal, IsNext};
 ghost use Rattle.bench_model.specs.Holds.{depth_of, depth_by, is_held_by, is_held_elsewhere};
 ghost use Rattle.history_laws.specs.SoundHistories.{IsSoundHistory};
@@ -232,6 +232,21 @@ impl Recording {
         })
     }
 
+    /// Interrupts the core, whose handler resumes the task (`xTaskResumeFromISR`), and records it;
+    /// G1 where there is no room for that, which changes nothing.
+    #[inline(always)]
+    pub fn interrupt_resume(&mut self, core: u32, task: u32) -> Result<Answer, RecordRefusal>
+        requires core { core < self.old.header.config.cores }
+        requires task { resume_check (settings_of self.old.header) task ≡ Ok tt }
+        ensures answer { result ≡ answer_in_room (Step.ResumeInterrupt core task) self.old }
+        ensures history { OnOk result
+            (self.new ≡ with_step (Step.ResumeInterrupt core task) self.old) }
+        ensures unchanged { OnErr result (self.new ≡ self.old) }
+        ensures growth { IsGrowthBy core self.old.entries self.new.entries }
+    {
+        self.record_in_room(Step::ResumeInterrupt { core, task })
+    }
+
     /// Makes the tick interrupt, which core 0 serves (`xTaskIncrementTick`), and records it; G1
     /// where there is no room for that, which changes nothing.
     #[inline(always)]
@@ -259,8 +274,8 @@ impl Recording {
     }
 
     /// Does what the core would do next, as [`Recording::call`], [`Recording::interrupt`],
-    /// [`Recording::interrupt_queue`], [`Recording::tick`] or [`Recording::switch`], with their
-    /// refusals.
+    /// [`Recording::interrupt_queue`], [`Recording::interrupt_resume`], [`Recording::tick`] or
+    /// [`Recording::switch`], with their refusals.
     #[inline(always)]
     pub fn perform(&mut self, core: u32, core_action: CoreAction) -> Result<Answer, RecordRefusal>
         requires core { core < self.old.header.config.cores }
@@ -277,6 +292,7 @@ impl Recording {
             CoreAction::QueueInterrupt { queue, direction } => {
                 self.interrupt_queue(core, queue, direction)
             }
+            CoreAction::ResumeInterrupt { task } => self.interrupt_resume(core, task),
             CoreAction::Tick => self.tick(),
             CoreAction::Switch => self.switch(core),
         }
@@ -375,7 +391,9 @@ impl Recording {
             Step::Tick
             | Step::Switch { .. }
             | Step::Interrupt { .. }
-            | Step::QueueInterrupt { .. } => 1,
+            | Step::QueueInterrupt { .. }
+            | Step::ResumeInterrupt { .. }
+            | Step::Pass { .. } => 1,
             Step::Call { core, call, .. } => match call {
                 Call::HoldOpen => 2,
                 Call::HoldClose if self.holder() == Some(core) => 0,
@@ -395,6 +413,8 @@ impl Recording {
                 Step::Tick
                 | Step::Interrupt { .. }
                 | Step::QueueInterrupt { .. }
+                | Step::ResumeInterrupt { .. }
+                | Step::Pass { .. }
                 | Step::Call { .. },
                 _,
             ) => false,

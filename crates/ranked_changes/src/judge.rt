@@ -16,9 +16,10 @@ use std::alloc::{AllocError, Global};
 /// Which number of a subject is looked at.
 #[derive(Clone, Copy, Debug, PartialEq, Eq)]
 pub enum Measure {
-    /// How many ticks, steps or calls there are, or the greatest priority.
+    /// How many units of time, steps or calls there are, or the greatest priority or number of
+    /// messages.
     Total,
-    /// The most ticks in a row that find the condition; 0 of another subject.
+    /// The most time in a row that finds the condition, in units; 0 of another subject.
     Longest,
 }
 
@@ -35,12 +36,12 @@ pub struct Judge {
 #[derive(Clone, Copy, Debug, PartialEq, Eq, PartialOrd, Ord)]
 pub enum Verdict {
     /// The number.
-    Number(u32),
+    Number(u64),
     /// The settled run has more steps than a session may have.
     TooLong,
 }
 
-fn number_of(measure: Measure, reading: Reading) -> u32
+fn number_of(measure: Measure, reading: Reading) -> u64
     ensures { result ≡ number_of measure reading }
 {
     match measure {
@@ -56,7 +57,7 @@ fn number_in(
     run: &CheckedSession,
     left: &[WaitingCall],
     judge: Judge,
-) -> Result<u32, AllocError>
+) -> Result<u64, AllocError>
     requires left { length left.now < 2 ^ 32 }
     requires known { IsSubjectOf (settings_of run.now.header) judge.subject }
     ensures number { IfOk result

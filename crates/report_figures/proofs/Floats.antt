@@ -1,7 +1,7 @@
 -- The JSON of figures has no floats.
 use Rattle.std.proofs.Common.{◌≡◌, ℕ, ℤ, pos, negsuc, Bool, true, false, ◌||◌, List, [], ◌∷◌, length, refl, Option, Some, None, Ordering, Less, Equal, Greater}
 use Rattle.std.proofs.Common.{nat_cmp}
-use Rattle.std.specs.Prelude.{fold}
+use Rattle.std.specs.Prelude.{◌==◌, fold, if◌then◌else◌}
 use Rattle.std.specs.Ordering.{match_ordering}
 use Rattle.std.specs.Cmp.Lexicographic.{slice_cmp}
 use Rattle.list_orders.specs.Search.{numbers}
@@ -13,7 +13,7 @@ use Rattle.report_figures.specs.declared.figures.Figure.{Figure}
 use Rattle.report_figures.specs.declared.figures.Part.{Part}
 use Rattle.report_figures.specs.declared.figures.Part.TheVariants.{Total, Longest}
 use Rattle.report_figures.specs.Names.{figure_name}
-use Rattle.report_figures.specs.Objects.{change_at, changes_data, figures_data, pair_data, places_data, put_place, run_data, values_data, with_change, with_place}
+use Rattle.report_figures.specs.Objects.{change_at, changes_data, figures_data, pair_data, places_data, put_place, run_data, run_object, run_object_in, runs_object, runs_object_in, values_data, with_change, with_place}
 use Rattle.report_figures.specs.Objects.{with_value}
 use Rattle.report_figures.specs.Table.{name_at}
 
@@ -74,13 +74,29 @@ module _ (header : Header) where
       (integer_free (change_at before after index)) free) refl
 
   pub run_free : (figures : List Figure) (settled : Bool) → has_float (run_data header figures settled) ≡ false
-  run_free figures settled = rw (places_free figures, values_free figures) refl
+  run_free figures settled = at (header.config.units == 1)
+    where
+      at : (one : Bool)
+          → has_float (if one then run_object (places_data header figures) settled (values_data header figures)
+          else run_object_in header.config.units (places_data header figures) settled (values_data header figures)) ≡ false
+      at true = rw (places_free figures, values_free figures) refl
+      at false = rw (places_free figures, values_free figures) refl
 
   figures_free : (figures : List Figure) → has_float (figures_data header figures) ≡ false
   figures_free figures = rw (places_free figures, values_free figures) refl
 
   pub pair_free : (before after : List Figure) (settled : Bool) → has_float (pair_data header before after settled) ≡ false
-  pair_free before after settled =
-      both_free (has_float (figures_data header after)) _ (figures_free after)
-      (both_free (has_float (figures_data header before)) _ (figures_free before)
-      (both_free (has_float (changes_data header before after)) false (changes_free before after) refl))
+  pair_free before after settled = at (header.config.units == 1)
+    where
+      at : (one : Bool)
+          → has_float (if one then runs_object (figures_data header after) (figures_data header before) (changes_data header before after) settled
+          else runs_object_in header.config.units (figures_data header after) (figures_data header before) (changes_data header before after) settled)
+          ≡ false
+      at true =
+          both_free (has_float (figures_data header after)) _ (figures_free after)
+          (both_free (has_float (figures_data header before)) _ (figures_free before)
+          (both_free (has_float (changes_data header before after)) false (changes_free before after) refl))
+      at false =
+          both_free (has_float (figures_data header after)) _ (figures_free after)
+          (both_free (has_float (figures_data header before)) _ (figures_free before)
+          (both_free (has_float (changes_data header before after)) false (changes_free before after) refl))

@@ -9,12 +9,12 @@ use Rattle.list_orders.proofs.Stamped.{numbers_below}
 use Rattle.bench_types.specs.declared.header.Header.{Header}
 use Rattle.bench_types.specs.Step.{settings_of}
 use Rattle.run_numbers.specs.declared.subject.Cause.TheVariants.{Mutex, AnyQueue}
-use Rattle.run_numbers.specs.declared.subject.Condition.TheVariants.{RunningOn, Blocked}
+use Rattle.run_numbers.specs.declared.subject.Condition.TheVariants.{RunningOn, Blocked, Suspended}
 use Rattle.run_numbers.specs.declared.subject.Subject.{Subject}
-use Rattle.run_numbers.specs.declared.subject.Subject.TheVariants.{Ticks, NotMade}
+use Rattle.run_numbers.specs.declared.subject.Subject.TheVariants.{Time, NotMade}
 use Rattle.run_numbers.specs.Readings.{IsSubjectOf}
 use Rattle.report_figures.specs.Subjects.{on_core, off_core, blocked_at, blocked_on, blocked_ways, steps_of, refusals_of, task_subjects, user_subjects, core_subjects, mutex_subjects, queue_subjects, queues_of, waits_of}
-use Rattle.report_figures.specs.Subjects.{subjects_of}
+use Rattle.report_figures.specs.Subjects.{can_suspend, subjects_of, suspended_in}
 
 all_map : {X : Type 0} (P : X → Type 0) (f : ℕ → X) (ns : List ℕ) → AllByRecursion (λ n. P (f n)) ns → AllByRecursion P (map f ns)
 all_map P f [] each = tt
@@ -37,30 +37,36 @@ module _ (header : Header) where
           (All_each (λ (queue : ℕ). AllByRecursion Fits (blocked_ways task queue)) (λ queue. (below, (below, tt))) (numbers (queues_of header)))
 
       at : (none : Bool)
-          → AllByRecursion Fits (if none then [] else Ticks (Blocked task AnyQueue) ∷ flat_map (blocked_ways task) (numbers (queues_of header)))
+          → AllByRecursion Fits (if none then [] else Time (Blocked task AnyQueue) ∷ flat_map (blocked_ways task) (numbers (queues_of header)))
       at true = tt
       at false = (below, ways)
 
+  suspended_fits : (suspends : Bool) (task : ℕ) → task < header.config.cores + length header.tasks → AllByRecursion Fits (suspended_in suspends task)
+  suspended_fits true task below = (below, tt)
+  suspended_fits false task below = tt
+
   waits_fit : (task : ℕ) → task < header.config.cores + length header.tasks
-      → AllByRecursion Fits (waits_of header.config.mutexes (queues_of header) task)
+      → AllByRecursion Fits (waits_of header.config.mutexes (queues_of header) (can_suspend header) task)
   unfolding waits_of
   waits_fit task below =
       let blocked : AllByRecursion Fits (blocked_on header.config.mutexes task) =
-      all_map Fits (λ mutex. Ticks (Blocked task (Mutex mutex))) (numbers header.config.mutexes)
+      all_map Fits (λ mutex. Time (Blocked task (Mutex mutex))) (numbers header.config.mutexes)
       (All_each (λ (mutex : ℕ). task < header.config.cores + length header.tasks) (λ mutex. below) (numbers header.config.mutexes)) in
-      All-append Fits (blocked_on header.config.mutexes task) (blocked_at (queues_of header) task) blocked (queues_wait task below)
+      All-append Fits (blocked_on header.config.mutexes task ++ blocked_at (queues_of header) task) (suspended_in (can_suspend header) task)
+      (All-append Fits (blocked_on header.config.mutexes task) (blocked_at (queues_of header) task) blocked (queues_wait task below))
+      (suspended_fits (can_suspend header) task below)
 
-  task_fits : (task : ℕ) → task < header.config.cores + length header.tasks → AllByRecursion Fits (task_subjects header.config (queues_of header) task)
+  task_fits : (task : ℕ) → task < header.config.cores + length header.tasks → AllByRecursion Fits (task_subjects header.config (queues_of header) (can_suspend header) task)
   unfolding task_subjects
   task_fits task below =
       let on : AllByRecursion Fits (on_core header.config.cores task) =
-      (below, all_map Fits (λ core. Ticks (RunningOn task core)) (numbers header.config.cores) (numbers_below header.config.cores)) in
+      (below, all_map Fits (λ core. Time (RunningOn task core)) (numbers header.config.cores) (numbers_below header.config.cores)) in
       let off : AllByRecursion Fits (off_core task) = (below, (below, (below, (below, (below, (below, tt)))))) in
       let steps : AllByRecursion Fits (steps_of task) = (tt, (below, (below, (tt, tt)))) in
       let refused : AllByRecursion Fits (refusals_of task) = (tt, (tt, (tt, (tt, (tt, (tt, (tt, (tt, (tt, tt))))))))) in
       let last : AllByRecursion Fits (NotMade task ∷ []) = (tt, tt) in
       let on_cores = on_core header.config.cores task in
-      let waits = waits_of header.config.mutexes (queues_of header) task in
+      let waits = waits_of header.config.mutexes (queues_of header) (can_suspend header) task in
       let two = on_cores ++ off_core task in
       let three = two ++ waits in
       let four = three ++ steps_of task in
@@ -71,10 +77,10 @@ module _ (header : Header) where
       refused)
       last
 
-  users_fit : AllByRecursion Fits (user_subjects header.config (queues_of header) (length header.tasks))
+  users_fit : AllByRecursion Fits (user_subjects header.config (queues_of header) (can_suspend header) (length header.tasks))
   users_fit =
-      all_flat_map Fits (λ user. task_subjects header.config (queues_of header) (header.config.cores + user)) (numbers (length header.tasks))
-      (All-weaker (λ user. user < length header.tasks) (λ user. AllByRecursion Fits (task_subjects header.config (queues_of header) (header.config.cores + user)))
+      all_flat_map Fits (λ user. task_subjects header.config (queues_of header) (can_suspend header) (header.config.cores + user)) (numbers (length header.tasks))
+      (All-weaker (λ user. user < length header.tasks) (λ user. AllByRecursion Fits (task_subjects header.config (queues_of header) (can_suspend header) (header.config.cores + user)))
       (λ user below. task_fits (header.config.cores + user) (omega arith)) (numbers (length header.tasks)) (numbers_below (length header.tasks)))
 
   cores_fit : AllByRecursion Fits (flat_map core_subjects (numbers header.config.cores))
@@ -97,7 +103,7 @@ module _ (header : Header) where
 
   pub subjects_fit : All (IsSubjectOf (settings_of header)) (subjects_of header)
   subjects_fit =
-      let users = user_subjects header.config (queues_of header) (length header.tasks) in
+      let users = user_subjects header.config (queues_of header) (can_suspend header) (length header.tasks) in
       let cores = flat_map core_subjects (numbers header.config.cores) in
       let mutexes = flat_map mutex_subjects (numbers header.config.mutexes) in
       let queues = flat_map queue_subjects (numbers (queues_of header)) in

@@ -3,13 +3,13 @@ use Rattle.std.specs.Prelude.{ℕ, ◌==◌, List, [], ◌∷◌, Option, Some, 
 use Rattle.run_numbers.specs.declared.subject.Measured.{Measured}
 use Rattle.run_numbers.specs.declared.subject.Reading.{Reading}
 use Rattle.run_numbers.specs.declared.subject.Subject.{Subject}
-use Rattle.run_numbers.specs.declared.subject.Subject.TheVariants.{Ticks}
+use Rattle.run_numbers.specs.declared.subject.Subject.TheVariants.{Time}
 use Rattle.report_figures.specs.declared.figures.Figure.{Figure}
 use Rattle.report_figures.specs.declared.figures.Part.TheVariants.{Total, Longest}
 
--- where the longest stretch begins: of a condition that ticks found
+-- where the longest stretch begins: of a condition that some time found
 abbrev pub place_in : Subject → Reading → Option ℕ
-place_in (Ticks condition) reading =
+place_in (Time condition) reading =
     if reading.longest == 0 then None else Some reading.from
 place_in subject reading = None
 
@@ -33,7 +33,7 @@ stretch_in measured = record {
 
 -- the longest stretch, which only a condition has
 abbrev pub stretches_in : Subject → Measured → List Figure
-stretches_in (Ticks condition) measured = stretch_in measured ∷ []
+stretches_in (Time condition) measured = stretch_in measured ∷ []
 stretches_in subject measured = []
 
 -- the figures of a subject: its total, and the longest stretch of a condition

@@ -5,7 +5,7 @@ use Rattle.report_figures.specs.declared.figures.Figure.{Figure}
 use Rattle.report_figures.specs.declared.limits.Bound.{Bound}
 use Rattle.report_figures.specs.declared.limits.Bound.TheVariants.{AtMost, AtLeast}
 use Rattle.report_figures.specs.declared.limits.Limit.{Limit}
-use Rattle.report_figures.specs.Names.{figure_name}
+use Rattle.report_figures.specs.Names.{figure_name, unit_text}
 
 -- the figure has the name
 abbrev pub has_name : Header → List ℕ → Figure → Bool
@@ -36,6 +36,7 @@ from_text (Some place) = codes "; the longest stretch begins at place " ++ decim
 unfoldable pub value_text : Header → Figure → List ℕ
 value_text header figure =
     figure_name header figure.subject figure.part ++ codes " is " ++ decimal figure.value
+    ++ unit_text header figure.subject
 
 -- a line with the value of a figure and what it may be
 unfoldable pub unkept_line : Header → Figure → Bound → List ℕ

@@ -1,5 +1,5 @@
 -- The names of figures.
-use Rattle.std.specs.Prelude.{ℕ, List, [], ◌++◌, codes, decimal}
+use Rattle.std.specs.Prelude.{ℕ, ◌==◌, List, [], ◌++◌, codes, decimal, if◌then◌else◌}
 use Rattle.bench_types.specs.Codes.{refusal_code}
 use Rattle.bench_types.specs.declared.header.Header.{Header}
 use Rattle.bench_types.specs.declared.step.Direction.{Direction}
@@ -8,11 +8,11 @@ use Rattle.bench_types.specs.Header.{name_of}
 use Rattle.run_numbers.specs.declared.subject.Cause.{Cause}
 use Rattle.run_numbers.specs.declared.subject.Cause.TheVariants.{Delay, Notification, AnyMutex, Mutex, AnyQueue, Queue}
 use Rattle.run_numbers.specs.declared.subject.Condition.{Condition}
-use Rattle.run_numbers.specs.declared.subject.Condition.TheVariants.{Running, RunningOn, WantsCore, Inverted, Blocked, HeldUp, Busy, Idle, Due, Held, Empty, Full}
+use Rattle.run_numbers.specs.declared.subject.Condition.TheVariants.{Running, RunningOn, WantsCore, Inverted, Blocked, HeldUp, Suspended, Busy, Idle, Due, Held, Empty, Full}
 use Rattle.run_numbers.specs.declared.subject.Event.{Event}
 use Rattle.run_numbers.specs.declared.subject.Event.TheVariants.{SwitchedIn, Inherits, TimesOut, Refused, Awaited, QueueAwaited}
 use Rattle.run_numbers.specs.declared.subject.Subject.{Subject}
-use Rattle.run_numbers.specs.declared.subject.Subject.TheVariants.{Ticks, Steps, TopPriority, MostMessages, NotMade}
+use Rattle.run_numbers.specs.declared.subject.Subject.TheVariants.{Time, Steps, TopPriority, MostMessages, NotMade}
 use Rattle.report_figures.specs.declared.figures.Part.{Part}
 use Rattle.report_figures.specs.declared.figures.Part.TheVariants.{Total, Longest}
 
@@ -41,6 +41,7 @@ condition_name header (Inverted task) = name_of header task ++ codes ".ready.inv
 condition_name header (Blocked task cause) =
     name_of header task ++ codes ".blocked." ++ cause_name cause
 condition_name header (HeldUp task) = name_of header task ++ codes ".blocked.mutex.held_up"
+condition_name header (Suspended task) = name_of header task ++ codes ".suspended"
 condition_name header (Busy core) = codes "core." ++ decimal core ++ codes ".user"
 condition_name header (Idle core) = codes "core." ++ decimal core ++ codes ".idle"
 condition_name header (Due core) = codes "core." ++ decimal core ++ codes ".due"
@@ -60,7 +61,7 @@ event_name header (QueueAwaited queue) = codes "queue." ++ decimal queue ++ code
 
 -- the name of a subject
 unfoldable pub subject_name : Header → Subject → List ℕ
-subject_name header (Ticks condition) = condition_name header condition
+subject_name header (Time condition) = condition_name header condition
 subject_name header (Steps event) = event_name header event
 subject_name header (TopPriority task) = name_of header task ++ codes ".top_priority"
 subject_name header (MostMessages queue) =
@@ -71,6 +72,16 @@ subject_name header (NotMade task) = name_of header task ++ codes ".not_made"
 abbrev pub part_name : Part → List ℕ
 part_name Total = []
 part_name Longest = codes ".longest"
+
+-- the unit of a number of time, where a tick has more than one
+abbrev pub unit_text : Header → Subject → List ℕ
+unit_text header (Time condition) = if header.config.units == 1 then [] else codes " units"
+unit_text header subject = []
+
+-- how many units a tick has, where it has more than one
+abbrev pub units_line : Header → List ℕ
+units_line header = if header.config.units == 1 then []
+    else codes "time in units, " ++ decimal header.config.units ++ codes " a tick\n"
 
 -- the name of a figure
 abbrev pub figure_name : Header → Subject → Part → List ℕ

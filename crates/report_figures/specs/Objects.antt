@@ -1,5 +1,5 @@
 -- Figures as JSON.
-use Rattle.std.specs.Prelude.{ℕ, ℤ, pos, ◌-ℤ◌, Bool, List, ◌++◌, length, fold, codes, Option, Some}
+use Rattle.std.specs.Prelude.{ℕ, ℤ, pos, ◌-◌, ◌-ℤ◌, ◌^◌, ◌==◌, min, if◌then◌else◌, Bool, List, ◌++◌, length, fold, codes, Option, Some}
 use Rattle.list_orders.specs.Search.{numbers}
 use Rattle.serde_json.specs.Data.{Data, Members, number, unsigned, boolean, object, no_members, member, put}
 use Rattle.serde_json.specs.Find.{of_integer}
@@ -26,9 +26,14 @@ abbrev pub with_place : Header → Members → Figure → Members
 with_place header members figure =
     put_place figure.part figure.from (figure_name header figure.subject figure.part) members
 
+-- the value, or the greatest one that has a sign, which no number of a run reaches
+abbrev pub signed : ℕ → ℕ
+signed value = min value (2 ^ 63 - 1)
+
 -- what the second run has more at an index
 abbrev pub change_at : List Figure → List Figure → ℕ → ℤ
-change_at before after index = pos (value_at after index) -ℤ pos (value_at before index)
+change_at before after index =
+    pos (signed (value_at after index)) -ℤ pos (signed (value_at before index))
 
 -- the members with the change at an index, under the name that it has in the first run
 abbrev pub with_change : Header → List Figure → List Figure → Members → ℕ → Members
@@ -54,10 +59,20 @@ run_object places settled values =
     object (member (codes "places") places (member (codes "settled") (boolean settled)
     (member (codes "values") values no_members)))
 
--- a run of figures
+-- the same, of times in so many units a tick
+abbrev pub run_object_in : ℕ → Data → Bool → Data → Data
+run_object_in units places settled values =
+    object (member (codes "places") places (member (codes "settled") (boolean settled)
+    (member (codes "units") (number (unsigned units))
+    (member (codes "values") values no_members))))
+
+-- a run of figures, with the units of a tick where it has more than one
 abbrev pub run_data : Header → List Figure → Bool → Data
 run_data header figures settled =
-    run_object (places_data header figures) settled (values_data header figures)
+    if header.config.units == 1
+    then run_object (places_data header figures) settled (values_data header figures)
+    else run_object_in header.config.units (places_data header figures) settled
+    (values_data header figures)
 
 -- the places and values of figures
 abbrev pub figures_data : Header → List Figure → Data
@@ -71,11 +86,21 @@ runs_object after before change settled =
     object (member (codes "after") after (member (codes "before") before
     (member (codes "change") change (member (codes "settled") (boolean settled) no_members))))
 
--- two runs of figures
+-- the same, of times in so many units a tick
+abbrev pub runs_object_in : ℕ → Data → Data → Data → Bool → Data
+runs_object_in units after before change settled =
+    object (member (codes "after") after (member (codes "before") before
+    (member (codes "change") change (member (codes "settled") (boolean settled)
+    (member (codes "units") (number (unsigned units)) no_members)))))
+
+-- two runs of figures, with the units of a tick where it has more than one
 abbrev pub pair_data : Header → List Figure → List Figure → Bool → Data
 pair_data header before after settled =
-    runs_object (figures_data header after) (figures_data header before)
+    if header.config.units == 1
+    then runs_object (figures_data header after) (figures_data header before)
     (changes_data header before after) settled
+    else runs_object_in header.config.units (figures_data header after)
+    (figures_data header before) (changes_data header before after) settled
 
 -- a run, written without spaces, and a line feed
 unfoldable pub run_json : Header → List Figure → Bool → List ℕ

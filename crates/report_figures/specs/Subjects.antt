@@ -1,5 +1,5 @@
 -- What a run of a session is measured by.
-use Rattle.std.specs.Prelude.{ℕ, ◌+◌, ◌==◌, List, [], ◌∷◌, ◌++◌, length, map, flat_map, if◌then◌else◌}
+use Rattle.std.specs.Prelude.{ℕ, ◌+◌, ◌==◌, Bool, List, [], ◌∷◌, ◌++◌, length, map, flat_map, if◌then◌else◌, is_some}
 use Rattle.list_orders.specs.Search.{numbers}
 use Rattle.bench_types.specs.declared.header.Config.{Config}
 use Rattle.bench_types.specs.declared.header.Header.{Header}
@@ -11,41 +11,46 @@ use Rattle.run_numbers.specs.declared.subject.Cause.TheVariants.{Delay, Notifica
 use Rattle.run_numbers.specs.declared.subject.Condition.TheVariants as condition
 use Rattle.run_numbers.specs.declared.subject.Event.TheVariants as event
 use Rattle.run_numbers.specs.declared.subject.Subject.{Subject}
-use Rattle.run_numbers.specs.declared.subject.Subject.TheVariants.{Ticks, Steps, TopPriority, MostMessages, NotMade}
+use Rattle.run_numbers.specs.declared.subject.Subject.TheVariants.{Time, Steps, TopPriority, MostMessages, NotMade}
 
 -- the task is on a core, whichever, and on each
 abbrev pub on_core : ℕ → ℕ → List Subject
 on_core cores task =
-    Ticks (condition.Running task)
-    ∷ map (λ core. Ticks (condition.RunningOn task core)) (numbers cores)
+    Time (condition.Running task)
+    ∷ map (λ core. Time (condition.RunningOn task core)) (numbers cores)
 
 -- the task is on no core; what it waits for, mutex by mutex and queue by queue, comes after
 abbrev pub off_core : ℕ → List Subject
 off_core task =
-    Ticks (condition.WantsCore task) ∷ Ticks (condition.Inverted task)
-    ∷ Ticks (condition.Blocked task Delay) ∷ Ticks (condition.Blocked task Notification)
-    ∷ Ticks (condition.Blocked task AnyMutex) ∷ Ticks (condition.HeldUp task) ∷ []
+    Time (condition.WantsCore task) ∷ Time (condition.Inverted task)
+    ∷ Time (condition.Blocked task Delay) ∷ Time (condition.Blocked task Notification)
+    ∷ Time (condition.Blocked task AnyMutex) ∷ Time (condition.HeldUp task) ∷ []
 
 -- the task waits for each of the mutexes
 abbrev pub blocked_on : ℕ → ℕ → List Subject
 blocked_on mutexes task =
-    map (λ mutex. Ticks (condition.Blocked task (Mutex mutex))) (numbers mutexes)
+    map (λ mutex. Time (condition.Blocked task (Mutex mutex))) (numbers mutexes)
 
 -- the task waits at the queue for one way of a message, and for the other
 abbrev pub blocked_ways : ℕ → ℕ → List Subject
 blocked_ways task queue =
-    Ticks (condition.Blocked task (Queue queue Send))
-    ∷ Ticks (condition.Blocked task (Queue queue Receive)) ∷ []
+    Time (condition.Blocked task (Queue queue Send))
+    ∷ Time (condition.Blocked task (Queue queue Receive)) ∷ []
 
 -- the task waits at a queue, whichever, and at each; without queues nothing is measured of that
 abbrev pub blocked_at : ℕ → ℕ → List Subject
 blocked_at queues task = if queues == 0 then []
-    else Ticks (condition.Blocked task AnyQueue)
+    else Time (condition.Blocked task AnyQueue)
     ∷ flat_map (blocked_ways task) (numbers queues)
 
--- the task waits for each of the mutexes, and at queues
-unfoldable pub waits_of : ℕ → ℕ → ℕ → List Subject
-waits_of mutexes queues task = blocked_on mutexes task ++ blocked_at queues task
+-- the task is suspended, where tasks can be
+abbrev pub suspended_in : Bool → ℕ → List Subject
+suspended_in suspends task = if suspends then Time (condition.Suspended task) ∷ [] else []
+
+-- the task waits for each of the mutexes, and at queues, or is suspended
+unfoldable pub waits_of : ℕ → ℕ → Bool → ℕ → List Subject
+waits_of mutexes queues suspends task =
+    blocked_on mutexes task ++ blocked_at queues task ++ suspended_in suspends task
 
 -- what steps are to the task, and its greatest priority
 abbrev pub steps_of : ℕ → List Subject
@@ -64,39 +69,43 @@ abbrev pub refusals_of : ℕ → List Subject
 refusals_of task = map (λ why. Steps (event.Refused task why)) refusals
 
 -- all that is measured of a task
-unfoldable pub task_subjects : Config → ℕ → ℕ → List Subject
-task_subjects config queues task =
-    on_core config.cores task ++ off_core task ++ waits_of config.mutexes queues task
+unfoldable pub task_subjects : Config → ℕ → Bool → ℕ → List Subject
+task_subjects config queues suspends task =
+    on_core config.cores task ++ off_core task ++ waits_of config.mutexes queues suspends task
     ++ steps_of task ++ refusals_of task ++ NotMade task ∷ []
 
 -- of so many user tasks, whose numbers follow those of the idle tasks
-abbrev pub user_subjects : Config → ℕ → ℕ → List Subject
-user_subjects config queues count =
-    flat_map (λ user. task_subjects config queues (config.cores + user)) (numbers count)
+abbrev pub user_subjects : Config → ℕ → Bool → ℕ → List Subject
+user_subjects config queues suspends count =
+    flat_map (λ user. task_subjects config queues suspends (config.cores + user)) (numbers count)
 
 -- all that is measured of a core
 abbrev pub core_subjects : ℕ → List Subject
 core_subjects core =
-    Ticks (condition.Busy core) ∷ Ticks (condition.Idle core) ∷ Ticks (condition.Due core) ∷ []
+    Time (condition.Busy core) ∷ Time (condition.Idle core) ∷ Time (condition.Due core) ∷ []
 
 -- all that is measured of a mutex
 abbrev pub mutex_subjects : ℕ → List Subject
-mutex_subjects mutex = Ticks (condition.Held mutex) ∷ Steps (event.Awaited mutex) ∷ []
+mutex_subjects mutex = Time (condition.Held mutex) ∷ Steps (event.Awaited mutex) ∷ []
 
 -- all that is measured of a queue
 abbrev pub queue_subjects : ℕ → List Subject
 queue_subjects queue =
-    MostMessages queue ∷ Ticks (condition.Empty queue) ∷ Ticks (condition.Full queue)
+    MostMessages queue ∷ Time (condition.Empty queue) ∷ Time (condition.Full queue)
     ∷ Steps (event.QueueAwaited queue) ∷ []
 
 -- how many queues a session has
 abbrev pub queues_of : Header → ℕ
 queues_of header = queue_total (settings_of header)
 
+-- Tasks can be suspended in a session of format 3, which says its queues.
+abbrev pub can_suspend : Header → Bool
+can_suspend header = is_some header.queues
+
 -- task by task, core by core, mutex by mutex, queue by queue
 abbrev pub subjects_of : Header → List Subject
 subjects_of header =
-    user_subjects header.config (queues_of header) (length header.tasks)
+    user_subjects header.config (queues_of header) (can_suspend header) (length header.tasks)
     ++ flat_map core_subjects (numbers header.config.cores)
     ++ flat_map mutex_subjects (numbers header.config.mutexes)
     ++ flat_map queue_subjects (numbers (queues_of header))

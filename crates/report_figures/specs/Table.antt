@@ -6,7 +6,7 @@ use Rattle.bench_types.specs.declared.header.Header.{Header}
 use Rattle.report_figures.specs.declared.figures.Figure.{Figure}
 use Rattle.report_figures.specs.declared.figures.Part.{Part}
 use Rattle.report_figures.specs.declared.figures.Part.TheVariants.{Total, Longest}
-use Rattle.report_figures.specs.Names.{figure_name}
+use Rattle.report_figures.specs.Names.{figure_name, units_line}
 
 -- so many spaces
 abbrev pub spaces : ℕ → List ℕ
@@ -31,10 +31,10 @@ run_line header figure = if figure.value == 0 then []
     else right_aligned (decimal figure.value) ++ codes " "
     ++ figure_name header figure.subject figure.part ++ place_text figure ++ codes "\n"
 
--- a line of heads, and the lines of the figures
+-- the units of time, a line of heads, and the lines of the figures
 abbrev pub run_table : Header → List Figure → List ℕ
 run_table header figures =
-    codes "     value number\n" ++ flat_map (run_line header) figures
+    units_line header ++ codes "     value number\n" ++ flat_map (run_line header) figures
 
 -- the value of the figure at an index, 0 where there is none
 abbrev pub value_at : List Figure → ℕ → ℕ
@@ -66,8 +66,8 @@ pair_line header before after index =
     else values_text (value_at before index) (value_at after index)
     ++ name_at header before index ++ codes "\n"
 
--- a line of heads, and the lines of the indices
+-- the units of time, a line of heads, and the lines of the indices
 abbrev pub runs_table : Header → List Figure → List Figure → List ℕ
 runs_table header before after =
-    codes "    before      after     change number\n"
+    units_line header ++ codes "    before      after     change number\n"
     ++ flat_map (pair_line header before after) (numbers (length before))

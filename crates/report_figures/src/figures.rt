@@ -8,9 +8,9 @@ use std::alloc::{AllocError, Global};
 /// Which number of a subject is meant.
 #[derive(Clone, Copy, Debug, PartialEq, Eq)]
 pub enum Part {
-    /// All ticks, steps or calls, or the greatest priority.
+    /// All units of time, steps or calls, or the greatest priority or number of messages.
     Total,
-    /// The most ticks in a row.
+    /// The most units of time in a row.
     Longest,
 }
 
@@ -19,7 +19,7 @@ pub enum Part {
 pub struct Figure {
     pub subject: Subject,
     pub part: Part,
-    pub value: u32,
+    pub value: u64,
     /// The place where the longest stretch begins, where there is one.
     pub from: Option<u32>,
 }
@@ -41,7 +41,7 @@ fn push_figures(figures: &mut Vec<Figure>, measured: Measured) -> Result<(), All
 {
     figures.push(total_in(measured))?;
     match measured.subject {
-        Subject::Ticks(_) => {
+        Subject::Time(_) => {
             figures.push(stretch_in(measured))?;
             Ok(())
         }
@@ -75,7 +75,7 @@ fn place_in(subject: Subject, reading: Reading) -> Option<u32>
     ensures { result ≡ place_in subject reading }
 {
     match subject {
-        Subject::Ticks(_) => {
+        Subject::Time(_) => {
             if reading.longest == 0 {
                 None
             } else {

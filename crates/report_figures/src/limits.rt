@@ -3,7 +3,7 @@ ghost use Rattle.std.specs.Prelude.{◌≡◌, ◌++◌, ◌↔◌, IfOk, IsTrue
 ghost use Rattle.report_figures.specs.Limits.{bound_text, from_text, has_name, is_kept, limit_line, name_line, unkept_line, value_text, Keeps};
 
 use crate::figures::Figure;
-use crate::names::push_name;
+use crate::names::{push_name, push_unit};
 use bench_types::Header;
 use std::alloc::{AllocError, Global};
 
@@ -11,9 +11,9 @@ use std::alloc::{AllocError, Global};
 #[derive(Clone, Copy, Debug, PartialEq, Eq)]
 pub enum Bound {
     /// This or less.
-    AtMost(u32),
+    AtMost(u64),
     /// This or more.
-    AtLeast(u32),
+    AtLeast(u64),
 }
 
 /// A figure with what its value may be.
@@ -50,7 +50,7 @@ fn has_name(alloc: Global, header: &Header, figure: Figure, name: &str) -> Resul
 }
 
 /// Whether the value is one that it may be.
-pub fn is_kept(bound: Bound, value: u32) -> bool
+pub fn is_kept(bound: Bound, value: u64) -> bool
     ensures test { result ≡ is_kept bound value }
     ensures kept { IsTrue result ↔ Keeps bound value }
 {
@@ -85,7 +85,8 @@ pub fn push_value(text: &mut String, header: &Header, figure: Figure) -> Result<
         (string_bytes text.new ≡ string_bytes text.old ++ value_text header.now figure) }
 {
     push_name(text, header, figure.subject, figure.part)?;
-    write!(text, " is {}", figure.value)
+    write!(text, " is {}", figure.value)?;
+    push_unit(text, header, figure.subject)
 }
 
 fn push_bound(text: &mut String, bound: Bound) -> Result<(), AllocError>

@@ -1,7 +1,7 @@
 //! The names of figures.
 ghost use Rattle.std.specs.Prelude.{◌≡◌, ◌++◌, OnOk, decimal, string_bytes};
 ghost use Rattle.bench_types.specs.Header.{name_of};
-ghost use Rattle.report_figures.specs.Names.{cause_name, condition_name, direction_name, event_name, figure_name, part_name, subject_name};
+ghost use Rattle.report_figures.specs.Names.{cause_name, condition_name, direction_name, event_name, figure_name, part_name, subject_name, unit_text, units_line};
 
 use crate::figures::Part;
 use bench_types::{Direction, Header};
@@ -23,6 +23,32 @@ pub fn push_name(
     text.push_str(part_name(part))
 }
 
+/// Writes the unit of a number of time after the text, where a tick has more than one.
+pub(crate) fn push_unit(
+    text: &mut String,
+    header: &Header,
+    subject: Subject,
+) -> Result<(), AllocError>
+    ensures { OnOk result
+        (string_bytes text.new ≡ string_bytes text.old ++ unit_text header.now subject) }
+{
+    match subject {
+        Subject::Time(_) if header.config.units != 1 => text.push_str(" units"),
+        _ => Ok(()),
+    }
+}
+
+/// Writes after the text how many units of time a tick has, where it has more than one.
+pub(crate) fn push_units(text: &mut String, header: &Header) -> Result<(), AllocError>
+    ensures { OnOk result
+        (string_bytes text.new ≡ string_bytes text.old ++ units_line header.now) }
+{
+    match header.config.units {
+        1 => Ok(()),
+        units => write!(text, "time in units, {units} a tick\n"),
+    }
+}
+
 fn part_name(part: Part) -> &'static str
     ensures { result.now ≡ part_name part }
 {
@@ -38,7 +64,7 @@ fn push_subject(text: &mut String, header: &Header, subject: Subject) -> Result<
         (string_bytes text.new ≡ string_bytes text.old ++ subject_name header.now subject) }
 {
     match subject {
-        Subject::Ticks(condition) => push_condition(text, header, condition),
+        Subject::Time(condition) => push_condition(text, header, condition),
         Subject::Steps(event) => push_event(text, header, event),
         Subject::TopPriority { task } => push_of_task(text, header, task, ".top_priority"),
         Subject::MostMessages { queue } => push_numbered(text, "queue.", queue, ".messages"),
@@ -68,6 +94,7 @@ fn push_condition(
             push_cause(text, cause)
         }
         Condition::HeldUp { task } => push_of_task(text, header, task, ".blocked.mutex.held_up"),
+        Condition::Suspended { task } => push_of_task(text, header, task, ".suspended"),
         Condition::Busy { core } => push_numbered(text, "core.", core, ".user"),
         Condition::Idle { core } => push_numbered(text, "core.", core, ".idle"),
         Condition::Due { core } => push_numbered(text, "core.", core, ".due"),

@@ -1,9 +1,9 @@
 //! Figures as JSON.
-ghost use Rattle.std.specs.Prelude.{◌≡◌, ◌++◌, IfOk, OnOk, codes, false, fold, length, string_bytes};
+ghost use Rattle.std.specs.Prelude.{◌≡◌, ◌++◌, IfOk, OnOk, codes, false, fold, length, pos, string_bytes};
 ghost use Rattle.list_orders.specs.Search.{numbers};
 ghost use Rattle.serde_json.specs.View.{members_view, view};
 ghost use Rattle.serde_json.specs.Written.{compact_text, has_float};
-ghost use Rattle.report_figures.specs.Objects.{change_at, changes_data, figures_data, pair_data, places_data, run_data, run_json, run_object, runs_json, runs_object, values_data, with_change, with_place, with_value};
+ghost use Rattle.report_figures.specs.Objects.{change_at, changes_data, figures_data, pair_data, places_data, run_data, run_json, run_object, run_object_in, runs_json, runs_object, runs_object_in, signed, values_data, with_change, with_place, with_value};
 
 use crate::figures::{Figure, Part};
 use crate::names::push_name;
@@ -65,7 +65,10 @@ fn run_value(
 {
     let places = places_value(alloc, header, figures)?;
     let values = values_value(alloc, header, figures)?;
-    run_object(alloc, places, settled, values)
+    match header.config.units {
+        1 => run_object(alloc, places, settled, values),
+        units => run_object_in(alloc, units, places, settled, values),
+    }
 }
 
 fn run_object(
@@ -78,6 +81,19 @@ fn run_object(
         (λ value. view value ≡ run_object (view places) settled (view values)) }
 {
     json!(in alloc; {"places": places, "settled": settled, "values": values})
+}
+
+fn run_object_in(
+    alloc: Global,
+    units: u32,
+    places: Value,
+    settled: bool,
+    values: Value,
+) -> Result<Value, AllocError>
+    ensures { IfOk result
+        (λ value. view value ≡ run_object_in units (view places) settled (view values)) }
+{
+    json!(in alloc; {"places": places, "settled": settled, "units": units, "values": values})
 }
 
 fn runs_value(
@@ -93,7 +109,10 @@ fn runs_value(
     let second = figures_value(alloc, header, after)?;
     let first = figures_value(alloc, header, before)?;
     let changes = changes_value(alloc, header, before, after)?;
-    runs_object(alloc, second, first, changes, settled)
+    match header.config.units {
+        1 => runs_object(alloc, second, first, changes, settled),
+        units => runs_object_in(alloc, units, second, first, changes, settled),
+    }
 }
 
 fn runs_object(
@@ -107,6 +126,27 @@ fn runs_object(
         (λ value. view value ≡ runs_object (view after) (view before) (view change) settled) }
 {
     json!(in alloc; {"after": after, "before": before, "change": change, "settled": settled})
+}
+
+fn runs_object_in(
+    alloc: Global,
+    units: u32,
+    after: Value,
+    before: Value,
+    change: Value,
+    settled: bool,
+) -> Result<Value, AllocError>
+    ensures { IfOk result
+        (λ value. view value
+        ≡ runs_object_in units (view after) (view before) (view change) settled) }
+{
+    json!(in alloc; {
+        "after": after,
+        "before": before,
+        "change": change,
+        "settled": settled,
+        "units": units
+    })
 }
 
 fn figures_value(alloc: Global, header: &Header, figures: &[Figure]) -> Result<Value, AllocError>
@@ -207,9 +247,16 @@ fn put_change(
     )
 }
 
+// The value, or the greatest one that has a sign.
+fn signed(value: u64) -> i64
+    ensures { result ≡ pos (signed value) }
+{
+    value.min(i64::MAX as u64) as i64
+}
+
 // What the second run has more, less than 0 where it has less.
 fn change_at(before: &[Figure], after: &[Figure], index: usize) -> i64
     ensures { result ≡ change_at before.now after.now index }
 {
-    i64::from(value_at(after, index)) - i64::from(value_at(before, index))
+    signed(value_at(after, index)) - signed(value_at(before, index))
 }

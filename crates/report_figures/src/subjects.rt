@@ -4,7 +4,7 @@ ghost use Rattle.list_orders.specs.Search.{numbers};
 ghost use Rattle.bench_types.specs.Header.{header_check};
 ghost use Rattle.bench_types.specs.Step.{settings_of};
 ghost use Rattle.run_numbers.specs.Readings.{IsSubjectOf};
-ghost use Rattle.report_figures.specs.Subjects.{blocked_at, blocked_on, blocked_ways, core_subjects, mutex_subjects, off_core, on_core, queue_subjects, queues_of, refusals_of, steps_of, subjects_of, task_subjects, user_subjects, waits_of};
+ghost use Rattle.report_figures.specs.Subjects.{blocked_at, blocked_on, blocked_ways, core_subjects, mutex_subjects, off_core, on_core, queue_subjects, queues_of, refusals_of, steps_of, subjects_of, suspended_in, task_subjects, user_subjects, waits_of};
 
 use bench_types::{Config, Direction, Header, Refusal};
 use run_numbers::{Cause, Condition, Event, Subject};
@@ -23,7 +23,14 @@ pub fn subjects_of(alloc: Global, header: &Header) -> Result<Vec<Subject>, Alloc
     let config = header.config;
     let queues = queues_of(header);
     let mut subjects = Vec::new(alloc);
-    push_tasks(&mut subjects, config, queues, header.tasks.as_slice().len())?;
+    let suspends = header.queues.is_some();
+    push_tasks(
+        &mut subjects,
+        config,
+        queues,
+        suspends,
+        header.tasks.as_slice().len(),
+    )?;
     push_cores(&mut subjects, config.cores)?;
     push_mutexes(&mut subjects, config.mutexes)?;
     push_queues(&mut subjects, queues)?;
@@ -42,14 +49,21 @@ fn push_tasks(
     subjects: &mut Vec<Subject>,
     config: Config,
     queues: u32,
+    suspends: bool,
     count: usize,
 ) -> Result<(), AllocError>
     requires { config.cores + count < 2 ^ 32 }
     ensures { OnOk result
-        (subjects.new.items ≡ subjects.old.items ++ user_subjects config queues count) }
+        (subjects.new.items ≡ subjects.old.items ++ user_subjects config queues suspends count) }
 {
     for user in 0..count {
-        push_task(subjects, config, queues, config.cores + user as u32)?;
+        push_task(
+            subjects,
+            config,
+            queues,
+            suspends,
+            config.cores + user as u32,
+        )?;
     }
     Ok(())
 }
@@ -59,14 +73,15 @@ fn push_task(
     subjects: &mut Vec<Subject>,
     config: Config,
     queues: u32,
+    suspends: bool,
     task: u32,
 ) -> Result<(), AllocError>
     ensures { OnOk result
-        (subjects.new.items ≡ subjects.old.items ++ task_subjects config queues task) }
+        (subjects.new.items ≡ subjects.old.items ++ task_subjects config queues suspends task) }
 {
     push_running(subjects, config.cores, task)?;
     push_all(subjects, &off_core(task))?;
-    push_waits(subjects, config.mutexes, queues, task)?;
+    push_waits(subjects, config.mutexes, queues, suspends, task)?;
     push_all(subjects, &steps_of(task))?;
     push_refusals(subjects, task)?;
     subjects.push(Subject::NotMade { task })?;
@@ -85,9 +100,9 @@ fn push_all(subjects: &mut Vec<Subject>, all: &[Subject]) -> Result<(), AllocErr
 fn push_running(subjects: &mut Vec<Subject>, cores: u32, task: u32) -> Result<(), AllocError>
     ensures { OnOk result (subjects.new.items ≡ subjects.old.items ++ on_core cores task) }
 {
-    subjects.push(Subject::Ticks(Condition::Running { task }))?;
+    subjects.push(Subject::Time(Condition::Running { task }))?;
     for core in 0..cores {
-        subjects.push(Subject::Ticks(Condition::RunningOn { task, core }))?;
+        subjects.push(Subject::Time(Condition::RunningOn { task, core }))?;
     }
     Ok(())
 }
@@ -96,12 +111,12 @@ fn off_core(task: u32) -> [Subject; 6]
     ensures { result ≡ off_core task }
 {
     [
-        Subject::Ticks(Condition::WantsCore { task }),
-        Subject::Ticks(Condition::Inverted { task }),
-        Subject::Ticks(blocked(task, Cause::Delay)),
-        Subject::Ticks(blocked(task, Cause::Notification)),
-        Subject::Ticks(blocked(task, Cause::AnyMutex)),
-        Subject::Ticks(Condition::HeldUp { task }),
+        Subject::Time(Condition::WantsCore { task }),
+        Subject::Time(Condition::Inverted { task }),
+        Subject::Time(blocked(task, Cause::Delay)),
+        Subject::Time(blocked(task, Cause::Notification)),
+        Subject::Time(blocked(task, Cause::AnyMutex)),
+        Subject::Time(Condition::HeldUp { task }),
     ]
 }
 
@@ -116,20 +131,22 @@ fn push_waits(
     subjects: &mut Vec<Subject>,
     mutexes: u32,
     queues: u32,
+    suspends: bool,
     task: u32,
 ) -> Result<(), AllocError>
     ensures { OnOk result
-        (subjects.new.items ≡ subjects.old.items ++ waits_of mutexes queues task) }
+        (subjects.new.items ≡ subjects.old.items ++ waits_of mutexes queues suspends task) }
 {
     push_blocked(subjects, mutexes, task)?;
-    push_blocked_at(subjects, queues, task)
+    push_blocked_at(subjects, queues, task)?;
+    push_suspended(subjects, suspends, task)
 }
 
 fn push_blocked(subjects: &mut Vec<Subject>, mutexes: u32, task: u32) -> Result<(), AllocError>
     ensures { OnOk result (subjects.new.items ≡ subjects.old.items ++ blocked_on mutexes task) }
 {
     for mutex in 0..mutexes {
-        subjects.push(Subject::Ticks(blocked(task, Cause::Mutex(mutex))))?;
+        subjects.push(Subject::Time(blocked(task, Cause::Mutex(mutex))))?;
     }
     Ok(())
 }
@@ -140,7 +157,7 @@ fn push_blocked_at(subjects: &mut Vec<Subject>, queues: u32, task: u32) -> Resul
     if queues == 0 {
         return Ok(());
     }
-    subjects.push(Subject::Ticks(blocked(task, Cause::AnyQueue)))?;
+    subjects.push(Subject::Time(blocked(task, Cause::AnyQueue)))?;
     push_all_ways(subjects, queues, task)
 }
 
@@ -165,9 +182,18 @@ fn blocked_ways(task: u32, queue: u32) -> [Subject; 2]
     ensures { result ≡ blocked_ways task queue }
 {
     [
-        Subject::Ticks(blocked_way(task, queue, Direction::Send)),
-        Subject::Ticks(blocked_way(task, queue, Direction::Receive)),
+        Subject::Time(blocked_way(task, queue, Direction::Send)),
+        Subject::Time(blocked_way(task, queue, Direction::Receive)),
     ]
+}
+
+fn push_suspended(subjects: &mut Vec<Subject>, suspends: bool, task: u32) -> Result<(), AllocError>
+    ensures { OnOk result (subjects.new.items ≡ subjects.old.items ++ suspended_in suspends task) }
+{
+    if suspends {
+        subjects.push(Subject::Time(Condition::Suspended { task }))?;
+    }
+    Ok(())
 }
 
 fn steps_of(task: u32) -> [Subject; 4]
@@ -214,9 +240,9 @@ fn push_cores(subjects: &mut Vec<Subject>, cores: u32) -> Result<(), AllocError>
 fn push_core(subjects: &mut Vec<Subject>, core: u32) -> Result<(), AllocError>
     ensures { OnOk result (subjects.new.items ≡ subjects.old.items ++ core_subjects core) }
 {
-    subjects.push(Subject::Ticks(Condition::Busy { core }))?;
-    subjects.push(Subject::Ticks(Condition::Idle { core }))?;
-    subjects.push(Subject::Ticks(Condition::Due { core }))?;
+    subjects.push(Subject::Time(Condition::Busy { core }))?;
+    subjects.push(Subject::Time(Condition::Idle { core }))?;
+    subjects.push(Subject::Time(Condition::Due { core }))?;
     Ok(())
 }
 
@@ -233,7 +259,7 @@ fn push_mutexes(subjects: &mut Vec<Subject>, mutexes: u32) -> Result<(), AllocEr
 fn push_mutex(subjects: &mut Vec<Subject>, mutex: u32) -> Result<(), AllocError>
     ensures { OnOk result (subjects.new.items ≡ subjects.old.items ++ mutex_subjects mutex) }
 {
-    subjects.push(Subject::Ticks(Condition::Held { mutex }))?;
+    subjects.push(Subject::Time(Condition::Held { mutex }))?;
     subjects.push(Subject::Steps(Event::Awaited { mutex }))?;
     Ok(())
 }
@@ -253,8 +279,8 @@ fn queue_subjects(queue: u32) -> [Subject; 4]
 {
     [
         Subject::MostMessages { queue },
-        Subject::Ticks(Condition::Empty { queue }),
-        Subject::Ticks(Condition::Full { queue }),
+        Subject::Time(Condition::Empty { queue }),
+        Subject::Time(Condition::Full { queue }),
         Subject::Steps(Event::QueueAwaited { queue }),
     ]
 }

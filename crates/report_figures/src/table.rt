@@ -4,18 +4,20 @@ ghost use Rattle.list_orders.specs.Search.{numbers};
 ghost use Rattle.report_figures.specs.Table.{change_text, name_at, pair_line, place_text, right_aligned, run_line, run_table, runs_table, spaces, value_at, values_text};
 
 use crate::figures::{Figure, Part};
-use crate::names::push_name;
+use crate::names::{push_name, push_units};
 use bench_types::Header;
 use std::alloc::{AllocError, Global};
 
 // How wide a column of numbers is.
 const WIDTH: usize = 10;
 
-/// The table of one run: a line of heads, and a line for each figure that is not 0.
+/// The table of one run: how many units of time a tick has, where it has more than one, a line of
+/// heads, and a line for each figure that is not 0.
 pub fn run_table(alloc: Global, header: &Header, figures: &[Figure]) -> Result<String, AllocError>
     ensures { IfOk result (λ text. string_bytes text ≡ run_table header.now figures.now) }
 {
     let mut text = String::new(alloc);
+    push_units(&mut text, header)?;
     text.push_str("     value number\n")?;
     push_run_lines(alloc, &mut text, header, figures)?;
     Ok(text)
@@ -67,7 +69,7 @@ fn push_place(text: &mut String, figure: Figure) -> Result<(), AllocError>
     }
 }
 
-fn push_number(alloc: Global, text: &mut String, number: u32) -> Result<(), AllocError>
+fn push_number(alloc: Global, text: &mut String, number: u64) -> Result<(), AllocError>
     ensures { OnOk result
         (string_bytes text.new ≡ string_bytes text.old ++ right_aligned (decimal number)) }
 {
@@ -106,6 +108,7 @@ pub fn runs_table(
         (λ text. string_bytes text ≡ runs_table header.now before.now after.now) }
 {
     let mut text = String::new(alloc);
+    push_units(&mut text, header)?;
     text.push_str("    before      after     change number\n")?;
     push_pair_lines(alloc, &mut text, header, before, after)?;
     Ok(text)
@@ -154,7 +157,7 @@ fn push_pair_line(
 
 // The two values and the change, each with a space after it.
 #[tactic(auto, unfolding(crate::specs::Table::values_text))]
-fn push_values(alloc: Global, text: &mut String, before: u32, after: u32) -> Result<(), AllocError>
+fn push_values(alloc: Global, text: &mut String, before: u64, after: u64) -> Result<(), AllocError>
     ensures { OnOk result
         (string_bytes text.new ≡ string_bytes text.old ++ values_text before after) }
 {
@@ -168,7 +171,7 @@ fn push_values(alloc: Global, text: &mut String, before: u32, after: u32) -> Res
 }
 
 /// What there is more than before, with its sign; 0 where there is as much.
-pub fn change_of(alloc: Global, before: u32, after: u32) -> Result<String, AllocError>
+pub fn change_of(alloc: Global, before: u64, after: u64) -> Result<String, AllocError>
     ensures { IfOk result (λ text. string_bytes text ≡ change_text before after) }
 {
     if before < after {
@@ -197,7 +200,7 @@ pub fn push_name_at(
 }
 
 /// The value of the figure at an index, 0 where there is none.
-pub fn value_at(figures: &[Figure], index: usize) -> u32
+pub fn value_at(figures: &[Figure], index: usize) -> u64
     ensures { result ≡ value_at figures.now index }
 {
     match figures.get(index) {

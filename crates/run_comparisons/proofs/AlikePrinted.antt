@@ -41,6 +41,8 @@ module _ (header other : Header) (alike : AreNamedAlike header other) where
       ap (λ (text : List ℕ). number_text (codes "entry") entry ++ number_text (codes "exit") exit ++ number_text (codes "ticks") ticks ++ text) (same_index index)
   same_members (calls.NotifyTake clear ticks index) =
       ap (λ (text : List ℕ). clear_text clear ++ number_text (codes "ticks") ticks ++ text) (same_index index)
+  same_members (calls.Suspend task) = same_task (codes "to") task
+  same_members (calls.Resume task) = same_task (codes "to") task
   same_members (calls.StateClear task index) = ap₂ (λ (text more : List ℕ). text ++ more) (same_task (codes "to") task) (same_index index)
   same_members (calls.ValueClear task bits index) =
       ap₂ (λ (text more : List ℕ). text ++ number_text (codes "bits") bits ++ more) (same_task (codes "to") task) (same_index index)
@@ -54,6 +56,8 @@ module _ (header other : Header) (alike : AreNamedAlike header other) where
       ap₂ (λ (by members : List ℕ). call_word call ++ core_text core ++ by ++ members) (same_task (codes "by") task) (same_members call)
   same_step (steps.Interrupt core note) = ap (λ (text : List ℕ). codes "isr_notify" ++ core_text core ++ text) (same_note note)
   same_step (steps.QueueInterrupt core queue direction) = refl
+  same_step (steps.ResumeInterrupt core task) = ap (λ (text : List ℕ). codes "isr_resume" ++ core_text core ++ text) (same_task (codes "to") task)
+  same_step (steps.Pass units) = refl
 
   same_subject : (core caller : ℕ) (why : Refusal) → subject_text header core caller (subject_of why) ≡ subject_text other core caller (subject_of why)
   same_subject core caller Displaced = alike.names caller

@@ -3,7 +3,7 @@ use Rattle.std.proofs.Common.{◌&&◌, ◌≡◌, true, refl, ap, ap₂, sym, �
 use Rattle.std.specs.Prelude.{◌==◌}
 use Rattle.std.proofs.lemmas.Bool.{and_from, and_parts}
 use Rattle.bench_types.specs.declared.step.Step.{Step}
-use Rattle.bench_types.specs.declared.step.Step.TheVariants.{Tick, Switch, Call, Interrupt, QueueInterrupt}
+use Rattle.bench_types.specs.declared.step.Step.TheVariants.{Tick, Switch, Call, Interrupt, QueueInterrupt, ResumeInterrupt, Pass}
 use Rattle.bench_model.specs.SameTest.{are_same_calls, are_same_directions, are_same_notes}
 use Rattle.run_comparisons.specs.Alike.{are_alike, MayShareRow}
 use Rattle.run_comparisons.proofs.SameCalls.{call_itself, direction_itself, note_itself, number_itself, one_call, one_direction, one_note, one_number}
@@ -24,6 +24,10 @@ may_share (QueueInterrupt core queue direction) (QueueInterrupt other others way
     let queue_is = one_number queue others front.1 in
     let way_is = one_direction direction way parts.1 in
     λ i. QueueInterrupt (core_is i) (queue_is i) (way_is i)
+may_share (ResumeInterrupt core task) (ResumeInterrupt other resumed) is =
+    let parts = and_parts (core == other) (task == resumed) is in
+    ap₂ ResumeInterrupt (one_number core other parts.0) (one_number task resumed parts.1)
+may_share (Pass units) (Pass others) is = ap Pass (one_number units others is)
 may_share step other is = absurd (cc is)
 
 step_itself : (step : Step) → are_alike step step ≡ true
@@ -33,6 +37,8 @@ step_itself (Call core task call) = and_from (task == task) (are_same_calls call
 step_itself (Interrupt core note) = and_from (core == core) (are_same_notes note note) (number_itself core) (note_itself note)
 step_itself (QueueInterrupt core queue direction) = and_from (core == core && queue == queue) (are_same_directions direction direction)
     (and_from (core == core) (queue == queue) (number_itself core) (number_itself queue)) (direction_itself direction)
+step_itself (ResumeInterrupt core task) = and_from (core == core) (task == task) (number_itself core) (number_itself task)
+step_itself (Pass units) = number_itself units
 
 one_step : (step other : Step) → step ≡ other → are_alike step other ≡ true
 one_step step other same = ap (are_alike step) (sym same) ∙ step_itself step

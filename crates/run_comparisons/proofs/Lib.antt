@@ -16,6 +16,7 @@ mod Ranges
 pub mod RowsCounted
 mod RefusalsFound
 mod SameCalls
+mod SameSteps
 mod SharedPlaces
 mod ShownRows
 mod Tiling

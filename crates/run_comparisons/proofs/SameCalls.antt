@@ -8,7 +8,7 @@ use Rattle.bench_types.specs.declared.note.NotifyAction.TheVariants.{Nothing, Se
 use Rattle.bench_types.specs.declared.note.Note.{Note}
 use Rattle.bench_types.specs.declared.step.Call.{Call}
 use Rattle.bench_types.specs.declared.step.Call.TheVariants.{Yield, Delay, DelayUntil, PrioritySet, AffinitySet, PreemptOff, PreemptOn, Notify, NotifyWait}
-use Rattle.bench_types.specs.declared.step.Call.TheVariants.{NotifyTake, StateClear, ValueClear, MutexTake, MutexGive, QueueSend, QueueReceive, Finish, HoldOpen, HoldClose}
+use Rattle.bench_types.specs.declared.step.Call.TheVariants.{NotifyTake, StateClear, ValueClear, MutexTake, MutexGive, QueueSend, QueueReceive, Suspend, Resume, Finish, HoldOpen, HoldClose}
 use Rattle.bench_types.specs.declared.step.Direction.{Direction}
 use Rattle.bench_types.specs.declared.step.Direction.TheVariants.{Send, Receive}
 use Rattle.bench_model.specs.SameTest.{are_same_actions, are_same_bools, are_same_calls, are_same_directions, are_same_notes}
@@ -88,6 +88,8 @@ one_call (MutexTake a b) (MutexTake c d) is = let e = two a b c d is in ap₂ Mu
 one_call (MutexGive a) (MutexGive b) is = ap MutexGive (one_number a b is)
 one_call (QueueSend a b) (QueueSend c d) is = let e = two a b c d is in ap₂ QueueSend e.0 e.1
 one_call (QueueReceive a b) (QueueReceive c d) is = let e = two a b c d is in ap₂ QueueReceive e.0 e.1
+one_call (Suspend a) (Suspend b) is = ap Suspend (one_number a b is)
+one_call (Resume a) (Resume b) is = ap Resume (one_number a b is)
 one_call Finish Finish is = refl
 one_call HoldOpen HoldOpen is = refl
 one_call HoldClose HoldClose is = refl
@@ -141,6 +143,8 @@ call_itself (MutexTake a b) = two_themselves a b
 call_itself (MutexGive a) = number_itself a
 call_itself (QueueSend a b) = two_themselves a b
 call_itself (QueueReceive a b) = two_themselves a b
+call_itself (Suspend a) = number_itself a
+call_itself (Resume a) = number_itself a
 call_itself Finish = refl
 call_itself HoldOpen = refl
 call_itself HoldClose = refl

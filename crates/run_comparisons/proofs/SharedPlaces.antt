@@ -11,7 +11,7 @@ use Rattle.bench_types.specs.declared.note.NotifyAction.{NotifyAction}
 use Rattle.bench_types.specs.declared.note.NotifyAction.TheVariants.{Nothing, SetBits, Increment, Set, SetNew}
 use Rattle.bench_types.specs.declared.note.Note.{Note}
 use Rattle.bench_types.specs.declared.step.Step.{Step}
-use Rattle.bench_types.specs.declared.step.Step.TheVariants.{Tick, Interrupt, QueueInterrupt}
+use Rattle.bench_types.specs.declared.step.Step.TheVariants.{Tick, Interrupt, QueueInterrupt, ResumeInterrupt, Pass}
 use Rattle.bench_model.specs.SameTest.{are_same_actions, are_same_notes}
 use Rattle.settled_runs.specs.SettleLaws.{comes_from_outside}
 use Rattle.run_comparisons.specs.declared.place_pair.PlacePair.{PlacePair}
@@ -32,6 +32,8 @@ alike_outside : (step other : Step) → comes_from_outside step ≡ true → are
 alike_outside Tick Tick is alike = refl
 alike_outside (Interrupt core note) (Interrupt other sent) is alike = refl
 alike_outside (QueueInterrupt core queue direction) (QueueInterrupt other others way) is alike = refl
+alike_outside (ResumeInterrupt core task) (ResumeInterrupt other resumed) is alike = refl
+alike_outside (Pass units) (Pass others) is alike = refl
 alike_outside step other is alike = absurd (cc (is, alike))
 
 action_itself : (action : NotifyAction) → are_same_actions action action ≡ true
@@ -48,6 +50,8 @@ pub alike_itself : (event : Step) → comes_from_outside event ≡ true → are_
 alike_itself Tick is = refl
 alike_itself (Interrupt core note) is = grind (arith, nat_tests, note_itself note)
 alike_itself (QueueInterrupt core queue direction) is = grind (arith, nat_tests, direction_itself direction)
+alike_itself (ResumeInterrupt core task) is = grind (arith, nat_tests)
+alike_itself (Pass units) is = grind (arith, nat_tests)
 alike_itself step is = absurd (cc is)
 
 -- ---- the row of a shared event

@@ -58,16 +58,28 @@ pub(crate) fn are_alike(step: &Step, other: &Step) -> bool
                 direction: way,
             },
         ) => core == other && queue == others && are_same_directions(direction, way),
+        (
+            Step::ResumeInterrupt { core, task },
+            Step::ResumeInterrupt {
+                core: other,
+                task: resumed,
+            },
+        ) => core == other && task == resumed,
+        (Step::Pass { units }, Step::Pass { units: others }) => units == others,
         _ => false,
     }
 }
 
-/// A tick or an interrupt.
+/// A tick, time that passes, or an interrupt.
 pub(crate) fn comes_from_outside(step: &Step) -> bool
     ensures { result ≡ comes_from_outside step.now }
 {
     matches!(
         step,
-        Step::Tick | Step::Interrupt { .. } | Step::QueueInterrupt { .. }
+        Step::Tick
+            | Step::Interrupt { .. }
+            | Step::QueueInterrupt { .. }
+            | Step::ResumeInterrupt { .. }
+            | Step::Pass { .. }
     )
 }

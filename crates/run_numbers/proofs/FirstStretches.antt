@@ -7,11 +7,10 @@ use Rattle.std.proofs.lemmas.Bool.{cases_lt}
 use Rattle.std.proofs.lemmas.Bool.Decides.{nat_tests}
 use Rattle.bench_types.specs.declared.header.Header.{Header}
 use Rattle.bench_types.specs.declared.step.Step.{Step}
-use Rattle.bench_model.specs.Tallied.{one_if}
 use Rattle.run_numbers.specs.declared.subject.Condition.{Condition}
-use Rattle.run_numbers.specs.NumberLaws.{ticks_between, FirstIsTold, IsFirstStretch, IsStretch}
+use Rattle.run_numbers.specs.NumberLaws.{time_between, FirstIsTold, IsFirstStretch, IsStretch}
 use Rattle.run_numbers.specs.SoFar.{first_top, top}
-use Rattle.run_numbers.specs.Stretches.{holds_at, is_tick_at, longest_from, longest_stretch, start_at, stretch_at}
+use Rattle.run_numbers.specs.Stretches.{holds_at, longest_from, longest_stretch, start_at, stretch_at, time_of_step}
 use Rattle.run_numbers.proofs.Lawful.{below_top, between_more, between_none, first_top_within, stretch_holds, top_there}
 use Rattle.run_numbers.proofs.Places.{find_top, greatest_more}
 
@@ -37,36 +36,31 @@ first_top_first f (suc n) k low is = at (nat_lt (top f n) (f (suc n))) refl (fir
         more_so is = grind (arith, nat_tests, is)
 
 module _ (header : Header) (steps : List Step) where
-  -- a tick at the first place is one of those between
-  tick_within : (first last : ℕ) → first < last → is_tick_at header steps first ≡ true → 0 < ticks_between header steps first last
-  tick_within first zero early tick = absurd (omega (arith, early))
-  tick_within first (suc last) early tick = elim (cases_lt first last) [
-    | inl under ↦ omega (arith, between_more header steps first last (omega (arith, under)), tick_within first last under tick)
+  -- the time of the first place is some of that between
+  time_within : (first last : ℕ) → first < last → 0 < time_of_step header steps first → 0 < time_between header steps first last
+  time_within first zero early some = absurd (omega (arith, early))
+  time_within first (suc last) early some = elim (cases_lt first last) [
+    | inl under ↦ omega (arith, between_more header steps first last (omega (arith, under)), time_within first last under some)
     | inr over ↦
         let same : last ≡ first = omega (arith, over, early) in
-        let one : one_if (is_tick_at header steps last) ≡ 1 = ap (λ place. one_if (is_tick_at header steps place)) same ∙ ap one_if tick in
-        omega (arith, between_more header steps first last (omega (arith, early)), one)
+        omega (arith, between_more header steps first last (omega (arith, early)), ap (time_of_step header steps) same, some)
   ]
 
   module _ (condition : Condition) where
-    -- the ticks of the stretch at the place are those since this one, at which none came before
+    -- the time of the stretch at the place is that since this one, at which there was none before
     record Starts (start place : ℕ) : Type 0 where
       pub before : start < place
-      pub tick : is_tick_at header steps start ≡ true
+      pub begins : 0 < time_of_step header steps start
       pub throughout : (other : ℕ) → start ≤ other → other < place → holds_at header steps condition other ≡ true
-      pub ticks : ticks_between header steps start place ≡ stretch_at header steps condition place
+      pub time : time_between header steps start place ≡ stretch_at header steps condition place
       pub none : stretch_at header steps condition start ≡ 0
-
-    tick_of : (place : ℕ) (b : Bool) → is_tick_at header steps place ≡ b → 0 < one_if (is_tick_at header steps place) → is_tick_at header steps place ≡ true
-    tick_of place true is some = is
-    tick_of place false is some = absurd (omega (arith, ap one_if is, some))
 
     starts : (place : ℕ) → 0 < stretch_at header steps condition place → Starts (start_at header steps condition place) place
     starts zero some = absurd (omega (arith, some))
     starts (suc place) some = at (holds_at header steps condition place) (stretch_at header steps condition place == 0) refl refl (starts place)
       where
         grown : holds_at header steps condition place ≡ true → stretch_at header steps condition (suc place) ≡ stretch_at header steps condition place
-            + one_if (is_tick_at header steps place)
+            + time_of_step header steps place
         grown holding = rw holding refl
 
         at : (h e : Bool) → holds_at header steps condition place ≡ h → (stretch_at header steps condition place == 0) ≡ e →
@@ -75,13 +69,13 @@ module _ (header : Header) (steps : List Step) where
         at true true holding empty before =
             let none : stretch_at header steps condition place ≡ 0 = grind (arith, nat_tests, empty) in
             let here : place ≡ start_at header steps condition (suc place) = rw empty refl in
-            let ticked : 0 < one_if (is_tick_at header steps place) = omega (arith, grown holding, none, some) in
+            let begins : 0 < time_of_step header steps place = omega (arith, grown holding, none, some) in
             subst (λ start. Starts start (suc place)) here (record {
               before = omega arith;
-              tick = tick_of place (is_tick_at header steps place) refl ticked;
+              begins = begins;
               throughout = λ other above below.
                   let same : place ≡ other = omega (arith, above, below) in subst (λ p. holds_at header steps condition p ≡ true) same holding;
-              ticks = omega (arith, between_more header steps place place (omega arith), between_none header steps place, grown holding, none);
+              time = omega (arith, between_more header steps place place (omega arith), between_none header steps place, grown holding, none);
               none = none;
             })
         at true false holding full before =
@@ -90,16 +84,16 @@ module _ (header : Header) (steps : List Step) where
             let was : Starts (start_at header steps condition place) place = before some_before in
             subst (λ start. Starts start (suc place)) here (record {
               before = omega (arith, was.before);
-              tick = was.tick;
+              begins = was.begins;
               throughout = λ other above below. elim (cases_lt other place) [
                 | inl early ↦ was.throughout other above early
                 | inr late ↦
                     let same : place ≡ other = omega (arith, late, below) in subst (λ p. holds_at header steps condition p ≡ true) same holding
               ];
-              ticks = omega (
+              time = omega (
                 arith,
                 between_more header steps (start_at header steps condition place) place (omega (arith, was.before)),
-                was.ticks,
+                was.time,
                 grown holding,
               );
               none = was.none;
@@ -109,7 +103,7 @@ module _ (header : Header) (steps : List Step) where
             fallen : stretch_at header steps condition (suc place) ≡ 0
             fallen = rw holding refl
 
-    -- the first place with the greatest stretch: none with as many ticks begins before its start
+    -- the first place with the greatest stretch: none with as much time begins before its start
     none_before : 0 < longest_stretch header steps condition →
         let last = first_top (stretch_at header steps condition) (length steps) in
         Starts (start_at header steps condition last) last → (other : ℕ) → IsStretch header steps condition other (longest_stretch header steps condition)
@@ -124,7 +118,7 @@ module _ (header : Header) (steps : List Step) where
         let later : last ≤ is.last = first_top_first stretch (length steps) is.last is.holds.within full in
         elim (cases_lt other start) [
           | inl under ↦
-              let counted = tick_within other start under is.begins in
+              let counted = time_within other start under is.begins in
               let holding = stretch_holds header steps condition other start (omega (arith, under))
               (λ place above below. is.holds.throughout place above (omega (arith, below, here.before, later))) in
               absurd (omega (arith, counted, holding, here.none))
@@ -142,10 +136,10 @@ first_is_told header steps condition some =
     let here : Starts header steps condition start last = starts header steps condition last (omega (arith, full, some)) in
     subst (λ first. IsFirstStretch header steps condition first (longest_stretch header steps condition)) (sym told) (record {
       stretch = record {
-        begins = here.tick;
+        begins = here.begins;
         last = last;
         holds = record { order = omega (arith, here.before); within = first_top_within stretch (length steps); throughout = here.throughout };
-        lasts = here.ticks ∙ full;
+        lasts = here.time ∙ full;
       };
       begins = λ earlier holds. omega (arith, stretch_holds header steps condition earlier start holds.order holds.throughout, here.none);
       earliest = none_before header steps condition some here;

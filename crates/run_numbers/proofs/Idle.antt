@@ -5,7 +5,7 @@ use Rattle.std.specs.Option.{option_map_or, ForSome}
 use Rattle.std.proofs.lemmas.Bool.Decides.{nat_tests}
 use Rattle.bench_types.specs.declared.reply.Reply.{Reply}
 use Rattle.bench_types.specs.declared.step.Step.{Step}
-use Rattle.bench_types.specs.declared.step.Step.TheVariants.{Tick, Switch, Interrupt, QueueInterrupt}
+use Rattle.bench_types.specs.declared.step.Step.TheVariants.{Tick, Switch, Interrupt, QueueInterrupt, ResumeInterrupt, Pass}
 use Rattle.bench_types.specs.declared.step.Step.TheVariants as steps
 use Rattle.bench_types.specs.declared.step.Call.{Call}
 use Rattle.bench_types.specs.declared.step.Call.TheVariants as calls
@@ -14,30 +14,32 @@ use Rattle.bench_model.specs.Lists.{View, list_queues}
 use Rattle.bench_model.specs.Tallied.{one_if}
 use Rattle.bench_model.specs.Tally.{is_call_of, is_current, is_finish_of, says_run_out}
 use Rattle.run_numbers.specs.declared.counter.Counter.{Counter}
+use Rattle.run_numbers.specs.declared.counter.Since.{Since}
 use Rattle.run_numbers.specs.declared.look.Look.{Look}
 use Rattle.run_numbers.specs.declared.subject.Condition.{Condition}
-use Rattle.run_numbers.specs.declared.subject.Condition.TheVariants.{Running, RunningOn, WantsCore, Inverted, Blocked, HeldUp, Busy, Idle, Due, Held, Empty, Full}
+use Rattle.run_numbers.specs.declared.subject.Condition.TheVariants.{Running, RunningOn, WantsCore, Inverted, Blocked, HeldUp, Suspended, Busy, Idle, Due, Held, Empty, Full}
 use Rattle.run_numbers.specs.declared.subject.Event.{Event}
 use Rattle.run_numbers.specs.declared.subject.Event.TheVariants.{SwitchedIn, Inherits, TimesOut, Refused, Awaited, QueueAwaited}
 use Rattle.run_numbers.specs.declared.subject.Reading.{Reading}
 use Rattle.run_numbers.specs.declared.subject.Subject.{Subject}
-use Rattle.run_numbers.specs.declared.subject.Subject.TheVariants.{Ticks, Steps, TopPriority, MostMessages, NotMade}
+use Rattle.run_numbers.specs.declared.subject.Subject.TheVariants.{Time, Steps, TopPriority, MostMessages, NotMade}
 use Rattle.run_numbers.specs.AfterStep.{happens_after, inherited, known_before, left_by, risen, switched_in}
 use Rattle.run_numbers.specs.Conditions.{holds, is_cause}
 use Rattle.run_numbers.specs.Counted.{holds_of}
 use Rattle.run_numbers.specs.Counters.{seen, took, with_total}
 use Rattle.run_numbers.specs.Events.{is_refusal}
 use Rattle.run_numbers.specs.Looks.{look_of, IsApart, IsRow}
+use Rattle.run_numbers.specs.Past.{Past}
 use Rattle.run_numbers.specs.Readings.{IsConditionOf, IsSubjectOf}
 use Rattle.run_numbers.specs.Tasks.{task_at as task_by, task_in, task_of}
 
 -- what is seen as it was changes nothing
-seen_same : (h : Bool) (ticks : List ℕ) (reading : Reading) (since : Option ℕ) → is_some since ≡ h
-    → seen h ticks (record { reading = reading; since = since }) ≡ record { reading = reading; since = since }
-seen_same true ticks reading None is = absurd (cc is)
-seen_same true ticks reading (Some first) is = refl
-seen_same false ticks reading None is = refl
-seen_same false ticks reading (Some first) is = absurd (cc is)
+seen_same : (h : Bool) (so_far : Past) (reading : Reading) (since : Option Since) → is_some since ≡ h
+    → seen h so_far (record { reading = reading; since = since }) ≡ record { reading = reading; since = since }
+seen_same true so_far reading None is = absurd (cc is)
+seen_same true so_far reading (Some since) is = refl
+seen_same false so_far reading None is = refl
+seen_same false so_far reading (Some since) is = absurd (cc is)
 
 both_fail : (b c : Bool) → b ≡ c → (b && not c) ≡ false
 both_fail true c same = subst (λ c. (true && not c) ≡ false) same refl
@@ -80,11 +82,15 @@ module _ (before after : View) (row : List ℕ) (step : Step) (reply : Reply) (t
     holds_kept (Blocked other cause) is low =
         let own : task ≡ other = cc is in
         subst (λ other. holds list_queues (Blocked other cause) after ≡ holds list_queues (Blocked other cause) before) own
-        (ap (λ (look : Look). not look.ready && option_map_or (is_cause cause) look.cause false) same)
+        (ap (λ (look : Look). not look.ready && not look.suspended && option_map_or (is_cause cause) look.cause false) same)
     holds_kept (HeldUp other) is low =
         let own : task ≡ other = cc is in
         subst (λ other. holds list_queues (HeldUp other) after ≡ holds list_queues (HeldUp other) before) own
         (ap (λ (look : Look). look.held_up) same)
+    holds_kept (Suspended other) is low =
+        let own : task ≡ other = cc is in
+        subst (λ other. holds list_queues (Suspended other) after ≡ holds list_queues (Suspended other) before) own
+        (ap (λ (look : Look). look.suspended) same)
     holds_kept (Busy core) is low = absurd (cc is)
     holds_kept (Idle core) is low = absurd (cc is)
     holds_kept (Due core) is low = absurd (cc is)
@@ -101,6 +107,8 @@ module _ (before after : View) (row : List ℕ) (step : Step) (reply : Reply) (t
       (sym (seat_kept core (low (core, current before.control core) refl)))
   not_switched (Interrupt core note) low = refl
   not_switched (QueueInterrupt core queue direction) low = refl
+  not_switched (ResumeInterrupt core other) low = refl
+  not_switched (Pass units) low = refl
   not_switched (steps.Call core caller call) low = refl
 
   not_raised : (raised : Option (ℕ × ℕ)) → ForSome raised (λ raised. raised.0 ≢ task) → inherited raised after.control task ≡ false
@@ -114,6 +122,8 @@ module _ (before after : View) (row : List ℕ) (step : Step) (reply : Reply) (t
   not_finish (Switch core) is = refl
   not_finish (Interrupt core note) is = refl
   not_finish (QueueInterrupt core queue direction) is = refl
+  not_finish (ResumeInterrupt core other) is = refl
+  not_finish (Pass units) is = refl
   not_finish (steps.Call core caller call) is = by call
     where
       by : (call : Call) → is_finish_of task (steps.Call core caller call) ≡ false
@@ -134,6 +144,8 @@ module _ (before after : View) (row : List ℕ) (step : Step) (reply : Reply) (t
       by (calls.MutexGive mutex) = refl
       by (calls.QueueSend queue ticks) = refl
       by (calls.QueueReceive queue ticks) = refl
+      by (calls.Suspend other) = refl
+      by (calls.Resume other) = refl
       by calls.HoldOpen = refl
       by calls.HoldClose = refl
 
@@ -159,17 +171,17 @@ module _ (before after : View) (row : List ℕ) (step : Step) (reply : Reply) (t
   nothing_happens (QueueAwaited queue) is low = absurd (cc is)
 
   -- none of its counters changes
-  pub is_idle : (subject : Subject) (ticks : List ℕ) (counter : Counter) → task_of subject ≡ Some task → IsSubjectOf before.settings subject
+  pub is_idle : (subject : Subject) (so_far : Past) (counter : Counter) → task_of subject ≡ Some task → IsSubjectOf before.settings subject
       → look_of after task ≡ look_of before task → ForSome (left_by before.control step) (λ left. left.0 < before.settings.cores)
       → is_some counter.since ≡ holds_of before subject → (subject ≡ TopPriority task → (task_at after.control task).in_use ≤ counter.reading.total)
-      → took (known_before before step) step reply after ticks subject counter ≡ counter
-  is_idle (Ticks condition) ticks counter is known same low opened top =
-      seen_same (holds list_queues condition after) ticks counter.reading counter.since (opened ∙ sym (holds_kept same condition is known))
-  is_idle (Steps event) ticks counter is known same low opened top =
+      → took (known_before before step) step reply after so_far subject counter ≡ counter
+  is_idle (Time condition) so_far counter is known same low opened top =
+      seen_same (holds list_queues condition after) so_far counter.reading counter.since (opened ∙ sym (holds_kept same condition is known))
+  is_idle (Steps event) so_far counter is known same low opened top =
       total_same counter _ (ap (λ b. counter.reading.total + one_if b) (nothing_happens event is low) ∙ omega arith)
-  is_idle (TopPriority other) ticks counter is known same low opened top =
+  is_idle (TopPriority other) so_far counter is known same low opened top =
       let own : other ≡ task = cc is in
       let few = top (ap TopPriority own) in
       total_same counter _ (ap (λ other. max counter.reading.total (task_at after.control other).in_use) own ∙ omega (arith, few))
-  is_idle (MostMessages queue) ticks counter is known same low opened top = absurd (cc is)
-  is_idle (NotMade other) ticks counter is known same low opened top = refl
+  is_idle (MostMessages queue) so_far counter is known same low opened top = absurd (cc is)
+  is_idle (NotMade other) so_far counter is known same low opened top = refl

@@ -1,15 +1,15 @@
 -- Counts, greatest numbers and first places, one place further.
-use Rattle.std.proofs.Common.{◌≡◌, ℕ, zero, suc, ◌+◌, ◌<◌, max, Bool, true, false, cond, ◌==◌, nat_lt, List, [], ◌∷◌, ◌++◌, length, map, take}
+use Rattle.std.proofs.Common.{◌≡◌, ℕ, zero, suc, ◌+◌, ◌≤◌, ◌<◌, max, Bool, true, false, cond, ◌==◌, nat_lt, List, [], ◌∷◌, ◌++◌, length, map, take}
 use Rattle.std.proofs.Common.{get_or, Option, Some, None, refl, sym, ap, ◌∙◌, arith, add-one, inl, inr}
 use Rattle.std.specs.Prelude.{count_by, find, if◌then◌else◌}
-use Rattle.std.specs.List.{range_with_len}
+use Rattle.std.specs.List.{range_with_len, sum_by}
 use Rattle.std.specs.Option.{option_or}
 use Rattle.std.proofs.Math.Seq.{take-suc}
 use Rattle.std.proofs.lemmas.Bool.{cases_lt}
 use Rattle.std.proofs.lemmas.Bool.Decides.{nat_tests}
 use Rattle.std.proofs.lemmas.List.{map-append}
 use Rattle.std.proofs.lemmas.List.Folds.{find-append}
-use Rattle.std.proofs.lemmas.List.Sums.{sum_by-append}
+use Rattle.std.proofs.lemmas.List.Sums.{sum_by_push}
 use Rattle.bench_types.specs.declared.header.Header.{Header}
 use Rattle.bench_types.specs.declared.step.Step.{Step}
 use Rattle.list_orders.specs.Search.{numbers}
@@ -21,25 +21,29 @@ use Rattle.bench_model.specs.Tallied.{one_if}
 use Rattle.bench_model.specs.Tally.{greatest}
 use Rattle.run_numbers.specs.SoFar.{first_top, top}
 
+-- the number of one more is added
+pub sum_more : (f : ℕ → ℕ) (n : ℕ) → sum_by f (numbers (suc n)) ≡ sum_by f (numbers n) + f n
+sum_more f n =
+    ap (λ k. sum_by f (numbers k)) (sym (add-one n)) ∙ ap (λ ns. sum_by f ns) (numbers_more n) ∙ sum_by_push f (numbers n) n
+
+-- that of one more of a range
+pub sum_longer : (f : ℕ → ℕ) (first n : ℕ) → sum_by f (range_with_len first (suc n)) ≡ sum_by f (range_with_len first n) + f (first + n)
+sum_longer f first n =
+    ap (λ k. sum_by f (range_with_len first k)) (sym (add-one n)) ∙ ap (λ ns. sum_by f ns) (range_parts first n 1)
+    ∙ sum_by_push f (range_with_len first n) (first + n)
+
 -- one number more is counted
 pub count_more : (p : ℕ → Bool) (n : ℕ) → count_by p (numbers (suc n)) ≡ count_by p (numbers n) + one_if (p n)
-count_more p n =
-    ap (λ k. count_by p (numbers k)) (sym (add-one n)) ∙ ap (λ ns. count_by p ns) (numbers_more n)
-    ∙ sum_by-append (λ k. cond (p k) 1 0) (numbers n) (n ∷ []) ∙ at (p n)
+count_more p n = sum_more (λ k. cond (p k) 1 0) n ∙ at (p n)
   where
-    at : (b : Bool) → count_by p (numbers n) + (0 + cond b 1 0) ≡ count_by p (numbers n) + one_if b
+    at : (b : Bool) → count_by p (numbers n) + cond b 1 0 ≡ count_by p (numbers n) + one_if b
     at true = omega arith
     at false = omega arith
 
--- one number more of a range is counted
-pub count_longer : (p : ℕ → Bool) (first n : ℕ) → count_by p (range_with_len first (suc n)) ≡ count_by p (range_with_len first n) + one_if (p (first + n))
-count_longer p first n =
-    ap (λ k. count_by p (range_with_len first k)) (sym (add-one n)) ∙ ap (λ ns. count_by p ns) (range_parts first n 1)
-    ∙ sum_by-append (λ k. cond (p k) 1 0) (range_with_len first n) (range_with_len (first + n) 1) ∙ at (p (first + n))
-  where
-    at : (b : Bool) → count_by p (range_with_len first n) + (0 + cond b 1 0) ≡ count_by p (range_with_len first n) + one_if b
-    at true = omega arith
-    at false = omega arith
+-- what is added of each number is no more than what else is
+pub sum_within : (f g : ℕ → ℕ) → ((k : ℕ) → f k ≤ g k) → (n : ℕ) → sum_by f (numbers n) ≤ sum_by g (numbers n)
+sum_within f g less zero = omega arith
+sum_within f g less (suc n) = omega (arith, sum_more f n, sum_more g n, less n, sum_within f g less n)
 
 greatest_append : (ns : List ℕ) (n : ℕ) → greatest (ns ++ n ∷ []) ≡ max (greatest ns) n
 greatest_append [] n = omega arith

@@ -6,17 +6,18 @@ use Rattle.std.proofs.lemmas.Bool.{cases_eq}
 use Rattle.std.proofs.lemmas.Bool.Decides.{nat_tests}
 use Rattle.bench_types.specs.declared.reply.Reply.{Reply}
 use Rattle.bench_types.specs.declared.step.Step.{Step}
-use Rattle.bench_types.specs.declared.step.Step.TheVariants.{Tick, Switch, Interrupt, QueueInterrupt}
+use Rattle.bench_types.specs.declared.step.Step.TheVariants.{Tick, Switch, Interrupt, QueueInterrupt, ResumeInterrupt, Pass}
 use Rattle.bench_types.specs.declared.step.Step.TheVariants as steps
 use Rattle.bench_model.specs.Control.{Control, task_at}
 use Rattle.bench_model.specs.Lists.{list_queues, view_of}
 use Rattle.bench_model.specs.Sound.{IsConsistent}
 use Rattle.bench_model.specs.Tally.{Moment}
 use Rattle.bench_model.specs.Table.{Stamps, Table, stamp_queues}
+use Rattle.order_laws.proofs.Looks.{suspended_seen}
 use Rattle.order_laws.proofs.SeenMoves.{is_ready_seen}
 use Rattle.smp_kernel.specs.Raised.{raised_by, KeepsOthers}
 use Rattle.run_numbers.specs.declared.subject.Condition.{Condition}
-use Rattle.run_numbers.specs.declared.subject.Condition.TheVariants.{Running, RunningOn, WantsCore, Inverted, Blocked, HeldUp, Busy, Idle, Due, Held, Empty, Full}
+use Rattle.run_numbers.specs.declared.subject.Condition.TheVariants.{Running, RunningOn, WantsCore, Inverted, Blocked, HeldUp, Suspended, Busy, Idle, Due, Held, Empty, Full}
 use Rattle.run_numbers.specs.declared.subject.Event.{Event}
 use Rattle.run_numbers.specs.declared.subject.Event.TheVariants.{SwitchedIn, Inherits, TimesOut, Refused, Awaited, QueueAwaited}
 use Rattle.run_numbers.specs.AfterStep.{happens_after, inherited, risen, known_before}
@@ -35,8 +36,9 @@ holds_seen table (Running task) sound low = refl
 holds_seen table (RunningOn task core) sound low = refl
 holds_seen table (WantsCore task) sound low = rw (ready_seen table task sound low) refl
 holds_seen table (Inverted task) sound low = rw (ready_seen table task sound low) refl
-holds_seen table (Blocked task cause) sound low = rw (ready_seen table task sound low) refl
-holds_seen table (HeldUp task) sound low = rw (ready_seen table task sound low) refl
+holds_seen table (Blocked task cause) sound low = rw (ready_seen table task sound low) (rw (suspended_seen table task sound low) refl)
+holds_seen table (HeldUp task) sound low = rw (ready_seen table task sound low) (rw (suspended_seen table task sound low) refl)
+holds_seen table (Suspended task) sound low = suspended_seen table task sound low
 holds_seen table (Busy core) sound low = refl
 holds_seen table (Idle core) sound low = refl
 holds_seen table (Due core) sound low = refl
@@ -84,6 +86,8 @@ happens_seen (SwitchedIn task) table next Tick reply kept = refl
 happens_seen (SwitchedIn task) table next (steps.Call core caller call) reply kept = refl
 happens_seen (SwitchedIn task) table next (Interrupt core note) reply kept = refl
 happens_seen (SwitchedIn task) table next (QueueInterrupt core queue direction) reply kept = refl
+happens_seen (SwitchedIn task) table next (ResumeInterrupt core other) reply kept = refl
+happens_seen (SwitchedIn task) table next (Pass units) reply kept = refl
 happens_seen (Inherits task) table next step reply kept = inherited_seen (raised_by (view_of table) step) table.control next.control task kept
 happens_seen (TimesOut task) table next step reply kept = refl
 happens_seen (Refused task why) table next step reply kept = refl

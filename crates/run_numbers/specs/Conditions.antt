@@ -11,13 +11,14 @@ use Rattle.bench_model.specs.Control.{Control, current, is_due, is_idle, task_at
 use Rattle.bench_model.specs.Queues.{queue_at}
 use Rattle.bench_model.specs.SameTest.{are_same_directions}
 use Rattle.bench_model.specs.State.{State, QueueOps, call_at, holder_at}
+use Rattle.bench_model.specs.Suspending.{is_suspended}
 use Rattle.bench_model.specs.Tally.{is_current, outranks_some, wants_core}
 use Rattle.run_numbers.specs.declared.subject.Cause.{Cause}
 use Rattle.run_numbers.specs.declared.subject.Cause.TheVariants as cause
 use Rattle.run_numbers.specs.declared.subject.Condition.{Condition}
-use Rattle.run_numbers.specs.declared.subject.Condition.TheVariants.{Running, RunningOn, WantsCore, Inverted, Blocked, HeldUp, Busy, Idle, Due, Held, Empty, Full}
+use Rattle.run_numbers.specs.declared.subject.Condition.TheVariants.{Running, RunningOn, WantsCore, Inverted, Blocked, HeldUp, Suspended, Busy, Idle, Due, Held, Empty, Full}
 
--- a task that is blocked for what its unfinished call waits for is blocked for the cause
+-- a task whose unfinished call waits for this is blocked for the cause
 abbrev pub is_cause : Cause → WaitCause → Bool
 is_cause cause.Delay wait.Delay = true
 is_cause cause.Notification wait.Notification = true
@@ -49,10 +50,15 @@ abbrev pub is_full : QueueLook → Bool
 is_full queue = queue.messages == queue.length
 
 module _ {Orders : Type 0} (ops : QueueOps Orders) where
+  -- the task waits: it is neither ready nor suspended
+  abbrev pub stands_blocked : ℕ → State Orders → Bool
+  stands_blocked task state =
+      not (ops.is_ready task state.orders) && not (is_suspended ops task state)
+
   -- the task is blocked for the cause
   abbrev pub is_blocked : ℕ → Cause → State Orders → Bool
   is_blocked task cause state =
-      not (ops.is_ready task state.orders)
+      stands_blocked task state
       && option_map_or (is_cause cause) (option_map cause_of (call_at state.calls task)) false
 
   -- the task that holds the mutex for which the task is blocked
@@ -64,7 +70,7 @@ module _ {Orders : Type 0} (ops : QueueOps Orders) where
   -- the task is blocked on a mutex whose holder has a lower base priority and is on no core
   abbrev pub is_held_up : ℕ → State Orders → Bool
   is_held_up task state =
-      not (ops.is_ready task state.orders)
+      stands_blocked task state
       && option_map_or (holds_up state.control task) (holder_before task state) false
 
   -- the condition holds in the state
@@ -75,6 +81,7 @@ module _ {Orders : Type 0} (ops : QueueOps Orders) where
   holds (Inverted task) state = wants_core ops task state && outranks_some state.control task
   holds (Blocked task cause) state = is_blocked task cause state
   holds (HeldUp task) state = is_held_up task state
+  holds (Suspended task) state = is_suspended ops task state
   holds (Busy core) state = not (is_idle state.control (current state.control core))
   holds (Idle core) state = is_idle state.control (current state.control core)
   holds (Due core) state = is_due state.control core

@@ -1,5 +1,5 @@
--- The numbers of a subject so far, without the ticks since its condition holds.
-use Rattle.std.specs.Prelude.{ℕ, ◌+◌, ◌-◌, ◌<◌, ◌≤◌, ◌^◌, max, List, length, slice_index, Bool, nat_lt, Some, None, unwrap_or, if◌then◌else◌, ⊤}
+-- The numbers of a subject so far, without the time since its condition holds.
+use Rattle.std.specs.Prelude.{ℕ, ◌+◌, ◌-◌, ◌<◌, ◌≤◌, ◌^◌, max, length, slice_index, Bool, nat_lt, Some, None, unwrap_or, if◌then◌else◌, ⊤}
 use Rattle.std.specs.Option.{option_map_or, ForSome}
 use Rattle.bench_types.specs.declared.reply.Reply.{Reply}
 use Rattle.bench_types.specs.declared.step.Step.{Step}
@@ -8,39 +8,51 @@ use Rattle.bench_model.specs.Lists.{View, list_queues}
 use Rattle.bench_model.specs.Queues.{queue_at}
 use Rattle.bench_model.specs.Tallied.{one_if}
 use Rattle.run_numbers.specs.declared.counter.Counter.{Counter}
+use Rattle.run_numbers.specs.declared.counter.Since.{Since}
 use Rattle.run_numbers.specs.declared.counter.Made.{Made}
 use Rattle.run_numbers.specs.declared.event.BeforeStep.{BeforeStep}
 use Rattle.run_numbers.specs.declared.subject.Reading.{Reading}
 use Rattle.run_numbers.specs.declared.subject.Subject.{Subject}
-use Rattle.run_numbers.specs.declared.subject.Subject.TheVariants.{Ticks, Steps, TopPriority, MostMessages, NotMade}
+use Rattle.run_numbers.specs.declared.subject.Subject.TheVariants.{Time, Steps, TopPriority, MostMessages, NotMade}
 use Rattle.run_numbers.specs.AfterStep.{happens_after}
 use Rattle.run_numbers.specs.Conditions.{holds}
+use Rattle.run_numbers.specs.Past.{Past, past}
 use Rattle.run_numbers.specs.Readings.{only}
+
+-- from now on
+abbrev pub since_now : Past → Since
+since_now so_far = record { elapsed = so_far.elapsed; index = length so_far.places }
 
 -- before any step
 abbrev pub first_counter : ℕ → Bool → Counter
-first_counter total holds =
-    record { reading = only total; since = if holds then Some 0 else None }
-
--- with one stretch more: of the ticks at these places those from an index on
-abbrev pub with_stretch : Reading → List ℕ → ℕ → Reading
-with_stretch reading ticks first = record {
-  total = reading.total + (length ticks - first);
-  longest = max reading.longest (length ticks - first);
-  from = if nat_lt reading.longest (length ticks - first) then slice_index ticks first
-      else reading.from;
+first_counter total holds = record {
+  reading = only total;
+  since = if holds then Some (record { elapsed = 0; index = 0 }) else None;
 }
 
--- the numbers with the ticks since the condition holds
-abbrev pub told : List ℕ → Counter → Reading
-told ticks counter =
-    option_map_or (with_stretch counter.reading ticks) counter.since counter.reading
+-- the time since then
+abbrev pub time_since : Past → Since → ℕ
+time_since so_far since = so_far.elapsed - since.elapsed
+
+-- with one stretch more: the time since then
+abbrev pub with_stretch : Reading → Past → Since → Reading
+with_stretch reading so_far since = record {
+  total = reading.total + time_since so_far since;
+  longest = max reading.longest (time_since so_far since);
+  from = if nat_lt reading.longest (time_since so_far since)
+      then slice_index so_far.places since.index else reading.from;
+}
+
+-- the numbers with the time since the condition holds
+abbrev pub told : Past → Counter → Reading
+told so_far counter =
+    option_map_or (with_stretch counter.reading so_far) counter.since counter.reading
 
 -- the condition holds now, or not
-abbrev pub seen : Bool → List ℕ → Counter → Counter
-seen holds ticks counter = record {
-  reading = if holds then counter.reading else told ticks counter;
-  since = if holds then Some (unwrap_or counter.since (length ticks)) else None;
+abbrev pub seen : Bool → Past → Counter → Counter
+seen holds so_far counter = record {
+  reading = if holds then counter.reading else told so_far counter;
+  since = if holds then Some (unwrap_or counter.since (since_now so_far)) else None;
 }
 
 abbrev pub with_total : ℕ → Counter → Counter
@@ -48,33 +60,40 @@ with_total total counter =
     record counter { reading = record counter.reading { total = total } }
 
 -- after a step: with what the step was, and what holds after it
-abbrev pub took : BeforeStep → Step → Reply → View → List ℕ → Subject → Counter → Counter
-took before step reply after ticks (Ticks condition) counter =
-    seen (holds list_queues condition after) ticks counter
-took before step reply after ticks (Steps event) counter =
+abbrev pub took : BeforeStep → Step → Reply → View → Past → Subject → Counter → Counter
+took before step reply after so_far (Time condition) counter =
+    seen (holds list_queues condition after) so_far counter
+took before step reply after so_far (Steps event) counter =
     with_total
     (counter.reading.total + one_if (happens_after event before step reply after.control)) counter
-took before step reply after ticks (TopPriority task) counter =
+took before step reply after so_far (TopPriority task) counter =
     with_total (max counter.reading.total (task_at after.control task).in_use) counter
-took before step reply after ticks (MostMessages queue) counter =
+took before step reply after so_far (MostMessages queue) counter =
     with_total (max counter.reading.total (queue_at after.queues queue).messages) counter
-took before step reply after ticks (NotMade task) counter = counter
+took before step reply after so_far (NotMade task) counter = counter
+
+-- the time so far, with that of the step
+abbrev pub past_of : Made → Past
+past_of made = past made.elapsed made.places.now
 
 abbrev pub took_in : Made → Subject → Counter → Counter
-took_in made = took made.before made.step.now made.reply made.after.now made.ticks.now
+took_in made =
+    took made.before made.step.now made.reply made.after.now (past_of made)
 
--- the tick of the index came, and those from it on can be counted
-pub record HasRoomFrom (ticks : List ℕ) (reading : Reading) (first : ℕ) : Type 0 where
-  pub within : first ≤ length ticks
-  pub total : reading.total + (length ticks - first) < 2 ^ 32
+-- the time since then can be counted, and some place has the first of it
+pub record HasRoomFrom (so_far : Past) (reading : Reading) (since : Since) : Type 0 where
+  pub order : since.elapsed ≤ so_far.elapsed
+  pub begun : since.elapsed < so_far.elapsed → since.index < length so_far.places
+  pub total : reading.total + time_since so_far since < 2 ^ 64
 
 -- the numbers can be told
-pub record HasRoom (ticks : List ℕ) (counter : Counter) : Type 0 where
-  pub few : length ticks < 2 ^ 32
-  pub opened : ForSome counter.since (HasRoomFrom ticks counter.reading)
+pub record HasRoom (so_far : Past) (counter : Counter) : Type 0 where
+  pub few : length so_far.places < 2 ^ 32
+  pub little : so_far.elapsed < 2 ^ 64
+  pub opened : ForSome counter.since (HasRoomFrom so_far counter.reading)
 
 -- one step more can be counted
-abbrev pub HasRoomFor : List ℕ → Subject → Counter → Type 0
-HasRoomFor ticks (Ticks condition) counter = HasRoom ticks counter
-HasRoomFor ticks (Steps event) counter = counter.reading.total < 2 ^ 32 - 1
-HasRoomFor ticks subject counter = ⊤
+abbrev pub HasRoomFor : Past → Subject → Counter → Type 0
+HasRoomFor so_far (Time condition) counter = HasRoom so_far counter
+HasRoomFor so_far (Steps event) counter = counter.reading.total < 2 ^ 64 - 1
+HasRoomFor so_far subject counter = ⊤

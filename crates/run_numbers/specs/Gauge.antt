@@ -4,7 +4,7 @@ use Rattle.run_numbers.specs.declared.subject.Reading.{Reading}
 
 pub record Gauge : Type 0 where
   pub reading : Reading
-  -- the ticks since the condition failed last
+  -- the time since the condition failed last
   pub stretch : ℕ
-  -- the place of the first of these ticks, or the last place where there are none
+  -- the place of the first step that takes some of it, or the last place where there is none
   pub start : ℕ

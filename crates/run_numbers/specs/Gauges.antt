@@ -6,12 +6,12 @@ use Rattle.bench_model.specs.Control.{task_at}
 use Rattle.bench_model.specs.Lists.{View, list_queues}
 use Rattle.bench_model.specs.Queues.{queue_at}
 use Rattle.bench_model.specs.Tallied.{one_if}
-use Rattle.bench_model.specs.Tally.{is_tick}
+use Rattle.step_times.specs.Times.{time_of}
 use Rattle.run_numbers.specs.declared.event.BeforeStep.{BeforeStep}
 use Rattle.run_numbers.specs.Gauge.{Gauge}
 use Rattle.run_numbers.specs.declared.subject.Reading.{Reading}
 use Rattle.run_numbers.specs.declared.subject.Subject.{Subject}
-use Rattle.run_numbers.specs.declared.subject.Subject.TheVariants.{Ticks, Steps, TopPriority, MostMessages}
+use Rattle.run_numbers.specs.declared.subject.Subject.TheVariants.{Time, Steps, TopPriority, MostMessages}
 use Rattle.run_numbers.specs.AfterStep.{happens_after}
 use Rattle.run_numbers.specs.Conditions.{holds}
 use Rattle.run_numbers.specs.Readings.{only}
@@ -20,34 +20,35 @@ use Rattle.run_numbers.specs.Readings.{only}
 abbrev pub initial_gauge : ℕ → Gauge
 initial_gauge total = record { reading = only total; stretch = 0; start = 0 }
 
--- the place, where no tick of the stretch came before
+-- the place, where no time of the stretch came before
 abbrev pub start_after : ℕ → Gauge → ℕ
 start_after place gauge = if gauge.stretch == 0 then place else gauge.start
 
--- the ticks of the stretch, with one more where a tick finds the condition
-abbrev pub stretch_after : Bool → Gauge → ℕ
-stretch_after tick gauge = gauge.stretch + one_if tick
+-- the time of the stretch, with that of a step that finds the condition
+abbrev pub stretch_after : ℕ → Gauge → ℕ
+stretch_after time gauge = gauge.stretch + time
 
 -- the numbers of a condition that holds
-abbrev pub reading_after : Bool → ℕ → Gauge → Reading
-reading_after tick place gauge = record {
-  total = gauge.reading.total + one_if tick;
-  longest = max gauge.reading.longest (stretch_after tick gauge);
-  from = if nat_lt gauge.reading.longest (stretch_after tick gauge) then start_after place gauge
+abbrev pub reading_after : ℕ → ℕ → Gauge → Reading
+reading_after time place gauge = record {
+  total = gauge.reading.total + time;
+  longest = max gauge.reading.longest (stretch_after time gauge);
+  from = if nat_lt gauge.reading.longest (stretch_after time gauge) then start_after place gauge
       else gauge.reading.from;
 }
 
-abbrev pub spell_after : Bool → Bool → ℕ → Gauge → Gauge
-spell_after holds tick place gauge = record {
-  reading = if holds then reading_after tick place gauge else gauge.reading;
-  stretch = if holds then stretch_after tick gauge else 0;
+abbrev pub spell_after : Bool → ℕ → ℕ → Gauge → Gauge
+spell_after holds time place gauge = record {
+  reading = if holds then reading_after time place gauge else gauge.reading;
+  stretch = if holds then stretch_after time gauge else 0;
   start = start_after place gauge;
 }
 
 -- with what the step finds at the place
 abbrev pub found : View → Step → ℕ → Subject → Gauge → Gauge
-found before step place (Ticks condition) gauge =
-    spell_after (holds list_queues condition before) (is_tick step) place gauge
+found before step place (Time condition) gauge =
+    spell_after (holds list_queues condition before) (time_of before.settings.units step) place
+    gauge
 found before step place subject gauge = gauge
 
 abbrev pub with_total : ℕ → Gauge → Gauge

@@ -8,6 +8,7 @@ pub mod Gauges
 pub mod Looks
 pub mod Messages
 pub mod NumberLaws
+pub mod Past
 pub mod Progress
 pub mod Readings
 pub mod Rows

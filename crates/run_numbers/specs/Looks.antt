@@ -7,6 +7,7 @@ use Rattle.bench_model.specs.Control.{current}
 use Rattle.bench_model.specs.Lists.{View, list_queues}
 use Rattle.bench_model.specs.Seek.{effective}
 use Rattle.bench_model.specs.State.{call_at}
+use Rattle.bench_model.specs.Suspending.{is_suspended}
 use Rattle.bench_model.specs.Tally.{is_call_of, is_current, outranks_some, wants_core}
 use Rattle.run_numbers.specs.declared.event.BeforeStep.{BeforeStep}
 use Rattle.run_numbers.specs.declared.look.Look.{Look}
@@ -25,6 +26,7 @@ look_of view task = record {
   current = is_current view.control task;
   inverted = wants_core list_queues task view && outranks_some view.control task;
   held_up = is_held_up list_queues task view;
+  suspended = is_suspended list_queues task view;
   cause = option_map cause_of (call_at view.calls task);
 }
 

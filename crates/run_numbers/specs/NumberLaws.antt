@@ -1,6 +1,6 @@
 -- The laws of the numbers of a run.
-use Rattle.std.specs.Prelude.{◌≡◌, ℕ, ◌-◌, ◌≤◌, ◌<◌, List, length, count_by, true}
-use Rattle.std.specs.List.{range_with_len}
+use Rattle.std.specs.Prelude.{◌≡◌, ℕ, ◌-◌, ◌≤◌, ◌<◌, List, length, true}
+use Rattle.std.specs.List.{range_with_len, sum_by}
 use Rattle.bench_types.specs.declared.header.Header.{Header}
 use Rattle.bench_types.specs.declared.reply.Refusal.TheVariants.{Displaced}
 use Rattle.bench_types.specs.declared.step.Step.{Step}
@@ -10,22 +10,26 @@ use Rattle.run_numbers.specs.declared.subject.Condition.{Condition}
 use Rattle.run_numbers.specs.declared.subject.Condition.TheVariants.{RunningOn, WantsCore, Inverted}
 use Rattle.run_numbers.specs.declared.subject.Event.TheVariants.{SwitchedIn, TimesOut, Refused}
 use Rattle.run_numbers.specs.declared.subject.Subject.{Subject}
-use Rattle.run_numbers.specs.declared.subject.Subject.TheVariants.{Ticks, Steps, TopPriority}
+use Rattle.run_numbers.specs.declared.subject.Subject.TheVariants.{Time, Steps, TopPriority}
 use Rattle.run_numbers.specs.Readings.{reading_of}
-use Rattle.run_numbers.specs.Stretches.{holds_at, is_tick_at, longest_from, longest_stretch}
+use Rattle.run_numbers.specs.Stretches.{holds_at, longest_from, longest_stretch, time_of_step}
 
 -- the number of a subject
 abbrev pub total_of : Header → List Step → List WaitingCall → Subject → ℕ
 total_of header steps left subject = (reading_of header steps left subject).total
 
--- what a tally counts of a task too is the same number here
+-- What a tally counts of a task too is the same number here. A tally counts ticks, which are the
+-- units of time where a tick has one.
 pub record NumbersAreTallies : Type 0 where
   pub run : (header : Header) (steps : List Step) (left : List WaitingCall) (task core : ℕ)
-      → total_of header steps left (Ticks (RunningOn task core)) ≡ run_ticks header steps task core
+      → header.config.units ≡ 1
+      → total_of header steps left (Time (RunningOn task core)) ≡ run_ticks header steps task core
   pub wait : (header : Header) (steps : List Step) (left : List WaitingCall) (task : ℕ)
-      → total_of header steps left (Ticks (WantsCore task)) ≡ wait_ticks header steps task
+      → header.config.units ≡ 1
+      → total_of header steps left (Time (WantsCore task)) ≡ wait_ticks header steps task
   pub inverted : (header : Header) (steps : List Step) (left : List WaitingCall) (task : ℕ)
-      → total_of header steps left (Ticks (Inverted task)) ≡ inverted_ticks header steps task
+      → header.config.units ≡ 1
+      → total_of header steps left (Time (Inverted task)) ≡ inverted_ticks header steps task
   pub switched : (header : Header) (steps : List Step) (left : List WaitingCall) (task : ℕ)
       → total_of header steps left (Steps (SwitchedIn task)) ≡ switches_in header steps task
   pub displaced : (header : Header) (steps : List Step) (left : List WaitingCall) (task : ℕ)
@@ -36,10 +40,10 @@ pub record NumbersAreTallies : Type 0 where
   pub top : (header : Header) (steps : List Step) (left : List WaitingCall) (task : ℕ)
       → total_of header steps left (TopPriority task) ≡ top_priority header steps task
 
--- the ticks between two places
-abbrev pub ticks_between : Header → List Step → ℕ → ℕ → ℕ
-ticks_between header steps first last =
-    count_by (is_tick_at header steps) (range_with_len first (last - first))
+-- the time between two places
+abbrev pub time_between : Header → List Step → ℕ → ℕ → ℕ
+time_between header steps first last =
+    sum_by (time_of_step header steps) (range_with_len first (last - first))
 
 -- the condition holds from one place until the other
 pub record HoldsBetween (header : Header) (steps : List Step) (condition : Condition)
@@ -49,36 +53,36 @@ pub record HoldsBetween (header : Header) (steps : List Step) (condition : Condi
   pub throughout : (place : ℕ) → first ≤ place → place < last
       → holds_at header steps condition place ≡ true
 
--- no stretch of places at which a condition holds has more ticks than the longest
+-- no stretch of places at which a condition holds takes more time than the longest
 abbrev pub NoneIsLonger : Type 0
 NoneIsLonger =
     (header : Header) (steps : List Step) (condition : Condition) (first last : ℕ)
     → HoldsBetween header steps condition first last
-    → ticks_between header steps first last ≤ longest_stretch header steps condition
+    → time_between header steps first last ≤ longest_stretch header steps condition
 
--- and one has as many
+-- and one takes as much
 abbrev pub OneIsAsLong : Type 0
 OneIsAsLong =
     (header : Header) (steps : List Step) (condition : Condition)
     → (first : ℕ) × (last : ℕ) × HoldsBetween header steps condition first last
-    × (ticks_between header steps first last ≡ longest_stretch header steps condition)
+    × (time_between header steps first last ≡ longest_stretch header steps condition)
 
--- from the tick at the place on, the condition holds for so many ticks in one stretch
+-- from the step at the place on, which takes time, the condition holds for so long in one stretch
 pub record IsStretch (header : Header) (steps : List Step) (condition : Condition)
-    (first ticks : ℕ) : Type 0 where
-  pub begins : is_tick_at header steps first ≡ true
+    (first time : ℕ) : Type 0 where
+  pub begins : 0 < time_of_step header steps first
   pub last : ℕ
   pub holds : HoldsBetween header steps condition first last
-  pub lasts : ticks_between header steps first last ≡ ticks
+  pub lasts : time_between header steps first last ≡ time
 
--- It is the first place at which a stretch of so many ticks begins: no tick before it is in the
--- same stretch, and no other stretch of so many begins before it.
+-- It is the first place at which a stretch of so much time begins: no time before it is in the same
+-- stretch, and no other stretch of so much begins before it.
 pub record IsFirstStretch (header : Header) (steps : List Step) (condition : Condition)
-    (first ticks : ℕ) : Type 0 where
-  pub stretch : IsStretch header steps condition first ticks
+    (first time : ℕ) : Type 0 where
+  pub stretch : IsStretch header steps condition first time
   pub begins : (earlier : ℕ) → HoldsBetween header steps condition earlier first
-      → ticks_between header steps earlier first ≡ 0
-  pub earliest : (other : ℕ) → IsStretch header steps condition other ticks → first ≤ other
+      → time_between header steps earlier first ≡ 0
+  pub earliest : (other : ℕ) → IsStretch header steps condition other time → first ≤ other
 
 -- the place that is told is that of the first stretch of the greatest length
 abbrev pub FirstIsTold : Type 0

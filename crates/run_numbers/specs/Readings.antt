@@ -7,16 +7,16 @@ use Rattle.bench_types.specs.Step.{queue_total}
 use Rattle.bench_model.specs.Tally.{steps_that, top_priority}
 use Rattle.settled_runs.specs.declared.waiting_call.WaitingCall.{WaitingCall}
 use Rattle.run_numbers.specs.declared.subject.Condition.{Condition}
-use Rattle.run_numbers.specs.declared.subject.Condition.TheVariants.{Running, RunningOn, WantsCore, Inverted, Blocked, HeldUp, Busy, Idle, Due, Held, Empty, Full}
+use Rattle.run_numbers.specs.declared.subject.Condition.TheVariants.{Running, RunningOn, WantsCore, Inverted, Blocked, HeldUp, Suspended, Busy, Idle, Due, Held, Empty, Full}
 use Rattle.run_numbers.specs.declared.subject.Event.{Event}
 use Rattle.run_numbers.specs.declared.subject.Event.TheVariants.{Inherits}
 use Rattle.run_numbers.specs.declared.subject.Measured.{Measured}
 use Rattle.run_numbers.specs.declared.subject.Reading.{Reading}
 use Rattle.run_numbers.specs.declared.subject.Subject.{Subject}
-use Rattle.run_numbers.specs.declared.subject.Subject.TheVariants.{Ticks, Steps, TopPriority, MostMessages, NotMade}
+use Rattle.run_numbers.specs.declared.subject.Subject.TheVariants.{Time, Steps, TopPriority, MostMessages, NotMade}
 use Rattle.run_numbers.specs.Events.{happens}
 use Rattle.run_numbers.specs.Messages.{most_messages}
-use Rattle.run_numbers.specs.Stretches.{longest_from, longest_stretch, ticks_found}
+use Rattle.run_numbers.specs.Stretches.{longest_from, longest_stretch, time_found}
 
 -- a number that has no stretch
 abbrev pub only : ℕ → Reading
@@ -28,8 +28,8 @@ calls_of task left = length (filter (λ call. call.task == task) left)
 
 -- the numbers of a subject in a run, of which these calls were not made
 abbrev pub reading_of : Header → List Step → List WaitingCall → Subject → Reading
-reading_of header steps left (Ticks condition) = record {
-  total = ticks_found header steps condition;
+reading_of header steps left (Time condition) = record {
+  total = time_found header steps condition;
   longest = longest_stretch header steps condition;
   from = longest_from header steps condition;
 }
@@ -51,6 +51,7 @@ IsConditionOf settings (WantsCore task) = task < settings.tasks
 IsConditionOf settings (Inverted task) = task < settings.tasks
 IsConditionOf settings (Blocked task cause) = task < settings.tasks
 IsConditionOf settings (HeldUp task) = task < settings.tasks
+IsConditionOf settings (Suspended task) = task < settings.tasks
 IsConditionOf settings (Busy core) = core < settings.cores
 IsConditionOf settings (Idle core) = core < settings.cores
 IsConditionOf settings (Due core) = core < settings.cores
@@ -63,7 +64,7 @@ IsEventOf settings (Inherits task) = task < settings.tasks
 IsEventOf settings event = ⊤
 
 abbrev pub IsSubjectOf : Settings → Subject → Type 0
-IsSubjectOf settings (Ticks condition) = IsConditionOf settings condition
+IsSubjectOf settings (Time condition) = IsConditionOf settings condition
 IsSubjectOf settings (Steps event) = IsEventOf settings event
 IsSubjectOf settings (TopPriority task) = task < settings.tasks
 IsSubjectOf settings (MostMessages queue) = queue < queue_total settings

@@ -1,5 +1,6 @@
 -- The numbers of a subject at a place.
 use Rattle.std.specs.Prelude.{ℕ, zero, suc, Bool, false, List, map, count_by, nat_lt, if◌then◌else◌}
+use Rattle.std.specs.List.{sum_by}
 use Rattle.std.specs.Option.{option_map_or}
 use Rattle.bench_types.specs.declared.header.Header.{Header}
 use Rattle.bench_types.specs.declared.step.Step.{Step}
@@ -10,11 +11,11 @@ use Rattle.bench_model.specs.Table.{Stamps}
 use Rattle.bench_model.specs.Tally.{Moment, greatest, moment_at}
 use Rattle.run_numbers.specs.Gauge.{Gauge}
 use Rattle.run_numbers.specs.declared.subject.Subject.{Subject}
-use Rattle.run_numbers.specs.declared.subject.Subject.TheVariants.{Ticks, Steps, TopPriority, MostMessages, NotMade}
+use Rattle.run_numbers.specs.declared.subject.Subject.TheVariants.{Time, Steps, TopPriority, MostMessages, NotMade}
 use Rattle.run_numbers.specs.Events.{happens}
 use Rattle.run_numbers.specs.Gauges.{initial_gauge}
 use Rattle.run_numbers.specs.Messages.{messages_at}
-use Rattle.run_numbers.specs.Stretches.{is_found, start_at, stretch_at}
+use Rattle.run_numbers.specs.Stretches.{found_at, start_at, stretch_at}
 
 -- the greatest number at the places up to this one
 abbrev pub top : (ℕ → ℕ) → ℕ → ℕ
@@ -39,9 +40,9 @@ module _ (header : Header) (steps : List Step) where
 
   -- the numbers of a subject so far
   abbrev pub gauge_at : ℕ → Subject → Gauge
-  gauge_at place (Ticks condition) = let stretch = stretch_at header steps condition in record {
+  gauge_at place (Time condition) = let stretch = stretch_at header steps condition in record {
     reading = record {
-      total = passed (is_found condition) place;
+      total = sum_by (found_at header steps condition) (numbers place);
       longest = top stretch place;
       from = start_at header steps condition (first_top stretch place);
     };

@@ -11,6 +11,7 @@ use Rattle.run_numbers.specs.declared.subject.Subject.{Subject}
 use Rattle.run_numbers.specs.declared.taking.Plan.{Plan}
 use Rattle.run_numbers.specs.Counters.{HasRoomFor}
 use Rattle.run_numbers.specs.Looks.{look_of, IsKnown}
+use Rattle.run_numbers.specs.Past.{Past}
 use Rattle.run_numbers.specs.Progress.{counter_in, subject_in}
 use Rattle.run_numbers.specs.Readings.{IsSubjectOf}
 use Rattle.run_numbers.specs.Rows.{row_of, AreSpans}
@@ -30,10 +31,10 @@ abbrev pub row_at : Plan → ℕ → ℕ
 row_at plan k = row_of plan.tasks (subject_in plan.subjects.now k)
 
 -- one step more can be counted for each subject of the row
-abbrev pub HaveRoomIn : List ℕ → Plan → ℕ → List Counter → Type 0
-HaveRoomIn ticks plan row counters =
+abbrev pub HaveRoomIn : Past → Plan → ℕ → List Counter → Type 0
+HaveRoomIn so_far plan row counters =
     (k : ℕ) → k < length plan.subjects.now → row_at plan k ≡ row
-    → HasRoomFor ticks (subject_in plan.subjects.now k) (counter_in counters k)
+    → HasRoomFor so_far (subject_in plan.subjects.now k) (counter_in counters k)
 
 -- the counter at the place is what a function of its subject and of the old one gives
 abbrev pub IsTaken :

@@ -1,11 +1,11 @@
 -- The task that a subject is of.
 use Rattle.std.specs.Prelude.{ℕ, Option, Some, None}
 use Rattle.run_numbers.specs.declared.subject.Condition.{Condition}
-use Rattle.run_numbers.specs.declared.subject.Condition.TheVariants.{Running, RunningOn, WantsCore, Inverted, Blocked, HeldUp}
+use Rattle.run_numbers.specs.declared.subject.Condition.TheVariants.{Running, RunningOn, WantsCore, Inverted, Blocked, HeldUp, Suspended}
 use Rattle.run_numbers.specs.declared.subject.Event.{Event}
 use Rattle.run_numbers.specs.declared.subject.Event.TheVariants.{SwitchedIn, Inherits, TimesOut, Refused}
 use Rattle.run_numbers.specs.declared.subject.Subject.{Subject}
-use Rattle.run_numbers.specs.declared.subject.Subject.TheVariants.{Ticks, Steps, TopPriority, MostMessages, NotMade}
+use Rattle.run_numbers.specs.declared.subject.Subject.TheVariants.{Time, Steps, TopPriority, MostMessages, NotMade}
 
 -- the task that a condition is of, if it is of a task
 abbrev pub task_in : Condition → Option ℕ
@@ -15,6 +15,7 @@ task_in (WantsCore task) = Some task
 task_in (Inverted task) = Some task
 task_in (Blocked task cause) = Some task
 task_in (HeldUp task) = Some task
+task_in (Suspended task) = Some task
 task_in condition = None
 
 -- the task that an event is of
@@ -27,7 +28,7 @@ task_at event = None
 
 -- the task that a subject is of
 abbrev pub task_of : Subject → Option ℕ
-task_of (Ticks condition) = task_in condition
+task_of (Time condition) = task_in condition
 task_of (Steps event) = task_at event
 task_of (TopPriority task) = Some task
 task_of (MostMessages queue) = None

@@ -2,7 +2,8 @@
 ghost use Rattle.std.specs.Prelude.{◌≡◌, ◌<◌, ◌≤◌, ◌+◌, ◌-◌, ◌^◌, length};
 ghost use Rattle.std.specs.Option.{ForSome};
 ghost use Rattle.smp_kernel.specs.Kernel.{StandsForSome};
-ghost use Rattle.run_numbers.specs.Counters.{first_counter, seen, told, took_in, with_stretch, HasRoom, HasRoomFor};
+ghost use Rattle.run_numbers.specs.Counters.{first_counter, past_of, seen, told, took_in, with_stretch, HasRoom, HasRoomFor, HasRoomFrom};
+ghost use Rattle.run_numbers.specs.Past.{past};
 ghost use Rattle.run_numbers.specs.Readings.{IsSubjectOf};
 
 use crate::event::{BeforeStep, happens};
@@ -18,28 +19,37 @@ pub(crate) struct Made<'a> {
     pub(crate) step: &'a Step,
     pub(crate) reply: Reply,
     pub(crate) after: &'a Kernel,
-    /// The places of the ticks so far.
-    pub(crate) ticks: &'a [u32],
+    /// The units of time so far.
+    pub(crate) elapsed: u64,
+    /// The places of the steps that took some of it.
+    pub(crate) places: &'a [u32],
 }
 
-/// The numbers of a subject so far, where its condition holds without the ticks since it does.
+/// From when on a condition holds.
+#[derive(Clone, Copy)]
+pub(crate) struct Since {
+    /// How many units of time had passed.
+    elapsed: u64,
+    /// How many steps had taken some of it.
+    index: u32,
+}
+
+/// The numbers of a subject so far, where its condition holds without the time since it does.
 #[derive(Clone, Copy)]
 pub(crate) struct Counter {
     reading: Reading,
-    /// Where the condition holds, how many ticks came before it began to.
-    since: Option<u32>,
+    since: Option<Since>,
 }
 
-// The numbers with one stretch more: the ticks from the one of this index on.
-fn with_stretch(reading: Reading, ticks: &[u32], first: u32) -> Reading
-    requires within { first ≤ length ticks.now }
-    requires few { length ticks.now < 2 ^ 32 }
-    requires total { reading.total + (length ticks.now - first) < 2 ^ 32 }
-    ensures { result ≡ with_stretch reading ticks.now first }
+// The numbers with one stretch more: the time since then.
+fn with_stretch(reading: Reading, elapsed: u64, places: &[u32], since: Since) -> Reading
+    requires few { length places.now < 2 ^ 32 }
+    requires room { HasRoomFrom (past elapsed places.now) reading since }
+    ensures { result ≡ with_stretch reading (past elapsed places.now) since }
 {
-    let stretch = ticks.len() as u32 - first;
+    let stretch = elapsed - since.elapsed;
     let from = if reading.longest < stretch {
-        ticks[first as usize]
+        places[since.index as usize]
     } else {
         reading.from
     };
@@ -51,40 +61,49 @@ fn with_stretch(reading: Reading, ticks: &[u32], first: u32) -> Reading
 }
 
 impl Counter {
-    /// Before any step: no ticks, this total, and whether the condition holds.
+    /// Before any step: no time, this total, and whether the condition holds.
     pub(crate) fn new(total: u32, holds: bool) -> Self
         ensures { result ≡ first_counter total holds }
     {
+        let start = Since {
+            elapsed: 0,
+            index: 0,
+        };
         Counter {
             reading: Reading {
-                total,
+                total: u64::from(total),
                 longest: 0,
                 from: 0,
             },
-            since: if holds { Some(0) } else { None },
+            since: if holds { Some(start) } else { None },
         }
     }
 
-    /// The numbers with the ticks since the condition holds, of the places of all ticks so far.
-    pub(crate) fn told(&self, ticks: &[u32]) -> Reading
-        requires { HasRoom ticks.now self.now }
-        ensures { result ≡ told ticks.now self.now }
+    /// The numbers with the time since the condition holds: of the time so far, and of the places
+    /// of all steps that took some.
+    pub(crate) fn told(&self, elapsed: u64, places: &[u32]) -> Reading
+        requires { HasRoom (past elapsed places.now) self.now }
+        ensures { result ≡ told (past elapsed places.now) self.now }
     {
         match self.since {
-            Some(first) => with_stretch(self.reading, ticks, first),
+            Some(since) => with_stretch(self.reading, elapsed, places, since),
             None => self.reading,
         }
     }
 
     // The condition holds now, or not.
-    fn see(&mut self, holds: bool, ticks: &[u32])
-        requires { HasRoom ticks.now self.old }
-        ensures { self.new ≡ seen holds ticks.now self.old }
+    fn see(&mut self, holds: bool, elapsed: u64, places: &[u32])
+        requires { HasRoom (past elapsed places.now) self.old }
+        ensures { self.new ≡ seen holds (past elapsed places.now) self.old }
     {
         if holds {
-            self.since = Some(self.since.unwrap_or(ticks.len() as u32));
+            let now = Since {
+                elapsed,
+                index: places.len() as u32,
+            };
+            self.since = Some(self.since.unwrap_or(now));
         } else {
-            self.reading = self.told(ticks);
+            self.reading = self.told(elapsed, places);
             self.since = None;
         }
     }
@@ -95,20 +114,23 @@ impl Counter {
         requires core { ForSome made.now.before.left
             (λ left. left.0 < made.now.after.now.settings.cores) }
         requires sound { StandsForSome made.now.after.now }
-        requires room { HasRoomFor made.now.ticks.now subject self.old }
+        requires room { HasRoomFor (past_of made.now) subject self.old }
         ensures { self.new ≡ took_in made.now subject self.old }
     {
         match subject {
-            Subject::Ticks(condition) => self.see(holds(made.after, condition), made.ticks),
+            Subject::Time(condition) => {
+                self.see(holds(made.after, condition), made.elapsed, made.places);
+            }
             Subject::Steps(event) => {
                 let more = happens(event, made.before, made.step, made.reply, made.after);
-                self.reading.total += u32::from(more);
+                self.reading.total += u64::from(more);
             }
             Subject::TopPriority { task } => {
-                self.reading.total = self.reading.total.max(made.after.in_use(task));
+                self.reading.total = self.reading.total.max(u64::from(made.after.in_use(task)));
             }
             Subject::MostMessages { queue } => {
-                self.reading.total = self.reading.total.max(made.after.queue(queue).messages);
+                let messages = u64::from(made.after.queue(queue).messages);
+                self.reading.total = self.reading.total.max(messages);
             }
             Subject::NotMade { .. } => {}
         }

@@ -1,16 +1,16 @@
 //! The laws of the numbers of a run. Each function does nothing: its contract is the laws.
 ghost use Rattle.run_numbers.specs.NumberLaws.{FirstIsTold, NoneIsLonger, NumbersAreTallies, OneIsAsLong};
 
-/// What a tally counts too is the same number here.
+/// What a tally counts too is the same number here; the ticks, where a tick has one unit of time.
 pub fn law_of_tallies()
     ensures { NumbersAreTallies }
 {}
 
 /// The longest stretch of a condition.
 pub fn law_of_stretches()
-    // No stretch of places at which a condition holds has more ticks.
+    // No stretch of places at which a condition holds takes more time.
     ensures none_is_longer { NoneIsLonger }
-    // One has as many.
+    // One takes as much.
     ensures one_is_as_long { OneIsAsLong }
     // The place that is told is the first at which such a one begins.
     ensures first_is_told { FirstIsTold }

@@ -1,5 +1,5 @@
 //! The numbers of a run: how long its tasks, cores, mutexes and queues were in each condition, how
-//! often something happened to them, and the longest stretch of ticks.
+//! often something happened to them, and the longest stretch of time.
 #![tactic(auto)]
 
 mod counter;

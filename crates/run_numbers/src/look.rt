@@ -23,6 +23,7 @@ pub(crate) struct Look {
     pub(crate) inverted: bool,
     /// The task is blocked on a mutex whose holder has a lower base priority and is on no core.
     pub(crate) held_up: bool,
+    pub(crate) suspended: bool,
     /// What the task's unfinished call waits for.
     pub(crate) cause: Option<Cause>,
 }
@@ -86,6 +87,7 @@ pub(crate) fn look_of(kernel: &Kernel, task: u32, lowest: u32) -> Look
         current: kernel.is_current(task),
         inverted: wants_core(kernel, task) && outranks_lowest(kernel, task, lowest),
         held_up: is_held_up(kernel, task),
+        suspended: kernel.suspended(task),
         cause: cause_of(kernel, task),
     }
 }
@@ -122,6 +124,7 @@ pub(crate) fn is_known(known: Option<Look>, look: Look) -> bool
                 && known.current == look.current
                 && known.inverted == look.inverted
                 && known.held_up == look.held_up
+                && known.suspended == look.suspended
                 && are_same(known.cause, look.cause)
         }
     }

@@ -1,5 +1,5 @@
 //! The numbers of a whole run.
-ghost use Rattle.std.specs.Prelude.{◌≡◌, ◌<◌, ◌≤◌, ◌+◌, ◌-◌, ◌^◌, [], ℕ, Ok, IfOk, OnErr, OnOk, length, map, min, All};
+ghost use Rattle.std.specs.Prelude.{◌≡◌, ◌<◌, ◌≤◌, ◌+◌, ◌-◌, ◌*◌, ◌^◌, [], ℕ, Ok, IfOk, OnErr, OnOk, length, map, min, All};
 ghost use Rattle.std.specs.Option.{ForSome};
 ghost use Rattle.std.specs.Vec.{vec_capacity, vec_len};
 ghost use Rattle.bench_types.specs.Limits.{max_steps};
@@ -14,7 +14,8 @@ ghost use Rattle.smp_kernel.specs.Kernel.{StandsForSome};
 ghost use Rattle.run_numbers.specs.AfterStep.{known_before, left_by};
 ghost use Rattle.run_numbers.specs.Counters.{took, HasRoom};
 ghost use Rattle.run_numbers.specs.Looks.{IsRow};
-ghost use Rattle.run_numbers.specs.Progress.{counter_in, first, measured_at, measured_in, reading_in, ticks_after};
+ghost use Rattle.run_numbers.specs.Past.{past, places_after};
+ghost use Rattle.run_numbers.specs.Progress.{counter_in, first, measured_at, measured_in, reading_in};
 ghost use Rattle.run_numbers.specs.Readings.{calls_of, measured, only, IsSubjectOf};
 ghost use Rattle.run_numbers.specs.Counted.{AreCounted, AreTold, HaveRoom, IsUntouched};
 ghost use Rattle.run_numbers.specs.Taking.{AreLooked, AreTaken, IsPlanOf};
@@ -31,6 +32,7 @@ use bench_types::{CheckedSession, Step};
 use settled_runs::WaitingCall;
 use smp_kernel::{Kernel, Meter};
 use std::alloc::{AllocError, Global};
+use step_times::time_of;
 
 // Before any step.
 fn initial_counter(kernel: &Kernel, subject: Subject) -> Counter
@@ -39,7 +41,7 @@ fn initial_counter(kernel: &Kernel, subject: Subject) -> Counter
     ensures { result ≡ first kernel.now subject }
 {
     match subject {
-        Subject::Ticks(condition) => Counter::new(0, holds(kernel, condition)),
+        Subject::Time(condition) => Counter::new(0, holds(kernel, condition)),
         Subject::TopPriority { task } => Counter::new(kernel.in_use(task), false),
         Subject::MostMessages { queue } => Counter::new(kernel.queue(queue).messages, false),
         _ => Counter::new(0, false),
@@ -74,23 +76,36 @@ fn first_row(alloc: Global, kernel: &Kernel) -> Result<Vec<u32>, AllocError>
     Ok(row)
 }
 
-// Adds the place, where the step is a tick.
-fn note_tick(ticks: &mut Vec<u32>, step: &Step, place: u32)
-    requires { vec_len ticks.old < vec_capacity ticks.old }
-    ensures ticks { ticks.new.items ≡ ticks_after step.now place ticks.old.items }
-    ensures room { vec_capacity ticks.new ≡ vec_capacity ticks.old }
+// The time of a run so far.
+#[derive(Drop)]
+struct Clock {
+    /// The units of time so far.
+    elapsed: u64,
+    /// The places of the steps that took some of it.
+    places: Vec<u32>,
+}
+
+// The step at the place takes this time.
+fn note_time(clock: &mut Clock, time: u32, place: u32)
+    requires room { vec_len clock.old.places < vec_capacity clock.old.places }
+    requires little { clock.old.elapsed + time < 2 ^ 64 }
+    ensures elapsed { clock.new.elapsed ≡ clock.old.elapsed + time }
+    ensures places { clock.new.places.items ≡ places_after time place clock.old.places.items }
+    ensures room { vec_capacity clock.new.places ≡ vec_capacity clock.old.places }
 {
-    if matches!(step, Step::Tick) {
-        ticks.push_reserved(place);
+    clock.elapsed += u64::from(time);
+    if time != 0 {
+        clock.places.push_reserved(place);
     }
 }
 
-// Makes the step, and counts it. If it is a tick, its place is the last one of the ticks.
+// Makes the step, and counts it. The time so far is that with the step.
 fn step_all(
     counters: &mut [Counter],
     looks: &mut [Option<Look>],
     row: &mut [u32],
-    ticks: &[u32],
+    elapsed: u64,
+    places: &[u32],
     plan: &Plan<'_>,
     kernel: &mut Kernel,
     meter: &mut Meter,
@@ -102,7 +117,7 @@ fn step_all(
     requires size { length counters.old ≡ length plan.now.subjects.now }
     requires looks { length looks.old ≡ plan.now.tasks }
     requires row { IsRow row.old kernel.old }
-    requires room { HaveRoom ticks.now plan.now.subjects.now counters.old }
+    requires room { HaveRoom (past elapsed places.now) plan.now.subjects.now counters.old }
     ensures state { (table : Table) → StandsFor kernel.old table
         → StandsFor kernel.new (step_of step.now table).1 }
     ensures shape { kernel.new.settings ≡ kernel.old.settings }
@@ -114,7 +129,7 @@ fn step_all(
     ensures taken { (table : Table) → StandsFor kernel.old table
         → let before = known_before kernel.old step.now in
         AreTaken
-        (took before step.now (step_of step.now table).0 kernel.new ticks.now)
+        (took before step.now (step_of step.now table).0 kernel.new (past elapsed places.now))
         (IsUntouched looks.old row.old before step.now kernel.new) plan.now counters.old
         counters.new }
 {
@@ -126,17 +141,18 @@ fn step_all(
         step,
         reply,
         after: kernel,
-        ticks,
+        elapsed,
+        places,
     };
     take_all(counters, looks, plan, &made);
 }
 
-// Makes the steps of the session, and counts them. There is room for each tick.
+// Makes the steps of the session, and counts them. There is room for the place of each.
 fn run_all(
     counters: &mut [Counter],
     looks: &mut [Option<Look>],
     row: &mut [u32],
-    ticks: &mut Vec<u32>,
+    clock: &mut Clock,
     plan: &Plan<'_>,
     kernel: &mut Kernel,
     meter: &mut Meter,
@@ -144,25 +160,37 @@ fn run_all(
 )
     requires plan { IsPlanOf (settings_of session.now.header) plan.now }
     requires begun { AreCounted session.now 0 kernel.old plan.now counters.old looks.old row.old
-        ticks.old.items }
-    requires room { length session.now.steps ≤ vec_capacity ticks.old }
-    ensures counted { AreTold session.now plan.now.subjects.now ticks.new.items counters.new }
+        (past clock.old.elapsed clock.old.places.items) }
+    requires room { length session.now.steps ≤ vec_capacity clock.old.places }
+    ensures counted { AreTold session.now plan.now.subjects.now
+        (past clock.new.elapsed clock.new.places.items) counters.new }
     ensures meter { meter.new ≡ meter_after (length session.now.steps) meter.old }
 {
+    let units = session.header().config.units;
     let steps = session.steps();
     for place in 0..steps.len() {
         let step = &steps[place];
-        note_tick(ticks, step, place as u32);
-        let so_far = ticks.as_slice();
-        step_all(counters, looks, row, so_far, plan, kernel, meter, step);
+        note_time(clock, time_of(units, step), place as u32);
+        let places = clock.places.as_slice();
+        step_all(
+            counters,
+            looks,
+            row,
+            clock.elapsed,
+            places,
+            plan,
+            kernel,
+            meter,
+            step,
+        );
     }
 }
 
-// The counters after the last step, and the places of the ticks.
+// The counters after the last step, and the time of the run.
 #[derive(Drop)]
 struct Counted {
     counters: Vec<Counter>,
-    ticks: Vec<u32>,
+    clock: Clock,
 }
 
 // The meter counts each step once.
@@ -174,8 +202,8 @@ fn count_all(
 ) -> Result<Counted, AllocError>
     requires { All (IsSubjectOf (settings_of session.now.header)) subjects.now }
     ensures told { IfOk result
-        (λ counted. AreTold session.now subjects.now counted.ticks.items
-        counted.counters.items) }
+        (λ counted. AreTold session.now subjects.now
+        (past counted.clock.elapsed counted.clock.places.items) counted.counters.items) }
     ensures meter { OnOk result (meter.new ≡ meter_after (length session.now.steps) meter.old) }
     ensures uncounted { OnErr result (meter.new ≡ meter.old) }
 {
@@ -188,7 +216,10 @@ fn count_all(
     let mut counters = all_initial(alloc, &kernel, subjects)?;
     let mut looks = vec![in alloc; None; tasks as usize]?;
     let mut row = first_row(alloc, &kernel)?;
-    let mut ticks = Vec::with_capacity(alloc, session.steps().len())?;
+    let mut clock = Clock {
+        elapsed: 0,
+        places: Vec::with_capacity(alloc, session.steps().len())?,
+    };
     let plan = Plan {
         tasks,
         subjects,
@@ -198,13 +229,13 @@ fn count_all(
         &mut counters,
         &mut looks,
         &mut row,
-        &mut ticks,
+        &mut clock,
         &plan,
         &mut kernel,
         meter,
         session,
     );
-    Ok(Counted { counters, ticks })
+    Ok(Counted { counters, clock })
 }
 
 // The calls of the task among those that were not made.
@@ -220,20 +251,21 @@ fn only(total: u32) -> Reading
     ensures { result ≡ only total }
 {
     Reading {
-        total,
+        total: u64::from(total),
         longest: 0,
         from: 0,
     }
 }
 
-fn reading(counter: &Counter, ticks: &[u32], left: &[WaitingCall], subject: Subject) -> Reading
-    requires room { HasRoom ticks.now counter.now }
+fn reading(counter: &Counter, clock: &Clock, left: &[WaitingCall], subject: Subject) -> Reading
+    requires room { HasRoom (past clock.now.elapsed clock.now.places.items) counter.now }
     requires left { length left.now < 2 ^ 32 }
-    ensures { result ≡ reading_in ticks.now counter.now left.now subject }
+    ensures { result
+        ≡ reading_in (past clock.now.elapsed clock.now.places.items) counter.now left.now subject }
 {
     match subject {
         Subject::NotMade { task } => only(calls_of(task, left)),
-        _ => counter.told(ticks),
+        _ => counter.told(clock.elapsed, clock.places.as_slice()),
     }
 }
 
@@ -245,18 +277,18 @@ fn all_measured(
 ) -> Result<Vec<Measured>, AllocError>
     requires size { length counted.now.counters.items ≡ length subjects.now }
     requires room { (k : ℕ) → k < length subjects.now
-        → HasRoom counted.now.ticks.items (counter_in counted.now.counters.items k) }
+        → HasRoom (past counted.now.clock.elapsed counted.now.clock.places.items)
+        (counter_in counted.now.counters.items k) }
     requires left { length left.now < 2 ^ 32 }
     ensures { IfOk result
         (λ measured. measured.items
-        ≡ map (measured_at counted.now.ticks.items counted.now.counters.items left.now
-        subjects.now) (numbers (length subjects.now))) }
+        ≡ map (measured_at (past counted.now.clock.elapsed counted.now.clock.places.items)
+        counted.now.counters.items left.now subjects.now) (numbers (length subjects.now))) }
 {
-    let ticks = counted.ticks.as_slice();
     let mut all = Vec::with_capacity(alloc, subjects.len())?;
     for k in 0..subjects.len() {
         let subject = subjects[k];
-        let reading = reading(&counted.counters[k], ticks, left, subject);
+        let reading = reading(&counted.counters[k], &counted.clock, left, subject);
         all.push(Measured { subject, reading })?;
     }
     Ok(all)

@@ -9,7 +9,7 @@ ghost use Rattle.bench_model.specs.SameTest.{are_same_directions};
 ghost use Rattle.bench_model.specs.State.{holder_at};
 ghost use Rattle.bench_model.specs.Tally.{outranks_some, wants_core};
 ghost use Rattle.smp_kernel.specs.Kernel.{StandsForSome};
-ghost use Rattle.run_numbers.specs.Conditions.{holder_before, holds, holds_up, is_blocked, is_cause, is_empty, is_full, is_held_up, mutex_of};
+ghost use Rattle.run_numbers.specs.Conditions.{holder_before, holds, holds_up, is_blocked, is_cause, is_empty, is_full, is_held_up, mutex_of, stands_blocked};
 ghost use Rattle.run_numbers.specs.Readings.{IsConditionOf};
 
 use crate::{Cause, Condition};
@@ -61,11 +61,19 @@ fn is_cause(cause: Cause, waits: WaitCause) -> bool
     }
 }
 
+// Whether the task waits: it is neither ready nor suspended.
+fn stands_blocked(kernel: &Kernel, task: u32) -> bool
+    requires { task < kernel.now.settings.tasks }
+    ensures { result ≡ stands_blocked list_queues task kernel.now }
+{
+    !kernel.ready(task) && !kernel.suspended(task)
+}
+
 fn is_blocked(kernel: &Kernel, task: u32, cause: Cause) -> bool
     requires { task < kernel.now.settings.tasks }
     ensures { result ≡ is_blocked list_queues task cause kernel.now }
 {
-    if kernel.ready(task) {
+    if !stands_blocked(kernel, task) {
         return false;
     }
     match kernel.unfinished(task) {
@@ -134,7 +142,7 @@ pub(crate) fn is_held_up(kernel: &Kernel, task: u32) -> bool
     requires sound { StandsForSome kernel.now }
     ensures { result ≡ is_held_up list_queues task kernel.now }
 {
-    if kernel.ready(task) {
+    if !stands_blocked(kernel, task) {
         return false;
     }
     match holder_before(kernel, task) {
@@ -191,6 +199,7 @@ pub(crate) fn holds(kernel: &Kernel, condition: Condition) -> bool
         Condition::Inverted { task } => wants_core(kernel, task) && outranks_some(kernel, task),
         Condition::Blocked { task, cause } => is_blocked(kernel, task, cause),
         Condition::HeldUp { task } => is_held_up(kernel, task),
+        Condition::Suspended { task } => kernel.suspended(task),
         Condition::Busy { core } => !is_idle(kernel, core),
         Condition::Idle { core } => is_idle(kernel, core),
         Condition::Due { core } => is_due(kernel, core),

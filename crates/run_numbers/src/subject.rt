@@ -36,6 +36,8 @@ pub enum Condition {
     Blocked { task: u32, cause: Cause },
     /// The task is blocked on a mutex whose holder has a lower base priority and is on no core.
     HeldUp { task: u32 },
+    /// The task is suspended (`eSuspended`).
+    Suspended { task: u32 },
     /// The core has a user task.
     Busy { core: u32 },
     /// The core has an idle task.
@@ -70,8 +72,9 @@ pub enum Event {
 /// What there is a number of.
 #[derive(Clone, Copy, Debug, PartialEq, Eq)]
 pub enum Subject {
-    /// The ticks that find the condition.
-    Ticks(Condition),
+    /// The time that finds the condition, in units. Where a tick has one unit, these are the ticks
+    /// that find it.
+    Time(Condition),
     /// The steps that are the event.
     Steps(Event),
     /// The greatest priority that the task has in use.
@@ -85,12 +88,13 @@ pub enum Subject {
 /// The numbers of a subject.
 #[derive(Clone, Copy, Debug, PartialEq, Eq)]
 pub struct Reading {
-    /// How many ticks, steps or calls there are, or the greatest priority or number of messages.
-    pub total: u32,
-    /// Of a condition the most ticks in a row that find it, where it never fails between them; 0 of
-    /// another subject.
-    pub longest: u32,
-    /// The place of the first of these ticks; 0 where there are none.
+    /// How many units of time, steps or calls there are, or the greatest priority or number of
+    /// messages.
+    pub total: u64,
+    /// Of a condition the most time that finds it, in units, while it never fails; 0 of another
+    /// subject.
+    pub longest: u64,
+    /// The place of the first step that takes some of this time; 0 where there is none.
     pub from: u32,
 }
 
@@ -112,7 +116,8 @@ impl Condition {
             | Condition::WantsCore { task }
             | Condition::Inverted { task }
             | Condition::Blocked { task, .. }
-            | Condition::HeldUp { task } => Some(task),
+            | Condition::HeldUp { task }
+            | Condition::Suspended { task } => Some(task),
             Condition::Busy { .. }
             | Condition::Idle { .. }
             | Condition::Due { .. }
@@ -144,7 +149,7 @@ impl Subject {
         ensures { result ≡ task_of self }
     {
         match self {
-            Subject::Ticks(condition) => condition.task(),
+            Subject::Time(condition) => condition.task(),
             Subject::Steps(event) => event.task(),
             Subject::TopPriority { task } | Subject::NotMade { task } => Some(task),
             Subject::MostMessages { .. } => None,

@@ -2,7 +2,7 @@
 ghost use Rattle.std.specs.Prelude.{◌≡◌, ◌<◌, ◌≤◌, ◌-◌, ℕ, length};
 ghost use Rattle.bench_model.specs.Control.{current};
 ghost use Rattle.run_numbers.specs.declared.look.Look.{Look};
-ghost use Rattle.run_numbers.specs.Counters.{took_in, HasRoomFor};
+ghost use Rattle.run_numbers.specs.Counters.{past_of, took_in, HasRoomFor};
 ghost use Rattle.run_numbers.specs.Looks.{look_of, IsKnown, IsLowest};
 ghost use Rattle.run_numbers.specs.Progress.{counter_in, subject_in};
 ghost use Rattle.run_numbers.specs.Taking.{row_at, AreLooked, AreTaken, HaveRoomIn, IsLooked, IsPlanOf, IsRowTaken, IsTakenAt, IsVisited, IsWhole};
@@ -27,7 +27,7 @@ fn take_at(counters: &mut [Counter], plan: &Plan<'_>, row: u32, place: usize, ma
     requires plan { IsPlanOf made.now.after.now.settings plan.now }
     requires whole { IsWhole made.now }
     requires room { row_at plan.now place ≡ row
-        → HasRoomFor made.now.ticks.now (subject_in plan.now.subjects.now place)
+        → HasRoomFor (past_of made.now) (subject_in plan.now.subjects.now place)
         (counter_in counters.old place) }
     ensures { IsTakenAt (took_in made.now) plan.now row place counters.old counters.new }
 {
@@ -43,7 +43,7 @@ fn take_row(counters: &mut [Counter], plan: &Plan<'_>, row: u32, made: &Made<'_>
     requires row { row ≤ plan.now.tasks }
     requires plan { IsPlanOf made.now.after.now.settings plan.now }
     requires whole { IsWhole made.now }
-    requires room { HaveRoomIn made.now.ticks.now plan.now row counters.old }
+    requires room { HaveRoomIn (past_of made.now) plan.now row counters.old }
     ensures { IsRowTaken (took_in made.now) plan.now row counters.old counters.new }
 {
     let Span { first, end } = plan.spans[row as usize];
@@ -68,7 +68,7 @@ fn visit(
     requires lowest { IsLowest made.now.after.now lowest }
     requires plan { IsPlanOf made.now.after.now.settings plan.now }
     requires whole { IsWhole made.now }
-    requires room { HaveRoomIn made.now.ticks.now plan.now task counters.old }
+    requires room { HaveRoomIn (past_of made.now) plan.now task counters.old }
     ensures visited { IsVisited (took_in made.now)
         (IsKnown looks.old task (look_of made.now.after.now task)) plan.now task counters.old
         counters.new }
@@ -93,7 +93,7 @@ pub(crate) fn take_all(
     requires looks { length looks.old ≡ plan.now.tasks }
     requires plan { IsPlanOf made.now.after.now.settings plan.now }
     requires whole { IsWhole made.now }
-    requires room { (row : ℕ) → HaveRoomIn made.now.ticks.now plan.now row counters.old }
+    requires room { (row : ℕ) → HaveRoomIn (past_of made.now) plan.now row counters.old }
     ensures taken { AreTaken (took_in made.now)
         (λ task. IsKnown looks.old task (look_of made.now.after.now task)) plan.now counters.old
         counters.new }

@@ -15,14 +15,15 @@ use Rattle.bench_model.specs.Control.{core_at, current, is_allowed, is_due, task
 use Rattle.bench_model.specs.Seek.{effective}
 use Rattle.bench_model.specs.Session.{state_at}
 use Rattle.bench_model.specs.Sound.{IsSound}
-use Rattle.bench_model.specs.Table.{Table, is_ready}
+use Rattle.bench_model.specs.Table.{stamp_queues, Table, is_ready}
+use Rattle.bench_model.specs.Suspending.{is_suspended}
 use Rattle.bench_model.specs.Tally.{outranks_some}
 use Rattle.list_orders.proofs.Filters.{list_any-map}
 use Rattle.session_laws.proofs.Tallies.{each_at, length_each, numbers_so}
 use Rattle.run_pictures.specs.declared.hindrance.Hindrance.{Hindrance}
 use Rattle.run_pictures.specs.declared.hindrance.Obstacle.{Obstacle}
 use Rattle.run_pictures.specs.declared.hindrance.Obstacle.TheVariants.{Masked, Held, Due, Unpreempted, Outranked, Lower}
-use Rattle.run_pictures.specs.declared.stance.Stance.TheVariants.{Ready, Blocked}
+use Rattle.run_pictures.specs.declared.stance.Stance.TheVariants.{Ready, Blocked, Suspended}
 use Rattle.run_pictures.specs.HindranceLaws.{in_use, is_lower, AreHindrances, HindrancesAreSo, IsHindered, IsFree, IsSettled, IsTask, RunsInstead}
 use Rattle.run_pictures.specs.Hindrances.{hindrance_of, hindrances_of, hold_or, where_ready}
 use Rattle.run_pictures.specs.Stances.{core_of, stance_of, stance_on}
@@ -37,10 +38,12 @@ none_passes p xs k d none within = fails_before_first p xs k d (by (nat_lt (posi
     by false is found = let beyond : length xs ≤ position_or_len p xs = grind (arith, nat_tests, is) in omega (arith, beyond, within)
 
 -- a task stands ready where it is in a ready list and on no core
-stood_ready : (b : Bool) (core wake : Option ℕ) (cause : Option Cause) → (if b then stance_on core else Blocked wake cause) ≡ Ready → (b ≡ true) × (core ≡ None)
-stood_ready true None wake cause e = (refl, refl)
-stood_ready true (Some core) wake cause e = absurd (cc e)
-stood_ready false core wake cause e = absurd (cc e)
+stood_ready : (b d : Bool) (core wake : Option ℕ) (cause : Option Cause) → (if b then stance_on core else (if d then Suspended else Blocked wake cause)) ≡ Ready
+    → (b ≡ true) × (core ≡ None)
+stood_ready true d None wake cause e = (refl, refl)
+stood_ready true d (Some core) wake cause e = absurd (cc e)
+stood_ready false true core wake cause e = absurd (cc e)
+stood_ready false false core wake cause e = absurd (cc e)
 
 cores_decided : (f : ℕ → Obstacle) (ns : List ℕ) → map (λ (hindrance : Hindrance). hindrance.core) (map (λ core. record { core = core; by = f core }) ns) ≡ ns
 cores_decided f [] = refl
@@ -96,7 +99,7 @@ module _ (table : Table) (task : ℕ) (sound : IsSound table) (ready : stance_of
   not_current : (core : ℕ) → core < table.settings.cores → current table.control core ≢ task
   not_current core few same =
       let cores = map (core_at table.control) (numbers table.settings.cores) in
-      let none = (stood_ready (is_ready task table.orders) (core_of task cores) _ _ ready).1 in
+      let none = (stood_ready (is_ready task table.orders) (is_suspended stamp_queues task table) (core_of task cores) _ _ ready).1 in
       let first : CoreLook = core_at table.control core in
       let fails = none_passes (λ (look : CoreLook). look.current == task) cores core first none
       (omega (arith, few, length_each (core_at table.control) table.settings.cores)) in

@@ -29,7 +29,7 @@ use Rattle.run_pictures.specs.declared.shown.Priorities.{Priorities}
 use Rattle.run_pictures.specs.declared.signs.Sign.{Sign}
 use Rattle.run_pictures.specs.declared.signs.Sign.TheVariants as sign
 use Rattle.run_pictures.specs.declared.stance.Stance.{Stance}
-use Rattle.run_pictures.specs.declared.stance.Stance.TheVariants.{Runs, Ready, Blocked}
+use Rattle.run_pictures.specs.declared.stance.Stance.TheVariants.{Runs, Ready, Blocked, Suspended}
 use Rattle.run_pictures.specs.declared.stretch.Stretch.{Stretch}
 use Rattle.run_pictures.specs.Bars.{all_bars, bar_over, changed_bars, core_bars, core_top, current_bars, current_shape, due_bars, due_shape, held_over, held_shape, hold_bars, hold_shape}
 use Rattle.run_pictures.specs.Bars.{inherited_bars, inherited_shape, messages_shape, mutex_bars, mutex_top, off_bars, off_shape, pose_bars, pose_shape, queue_bars}
@@ -43,7 +43,7 @@ use Rattle.run_pictures.specs.Preemption.{preempt_in, preempt_stretches}
 use Rattle.run_pictures.specs.QueueLines.{changed_queues, do_differ, is_changed, queues_of}
 use Rattle.run_pictures.specs.Same.{are_same_dues, are_same_poses, are_same_priorities, are_same_stances}
 use Rattle.run_pictures.specs.Shown.{Shown}
-use Rattle.run_pictures.specs.Signs.{has_blocked, has_due, has_idle, has_inherited, has_ready, has_unpreempted, has_user, is_blocked, is_held, is_interrupt}
+use Rattle.run_pictures.specs.Signs.{has_blocked, has_suspended, is_away, has_due, has_idle, has_inherited, has_ready, has_unpreempted, has_user, is_blocked, is_held, is_interrupt}
 use Rattle.run_pictures.specs.Signs.{is_refusal, is_used}
 use Rattle.run_pictures.specs.Stances.{core_of, stance_in, stance_with, status_in}
 use Rattle.run_pictures.specs.StretchesOf.{stretches_of}
@@ -85,6 +85,7 @@ ran : (stands : Standing) (cause : Option Cause) (core : Option ℕ) (k : ℕ) �
 ran standing.Ready cause None k is = absurd (cc is)
 ran standing.Ready cause (Some core) k is = cc is
 ran (standing.Blocked wake) cause core k is = absurd (cc is)
+ran standing.Suspended cause core k is = absurd (cc is)
 
 abbrev runs_task : ℕ → CoreLook → Bool
 runs_task task core = core.current == task
@@ -415,6 +416,10 @@ module _ (shown : Shown) (top : ℕ)
       used_so sign.Blocked wanted tint ink.Waits refl same is
       (any_to (has_blocked shown.header) looks look has
       (any_to (λ u. is_blocked (stance_in (cores + u) look)) (numbers users) user (number_to users user few) (ap is_blocked stands)))
+  used_by_stance user look wanted tint Suspended few has stands same is =
+      used_so sign.Suspended wanted tint ink.Suspended refl same is
+      (any_to (has_suspended shown.header) looks look has
+      (any_to (λ u. is_away (stance_in (cores + u) look)) (numbers users) user (number_to users user few) (ap is_away stands)))
 
   module _ (bar : Bar) (wanted : Sign) (is : sign_of bar.ink ≡ Some wanted) where
     by_ticks : Contains ticks bar → IsUsed wanted
@@ -616,11 +621,19 @@ module _ (shown : Shown) (top : ℕ)
   ready_is Ready user is = refl
   ready_is (Runs core) user is = absurd (true≢false (sym is))
   ready_is (Blocked wake cause) user is = absurd (true≢false (sym is))
+  ready_is Suspended user is = absurd (true≢false (sym is))
 
   blocked_is : (stance : Stance) (user : ℕ) → is_blocked stance ≡ true → sign_of (stance_ink user stance) ≡ Some sign.Blocked
   blocked_is Ready user is = absurd (true≢false (sym is))
   blocked_is (Runs core) user is = absurd (true≢false (sym is))
   blocked_is (Blocked wake cause) user is = refl
+  blocked_is Suspended user is = absurd (true≢false (sym is))
+
+  away_is : (stance : Stance) (user : ℕ) → is_away stance ≡ true → sign_of (stance_ink user stance) ≡ Some sign.Suspended
+  away_is Ready user is = absurd (true≢false (sym is))
+  away_is (Runs core) user is = absurd (true≢false (sym is))
+  away_is (Blocked wake cause) user is = absurd (true≢false (sym is))
+  away_is Suspended user is = refl
 
   own_held : (hold : Option Hold) → is_some hold ≡ true → (core : ℕ) × (one : Hold) × (hold ≡ Some one) × (one.core ≡ core) × (is_some (own_hold core hold) ≡ true)
   own_held None is = absurd (true≢false (sym is))
@@ -655,6 +668,10 @@ module _ (shown : Shown) (top : ℕ)
   used_drawn sign.Blocked used =
       let seen = some_user (λ user look. is_blocked (stance_in (cores + user) look)) used in
       with_ink (stance_ink seen.1 (stance_in (cores + seen.1) seen.0)) sign.Blocked (blocked_is (stance_in (cores + seen.1) seen.0) seen.1 seen.4)
+      (pose_drawn seen.1 seen.0 seen.3 seen.2)
+  used_drawn sign.Suspended used =
+      let seen = some_user (λ user look. is_away (stance_in (cores + user) look)) used in
+      with_ink (stance_ink seen.1 (stance_in (cores + seen.1) seen.0)) sign.Suspended (away_is (stance_in (cores + seen.1) seen.0) seen.1 seen.4)
       (pose_drawn seen.1 seen.0 seen.3 seen.2)
   used_drawn sign.Due used =
       let seen = some_core (λ one. one.pend || one.asked) used in with_ink ink.Due sign.Due refl (due_drawn seen.1 seen.0 seen.3 seen.2 seen.4)

@@ -14,7 +14,7 @@ use Rattle.run_views.specs.declared.look.Look.{Look}
 use Rattle.run_views.specs.declared.places.Places.{Places}
 use Rattle.run_views.specs.Looks.{look_of}
 use Rattle.run_pictures.specs.declared.signs.Sign.{Sign}
-use Rattle.run_pictures.specs.declared.signs.Sign.TheVariants.{Running, Idle, Ready, Blocked, Due, Held, Inherited, PreemptionOff, Taken, Messages, Interrupt, Refused}
+use Rattle.run_pictures.specs.declared.signs.Sign.TheVariants.{Running, Idle, Ready, Blocked, Suspended, Due, Held, Inherited, PreemptionOff, Taken, Messages, Interrupt, Refused}
 use Rattle.run_pictures.specs.LegendLaws.{LegendIsOfRun, LegendIsOfRuns}
 use Rattle.run_pictures.specs.Picture.{shown_at, shown_of}
 use Rattle.run_pictures.specs.RunLooks.{looks_of, run_looks, shown_places}
@@ -27,15 +27,16 @@ all_has : (sign : Sign) → Contains all_signs sign
 all_has Running = (0, omega arith, refl)
 all_has Ready = (1, omega arith, refl)
 all_has Blocked = (2, omega arith, refl)
-all_has Idle = (3, omega arith, refl)
-all_has Due = (4, omega arith, refl)
-all_has Held = (5, omega arith, refl)
-all_has Inherited = (6, omega arith, refl)
-all_has PreemptionOff = (7, omega arith, refl)
-all_has Taken = (8, omega arith, refl)
-all_has Messages = (9, omega arith, refl)
-all_has Interrupt = (10, omega arith, refl)
-all_has Refused = (11, omega arith, refl)
+all_has Suspended = (3, omega arith, refl)
+all_has Idle = (4, omega arith, refl)
+all_has Due = (5, omega arith, refl)
+all_has Held = (6, omega arith, refl)
+all_has Inherited = (7, omega arith, refl)
+all_has PreemptionOff = (8, omega arith, refl)
+all_has Taken = (9, omega arith, refl)
+all_has Messages = (10, omega arith, refl)
+all_has Interrupt = (11, omega arith, refl)
+all_has Refused = (12, omega arith, refl)
 
 -- of a checked session
 module _ (places : Places) (header : Header) (steps : List Step) (is : IsCheckedHeader header) (checked : All (IsCheckedStep (settings_of header)) steps) where

@@ -17,7 +17,7 @@ use Rattle.run_pictures.specs.declared.pose.Detail.TheVariants.{EachPlace, First
 use Rattle.run_pictures.specs.declared.shown.Due.{Due}
 use Rattle.run_pictures.specs.declared.shown.Priorities.{Priorities}
 use Rattle.run_pictures.specs.declared.stance.Stance.{Stance}
-use Rattle.run_pictures.specs.declared.stance.Stance.TheVariants.{Runs, Ready, Blocked}
+use Rattle.run_pictures.specs.declared.stance.Stance.TheVariants.{Runs, Ready, Blocked, Suspended}
 use Rattle.run_pictures.specs.declared.stretch.Stretch.{Stretch}
 use Rattle.run_pictures.specs.BarLaws.{columns_begin, columns_end, AreLaidOut, Climb, FillRow, IsWithinRow, RunIsLaidOut, RunsAreLaidOut}
 use Rattle.run_pictures.specs.Bars.{bar_over, core_top, current_shape, due_shape, held_over, held_shape, hold_shape, inherited_shape, messages_shape, mutex_top, off_shape, pose_shape}
@@ -59,6 +59,7 @@ within_pose : (user y : ℕ) (first last : ℕ) (stance : Stance) → IsWithinRo
 within_pose user y first last (Runs core) = record { above = omega arith; below = omega arith }
 within_pose user y first last Ready = record { above = omega arith; below = omega arith }
 within_pose user y first last (Blocked wake cause) = record { above = omega arith; below = omega arith }
+within_pose user y first last Suspended = record { above = omega arith; below = omega arith }
 
 -- of a run whose columns climb
 module _ (shown : Shown) (top right : ℕ)

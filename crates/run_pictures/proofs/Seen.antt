@@ -17,14 +17,15 @@ use Rattle.bench_model.specs.Session.{state_at}
 use Rattle.bench_model.specs.Sound.{IsSound}
 use Rattle.bench_model.specs.Start.{start}
 use Rattle.bench_model.specs.State.{holder_at}
-use Rattle.bench_model.specs.Table.{Table, is_ready, tick_count}
+use Rattle.bench_model.specs.Table.{stamp_queues, Table, is_ready, tick_count}
+use Rattle.bench_model.specs.Suspending.{is_suspended}
 use Rattle.session_laws.proofs.Tallies.{length_each, numbers_so}
 use Rattle.step_laws.proofs.Along.{settings_along, sound_along, start_settings}
 use Rattle.step_laws.proofs.Starts.{start_sound}
 use Rattle.run_views.specs.declared.look.Standing.TheVariants as standing
 use Rattle.run_views.specs.declared.look.TaskStatus.{TaskStatus}
 use Rattle.run_views.specs.Looks.{look_of, status_of}
-use Rattle.run_pictures.specs.declared.stance.Stance.TheVariants.{Blocked}
+use Rattle.run_pictures.specs.declared.stance.Stance.TheVariants.{Blocked, Suspended}
 use Rattle.run_pictures.specs.Hindrances.{effective_in, has_core, hindrance_in, hindrance_of, obstacle_at, rival_in, rival_of, site_in, site_of, where_ready}
 use Rattle.run_pictures.specs.Poses.{pose_in, pose_of}
 use Rattle.run_pictures.specs.Preemption.{preempt_in}
@@ -93,17 +94,19 @@ pub terms_seen : (table : Table) (task : ℕ) → task < table.settings.tasks �
 unfolding task_look
 terms_seen table task few = λ i. record { base = (status_seen table task few i).base; mask = (status_seen table task few i).mask }
 
-stood : (b : Bool) (wake : Option ℕ) (cause : Option Cause) (core : Option ℕ) → stance_with (if b then standing.Ready else standing.Blocked wake) cause core ≡
-    (if b then stance_on core else Blocked wake cause)
-stood true wake cause core = refl
-stood false wake cause core = refl
+stood : (b d : Bool) (wake : Option ℕ) (cause : Option Cause) (core : Option ℕ)
+    → stance_with (if b then standing.Ready else (if d then standing.Suspended else standing.Blocked wake)) cause core ≡
+    (if b then stance_on core else (if d then Suspended else Blocked wake cause))
+stood true d wake cause core = refl
+stood false true wake cause core = refl
+stood false false wake cause core = refl
 
 pub stance_seen : (table : Table) (task : ℕ) → task < table.settings.tasks → stance_in task (look_of table) ≡ stance_of table task
 unfolding look_of task_look
 stance_seen table task few =
     ap (λ (status : TaskStatus). stance_with status.standing status.cause (core_of task (map (core_at table.control) (numbers table.settings.cores))))
     (status_seen table task few)
-    ∙ stood (is_ready task table.orders) _ _ _
+    ∙ stood (is_ready task table.orders) (is_suspended stamp_queues task table) _ _ _
 
 -- ---- what is in the way of a task
 

@@ -13,7 +13,7 @@ use Rattle.run_pictures.specs.declared.hindrance.Obstacle.TheVariants.{Masked, H
 use Rattle.run_pictures.specs.declared.hindrance.Rival.{Rival}
 use Rattle.run_pictures.specs.declared.hindrance.Site.{Site}
 use Rattle.run_pictures.specs.declared.stance.Stance.{Stance}
-use Rattle.run_pictures.specs.declared.stance.Stance.TheVariants.{Runs, Ready, Blocked}
+use Rattle.run_pictures.specs.declared.stance.Stance.TheVariants.{Runs, Ready, Blocked, Suspended}
 use Rattle.run_pictures.specs.TaskStretches.{core_in, current_in}
 use Rattle.run_pictures.specs.Stances.{stance_in, stance_of, status_in}
 
@@ -43,6 +43,7 @@ abbrev pub where_ready : Stance → List Hindrance → List Hindrance
 where_ready Ready hindrances = hindrances
 where_ready (Runs core) hindrances = []
 where_ready (Blocked wake cause) hindrances = []
+where_ready Suspended hindrances = []
 
 -- ---- in a look
 

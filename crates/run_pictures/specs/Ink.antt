@@ -1,7 +1,7 @@
 -- What a bar stands for: the style of the picture draws each in its own colour.
 use Rattle.std.specs.Prelude.{ℕ, ◌-◌, ◌%◌, ◌==◌, List, ◌++◌, nat_lt, codes, decimal, if◌then◌else◌}
 use Rattle.run_pictures.specs.declared.ink.Ink.{Ink}
-use Rattle.run_pictures.specs.declared.ink.Ink.TheVariants.{EvenTick, OddTick, Idle, Runs, Ready, Waits, Due, Held, Inherited, Off, Taken, Messages, Clear}
+use Rattle.run_pictures.specs.declared.ink.Ink.TheVariants.{EvenTick, OddTick, Idle, Runs, Ready, Waits, Suspended, Due, Held, Inherited, Off, Taken, Messages, Clear}
 
 abbrev pub tick_ink : ℕ → Ink
 tick_ink tick = if tick % 2 == 0 then EvenTick else OddTick
@@ -18,6 +18,7 @@ ink_text Idle = codes "i"
 ink_text (Runs user) = codes "c" ++ decimal (user % 8)
 ink_text (Ready user) = codes "r c" ++ decimal (user % 8)
 ink_text Waits = codes "w"
+ink_text Suspended = codes "i"
 ink_text Due = codes "d"
 ink_text Held = codes "h"
 ink_text Inherited = codes "u"

@@ -13,7 +13,7 @@ use Rattle.run_pictures.specs.declared.ink.Ink.TheVariants as ink
 use Rattle.run_pictures.specs.declared.marks.Mark.{Mark}
 use Rattle.run_pictures.specs.declared.marks.Mark.TheVariants as mark
 use Rattle.run_pictures.specs.declared.signs.Sign.{Sign}
-use Rattle.run_pictures.specs.declared.signs.Sign.TheVariants.{Running, Idle, Ready, Blocked, Due, Held, Inherited, PreemptionOff, Taken, Messages, Interrupt, Refused}
+use Rattle.run_pictures.specs.declared.signs.Sign.TheVariants.{Running, Idle, Ready, Blocked, Suspended, Due, Held, Inherited, PreemptionOff, Taken, Messages, Interrupt, Refused}
 use Rattle.run_pictures.specs.Bars.{all_bars}
 use Rattle.run_pictures.specs.Drawn.{Drawn, IsDrawable}
 use Rattle.run_pictures.specs.Marks.{mark_at}
@@ -29,6 +29,7 @@ sign_of ink.Idle = Some Idle
 sign_of (ink.Runs user) = Some Running
 sign_of (ink.Ready user) = Some Ready
 sign_of ink.Waits = Some Blocked
+sign_of ink.Suspended = Some Suspended
 sign_of ink.Due = Some Due
 sign_of ink.Held = Some Held
 sign_of ink.Inherited = Some Inherited

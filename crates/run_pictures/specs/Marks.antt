@@ -23,6 +23,7 @@ use Rattle.run_pictures.specs.Frame.{pixels, x_of}
 abbrev pub interrupt_mark : Step → Option Mark
 interrupt_mark (step.Interrupt core note) = Some Interrupt
 interrupt_mark (step.QueueInterrupt core queue direction) = Some Interrupt
+interrupt_mark (step.ResumeInterrupt core task) = Some Interrupt
 interrupt_mark other = None
 
 -- what is marked of a step

@@ -10,7 +10,7 @@ use Rattle.run_pictures.specs.declared.pose.Detail.TheVariants.{EachPlace, First
 use Rattle.run_pictures.specs.declared.pose.Pose.{Pose}
 use Rattle.run_pictures.specs.declared.stretch.Stretch.{Stretch}
 use Rattle.run_pictures.specs.declared.stance.Stance.{Stance}
-use Rattle.run_pictures.specs.declared.stance.Stance.TheVariants.{Runs, Ready, Blocked}
+use Rattle.run_pictures.specs.declared.stance.Stance.TheVariants.{Runs, Ready, Blocked, Suspended}
 use Rattle.run_pictures.specs.Hindrances.{hindrances_in, hindrances_of}
 use Rattle.run_pictures.specs.Limits.{max_found, max_pieces}
 use Rattle.run_pictures.specs.Same.{are_same_poses}
@@ -59,6 +59,7 @@ abbrev pub stands_ready : Stance → Bool
 stands_ready Ready = true
 stands_ready (Runs core) = false
 stands_ready (Blocked wake cause) = false
+stands_ready Suspended = false
 
 -- how many of the stretches are of a ready task
 abbrev pub count_ready : List (Stretch Pose) → ℕ

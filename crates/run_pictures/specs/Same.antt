@@ -9,7 +9,7 @@ use Rattle.run_pictures.specs.declared.pose.Pose.{Pose}
 use Rattle.run_pictures.specs.declared.shown.Due.{Due}
 use Rattle.run_pictures.specs.declared.shown.Priorities.{Priorities}
 use Rattle.run_pictures.specs.declared.stance.Stance.{Stance}
-use Rattle.run_pictures.specs.declared.stance.Stance.TheVariants.{Runs, Ready, Blocked}
+use Rattle.run_pictures.specs.declared.stance.Stance.TheVariants.{Runs, Ready, Blocked, Suspended}
 use Rattle.run_pictures.specs.declared.task_names.Terms.{Terms}
 
 abbrev pub are_same_dues : Due → Due → Bool
@@ -26,6 +26,7 @@ are_same_stances (Runs core) (Runs other) = core == other
 are_same_stances Ready Ready = true
 are_same_stances (Blocked wake cause) (Blocked other reason) =
     are_same_numbers wake other && are_same_options are_same_causes cause reason
+are_same_stances Suspended Suspended = true
 are_same_stances a b = false
 
 abbrev pub are_same_obstacles : Obstacle → Obstacle → Bool

@@ -9,7 +9,7 @@ use Rattle.run_pictures.specs.declared.run_looks.Made.{Made}
 use Rattle.run_pictures.specs.declared.marks.Mark.{Mark}
 use Rattle.run_pictures.specs.declared.marks.Mark.TheVariants as mark
 use Rattle.run_pictures.specs.declared.signs.Sign.{Sign}
-use Rattle.run_pictures.specs.declared.signs.Sign.TheVariants.{Running, Idle, Ready, Blocked, Due, Held, Inherited, PreemptionOff, Taken, Messages, Interrupt, Refused}
+use Rattle.run_pictures.specs.declared.signs.Sign.TheVariants.{Running, Idle, Ready, Blocked, Suspended, Due, Held, Inherited, PreemptionOff, Taken, Messages, Interrupt, Refused}
 use Rattle.run_pictures.specs.declared.stance.Stance.{Stance}
 use Rattle.run_pictures.specs.declared.stance.Stance.TheVariants as stance
 use Rattle.run_pictures.specs.Marks.{mark_at}
@@ -38,6 +38,11 @@ abbrev pub is_blocked : Stance → Bool
 is_blocked stance.Ready = false
 is_blocked (stance.Runs core) = false
 is_blocked (stance.Blocked wake cause) = true
+is_blocked stance.Suspended = false
+
+abbrev pub is_away : Stance → Bool
+is_away stance.Suspended = true
+is_away stance = false
 
 -- some user task stands ready and on no core
 abbrev pub has_ready : Header → Look → Bool
@@ -48,6 +53,11 @@ has_ready header look =
 abbrev pub has_blocked : Header → Look → Bool
 has_blocked header look =
     list_any (λ user. is_blocked (stance_in (header.config.cores + user) look))
+    (numbers (length header.tasks))
+
+abbrev pub has_suspended : Header → Look → Bool
+has_suspended header look =
+    list_any (λ user. is_away (stance_in (header.config.cores + user) look))
     (numbers (length header.tasks))
 
 -- the priority in use of some user task is not its own
@@ -86,6 +96,7 @@ is_used shown Running = list_any (has_user shown.header.config.cores) shown.run_
 is_used shown Idle = list_any (has_idle shown.header.config.cores) shown.run_looks.looks
 is_used shown Ready = list_any (has_ready shown.header) shown.run_looks.looks
 is_used shown Blocked = list_any (has_blocked shown.header) shown.run_looks.looks
+is_used shown Suspended = list_any (has_suspended shown.header) shown.run_looks.looks
 is_used shown Due = list_any has_due shown.run_looks.looks
 is_used shown Held = list_any is_held shown.run_looks.looks
 is_used shown Inherited = list_any (has_inherited shown.header) shown.run_looks.looks
@@ -100,8 +111,8 @@ is_used shown Refused = has_refusal shown.run_looks.made (length shown.run_looks
 -- in their order
 abbrev pub all_signs : List Sign
 all_signs =
-    Running ∷ Ready ∷ Blocked ∷ Idle ∷ Due ∷ Held ∷ Inherited ∷ PreemptionOff ∷ Taken ∷ Messages
-    ∷ Interrupt ∷ Refused ∷ []
+    Running ∷ Ready ∷ Blocked ∷ Suspended ∷ Idle ∷ Due ∷ Held ∷ Inherited ∷ PreemptionOff ∷ Taken
+    ∷ Messages ∷ Interrupt ∷ Refused ∷ []
 
 -- the legend of a run has what the run has
 abbrev pub signs_of : Shown → List Sign
@@ -117,6 +128,7 @@ unfoldable pub drawing : Sign → List ℕ
 drawing Running = codes "<rect class='c0' width='20' height='14'/>"
 drawing Ready = codes "<rect class='r c0' y='3' width='20' height='8'/>"
 drawing Blocked = codes "<rect class='w' y='5' width='20' height='4'/>"
+drawing Suspended = codes "<rect class='i' y='4' width='20' height='6'/>"
 drawing Idle = codes "<rect class='i' width='20' height='14'/>"
 drawing Due =
     codes "<rect class='c0' width='20' height='14'/><rect class='d' width='20' height='4'/>"
@@ -133,6 +145,7 @@ unfoldable pub meaning : Sign → List ℕ
 meaning Running = codes "running"
 meaning Ready = codes "ready"
 meaning Blocked = codes "blocked"
+meaning Suspended = codes "suspended"
 meaning Idle = codes "idle task"
 meaning Due = codes "core due to switch"
 meaning Held = codes "core holds the kernel"

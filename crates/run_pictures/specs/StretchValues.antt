@@ -13,7 +13,7 @@ use Rattle.run_pictures.specs.declared.pose.Pose.{Pose}
 use Rattle.run_pictures.specs.declared.shown.Due.{Due}
 use Rattle.run_pictures.specs.declared.shown.Priorities.{Priorities}
 use Rattle.run_pictures.specs.declared.stance.Stance.{Stance}
-use Rattle.run_pictures.specs.declared.stance.Stance.TheVariants.{Runs, Ready, Blocked}
+use Rattle.run_pictures.specs.declared.stance.Stance.TheVariants.{Runs, Ready, Blocked, Suspended}
 use Rattle.run_pictures.specs.declared.task_names.Terms.{Terms}
 use Rattle.run_views.specs.Changes.{are_same_causes, are_same_numbers}
 use Rattle.run_pictures.specs.Same.{are_same_dues, are_same_hindrances, are_same_obstacles, are_same_poses, are_same_priorities, are_same_stances}
@@ -55,28 +55,15 @@ apart never = (λ e. absurd (true≢false (sym e)), λ p. absurd (never p))
 
 abbrev runs_on : Stance → ℕ
 runs_on (Runs core) = core
-runs_on Ready = 0
-runs_on (Blocked wake cause) = 0
+runs_on stance = 0
 
 abbrev wakes_at : Stance → Option ℕ
-wakes_at (Runs core) = None
-wakes_at Ready = None
 wakes_at (Blocked wake cause) = wake
+wakes_at stance = None
 
 abbrev waits_for : Stance → Option Cause
-waits_for (Runs core) = None
-waits_for Ready = None
 waits_for (Blocked wake cause) = cause
-
-abbrev does_run : Stance → Bool
-does_run (Runs core) = true
-does_run Ready = false
-does_run (Blocked wake cause) = false
-
-abbrev is_blocked : Stance → Bool
-is_blocked (Runs core) = false
-is_blocked Ready = false
-is_blocked (Blocked wake cause) = true
+waits_for stance = None
 
 pub stances_decided : (a b : Stance) → Decides (are_same_stances a b) (a ≡ b)
 stances_decided (Runs core) (Runs other) = Decides-like (nat_eq core other)
@@ -87,12 +74,8 @@ stances_decided (Blocked wake cause) (Blocked other reason) = Decides-like
     (λ e i. Blocked (e.0 i) (e.1 i))
     (λ e. (ap wakes_at e, ap waits_for e))
     (Decides-and _ _ (tests.numbers_decided wake other) (tests.causes_decided cause reason))
-stances_decided (Runs core) Ready = apart (λ e. true≢false (ap does_run e))
-stances_decided (Runs core) (Blocked wake cause) = apart (λ e. true≢false (ap does_run e))
-stances_decided Ready (Runs core) = apart (λ e. true≢false (sym (ap does_run e)))
-stances_decided Ready (Blocked wake cause) = apart (λ e. true≢false (sym (ap is_blocked e)))
-stances_decided (Blocked wake cause) (Runs core) = apart (λ e. true≢false (sym (ap does_run e)))
-stances_decided (Blocked wake cause) Ready = apart (λ e. true≢false (ap is_blocked e))
+stances_decided Suspended Suspended = (λ e. refl, λ e. refl)
+stances_decided a b = apart (λ e. cc e)
 
 -- of two numbers each
 both_decided : (task other priority level : ℕ)

@@ -19,7 +19,7 @@ use Rattle.run_pictures.specs.declared.pose.Pose.{Pose}
 use Rattle.run_pictures.specs.declared.shown.Priorities.{Priorities}
 use Rattle.run_pictures.specs.declared.stretch.Stretch.{Stretch}
 use Rattle.run_pictures.specs.declared.stance.Stance.{Stance}
-use Rattle.run_pictures.specs.declared.stance.Stance.TheVariants.{Runs, Ready, Blocked}
+use Rattle.run_pictures.specs.declared.stance.Stance.TheVariants.{Runs, Ready, Blocked, Suspended}
 use Rattle.run_pictures.specs.Bar.{bar_text, label_text, over_text}
 use Rattle.run_pictures.specs.HindranceWords.{hindered_text}
 use Rattle.run_pictures.specs.Poses.{detailed_stretches}
@@ -46,6 +46,7 @@ abbrev pub stance_text : Stance → List ℕ
 stance_text (Runs core) = codes " runs on core " ++ decimal core
 stance_text Ready = codes " ready"
 stance_text (Blocked wake cause) = standing_text (standing.Blocked wake) ++ reason_text cause
+stance_text Suspended = standing_text standing.Suspended
 
 abbrev pub stance_words : Header → ℕ → Stretch Stance → List ℕ
 stance_words header task stretch =
@@ -55,17 +56,20 @@ abbrev pub stance_ink : ℕ → Stance → Ink
 stance_ink user (Runs core) = ink.Runs user
 stance_ink user Ready = ink.Ready user
 stance_ink user (Blocked wake cause) = ink.Waits
+stance_ink user Suspended = ink.Suspended
 
 -- how far below the top of its row the bar begins
 abbrev pub stance_down : Stance → ℕ
 stance_down (Runs core) = 4
 stance_down Ready = 8
 stance_down (Blocked wake cause) = 15
+stance_down Suspended = 13
 
 abbrev pub stance_height : Stance → ℕ
 stance_height (Runs core) = 16
 stance_height Ready = 8
 stance_height (Blocked wake cause) = 4
+stance_height Suspended = 6
 
 -- the bar of the user task of that index
 abbrev pub stance_shape : ℕ → ℕ → Stretch Stance → Bar
@@ -87,6 +91,7 @@ label_of frame y first last (Runs core) =
     label_text frame Dark first last (y + 16) (codes "core " ++ decimal core)
 label_of frame y first last Ready = []
 label_of frame y first last (Blocked wake cause) = blocked_label frame y first last cause
+label_of frame y first last Suspended = []
 
 -- the core on which the task runs, or what it waits for
 unfoldable pub stance_label : Frame → ℕ → Stretch Stance → List ℕ

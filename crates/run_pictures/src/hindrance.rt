@@ -162,7 +162,7 @@ pub(crate) fn hindrances_in(
 {
     match stance_in(look, task) {
         Stance::Ready => at_each_core(alloc, look, task),
-        Stance::Runs { .. } | Stance::Blocked { .. } => Ok(Vec::new(alloc)),
+        Stance::Runs { .. } | Stance::Blocked { .. } | Stance::Suspended => Ok(Vec::new(alloc)),
     }
 }
 

@@ -16,6 +16,8 @@ pub(crate) enum Ink {
     /// The user task of that index, which is ready.
     Ready(u32),
     Waits,
+    /// A user task that is suspended.
+    Suspended,
     Due,
     Held,
     Inherited,
@@ -58,7 +60,7 @@ pub(crate) fn push_ink(text: &mut String, ink: Ink) -> Result<(), AllocError>
     match ink {
         Ink::EvenTick => text.push_str("t"),
         Ink::OddTick => text.push_str("t v"),
-        Ink::Idle => text.push_str("i"),
+        Ink::Idle | Ink::Suspended => text.push_str("i"),
         Ink::Runs(user) => write!(text, "c{}", user % 8),
         Ink::Ready(user) => write!(text, "r c{}", user % 8),
         Ink::Waits => text.push_str("w"),

@@ -27,7 +27,9 @@ fn mark_of(made: Made) -> Option<Mark>
         return Some(Mark::Refused);
     }
     match made.step {
-        Step::Interrupt { .. } | Step::QueueInterrupt { .. } => Some(Mark::Interrupt),
+        Step::Interrupt { .. } | Step::QueueInterrupt { .. } | Step::ResumeInterrupt { .. } => {
+            Some(Mark::Interrupt)
+        }
         _ => None,
     }
 }

@@ -128,7 +128,7 @@ pub(crate) fn stands_ready(stance: Stance) -> bool
 {
     match stance {
         Stance::Ready => true,
-        Stance::Runs { .. } | Stance::Blocked { .. } => false,
+        Stance::Runs { .. } | Stance::Blocked { .. } | Stance::Suspended => false,
     }
 }
 

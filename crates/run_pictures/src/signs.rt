@@ -5,7 +5,7 @@ ghost use Rattle.list_orders.specs.Search.{numbers};
 ghost use Rattle.run_pictures.specs.MutexLines.{is_taken};
 ghost use Rattle.run_pictures.specs.QueueLines.{is_changed};
 ghost use Rattle.run_pictures.specs.Shown.{shown, IsNumbered};
-ghost use Rattle.run_pictures.specs.Signs.{across, all_signs, below, drawing, entries_text, entry_text, has_blocked, has_due, has_idle, has_inherited, has_interrupt, has_ready, has_refusal, has_unpreempted, has_user, is_blocked, is_held, is_interrupt, is_refusal, is_used, legend_height, meaning, moved_text, signs_of, signs_of_both, words_text};
+ghost use Rattle.run_pictures.specs.Signs.{across, all_signs, below, drawing, entries_text, entry_text, has_blocked, has_due, has_idle, has_inherited, has_interrupt, has_ready, has_refusal, has_suspended, has_unpreempted, has_user, is_away, is_blocked, is_held, is_interrupt, is_refusal, is_used, legend_height, meaning, moved_text, signs_of, signs_of_both, words_text};
 
 use crate::Made;
 use crate::marks::{Mark, mark_at};
@@ -24,6 +24,7 @@ pub(crate) enum Sign {
     Running,
     Ready,
     Blocked,
+    Suspended,
     Idle,
     Due,
     Held,
@@ -36,10 +37,11 @@ pub(crate) enum Sign {
 }
 
 /// In their order.
-const SIGNS: [Sign; 12] = [
+const SIGNS: [Sign; 13] = [
     Sign::Running,
     Sign::Ready,
     Sign::Blocked,
+    Sign::Suspended,
     Sign::Idle,
     Sign::Due,
     Sign::Held,
@@ -83,7 +85,16 @@ fn is_blocked(stance: Stance) -> bool
 {
     match stance {
         Stance::Blocked { .. } => true,
-        Stance::Runs { .. } | Stance::Ready => false,
+        Stance::Runs { .. } | Stance::Ready | Stance::Suspended => false,
+    }
+}
+
+fn is_away(stance: Stance) -> bool
+    ensures { result ≡ is_away stance }
+{
+    match stance {
+        Stance::Suspended => true,
+        Stance::Runs { .. } | Stance::Ready | Stance::Blocked { .. } => false,
     }
 }
 
@@ -103,6 +114,15 @@ fn has_blocked(header: &Header, look: &Look) -> bool
     let cores = header.config.cores;
     let users = header.tasks.as_slice().len() as u32;
     (0..users).any(|user| is_blocked(stance_in(look, cores + user)))
+}
+
+fn has_suspended(header: &Header, look: &Look) -> bool
+    requires { header.now.config.cores + length header.now.tasks < 2 ^ 32 }
+    ensures { result ≡ has_suspended header.now look.now }
+{
+    let cores = header.config.cores;
+    let users = header.tasks.as_slice().len() as u32;
+    (0..users).any(|user| is_away(stance_in(look, cores + user)))
 }
 
 fn has_inherited(header: &Header, look: &Look) -> bool
@@ -182,6 +202,13 @@ fn some_blocked(looks: &[Look], header: &Header) -> bool
     looks.iter().any(|look| has_blocked(header, look))
 }
 
+fn some_suspended(looks: &[Look], header: &Header) -> bool
+    requires { header.now.config.cores + length header.now.tasks < 2 ^ 32 }
+    ensures { result ≡ list_any (has_suspended header.now) looks.now }
+{
+    looks.iter().any(|look| has_suspended(header, look))
+}
+
 fn some_due(looks: &[Look]) -> bool
     ensures { result ≡ list_any has_due looks.now }
 {
@@ -234,6 +261,7 @@ fn is_used(panel: &Panel<'_>, sign: Sign) -> bool
         Sign::Running => some_user(looks, cores),
         Sign::Ready => some_ready(looks, header),
         Sign::Blocked => some_blocked(looks, header),
+        Sign::Suspended => some_suspended(looks, header),
         Sign::Idle => some_idle(looks, cores),
         Sign::Due => some_due(looks),
         Sign::Held => some_held(looks),
@@ -287,6 +315,7 @@ fn drawing(sign: Sign) -> &'static str
         Sign::Running => "<rect class='c0' width='20' height='14'/>",
         Sign::Ready => "<rect class='r c0' y='3' width='20' height='8'/>",
         Sign::Blocked => "<rect class='w' y='5' width='20' height='4'/>",
+        Sign::Suspended => "<rect class='i' y='4' width='20' height='6'/>",
         Sign::Idle => "<rect class='i' width='20' height='14'/>",
         Sign::Due => {
             "<rect class='c0' width='20' height='14'/><rect class='d' width='20' height='4'/>"
@@ -311,6 +340,7 @@ fn meaning(sign: Sign) -> &'static str
         Sign::Running => "running",
         Sign::Ready => "ready",
         Sign::Blocked => "blocked",
+        Sign::Suspended => "suspended",
         Sign::Idle => "idle task",
         Sign::Due => "core due to switch",
         Sign::Held => "core holds the kernel",

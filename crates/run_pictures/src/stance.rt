@@ -23,6 +23,8 @@ pub enum Stance {
         wake: Option<u32>,
         cause: Option<Cause>,
     },
+    /// It is suspended.
+    Suspended,
 }
 
 impl StretchValue for Stance {
@@ -43,7 +45,7 @@ pub(crate) fn is_same_stance(stance: Stance, other: Stance) -> bool
 {
     match (stance, other) {
         (Stance::Runs { core }, Stance::Runs { core: other }) => core == other,
-        (Stance::Ready, Stance::Ready) => true,
+        (Stance::Ready, Stance::Ready) | (Stance::Suspended, Stance::Suspended) => true,
         (
             Stance::Blocked { wake, cause },
             Stance::Blocked {
@@ -91,6 +93,7 @@ pub(crate) fn stance_with(status: TaskStatus, core: Option<usize>) -> Stance
             wake,
             cause: status.cause,
         },
+        (Standing::Suspended, _) => Stance::Suspended,
         (Standing::Ready, Some(core)) => Stance::Runs { core },
         (Standing::Ready, None) => Stance::Ready,
     }
@@ -102,7 +105,7 @@ pub(crate) fn stance_in(look: &Look, task: u32) -> Stance
 {
     let status = status_in(look, task);
     match status.standing {
-        Standing::Blocked(_) => stance_with(status, None),
+        Standing::Blocked(_) | Standing::Suspended => stance_with(status, None),
         Standing::Ready => stance_with(status, core_of(look, task)),
     }
 }

@@ -64,6 +64,7 @@ fn push_stance_text(text: &mut String, stance: Stance) -> Result<(), AllocError>
             push_standing(text, Standing::Blocked(wake))?;
             push_reason(text, cause)
         }
+        Stance::Suspended => push_standing(text, Standing::Suspended),
     }
 }
 
@@ -91,6 +92,7 @@ fn stance_shape(user: u32, y: u64, stretch: Stretch<Stance>) -> Bar
         Stance::Runs { .. } => (Ink::Runs(user), 4, 16),
         Stance::Ready => (Ink::Ready(user), 8, 8),
         Stance::Blocked { .. } => (Ink::Waits, 15, 4),
+        Stance::Suspended => (Ink::Suspended, 13, 6),
     };
     Bar {
         ink,
@@ -158,7 +160,7 @@ fn push_stance_label(
                 name.as_str(),
             )
         }
-        Stance::Ready => Ok(()),
+        Stance::Ready | Stance::Suspended => Ok(()),
         Stance::Blocked { wake: _, cause } => {
             push_blocked_label(alloc, text, frame, y, stretch.first, stretch.last, cause)
         }

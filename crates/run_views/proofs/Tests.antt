@@ -6,7 +6,7 @@ use Rattle.bench_types.specs.declared.cause.Cause.TheVariants as cause
 use Rattle.bench_types.specs.declared.step.Direction.TheVariants.{Send, Receive}
 use Rattle.bench_types.specs.declared.note.NoteState.TheVariants.{NotWaiting, Waiting, Received}
 use Rattle.bench_model.specs.SameTest.{are_same_bools, are_same_directions, are_same_options, are_same_states, are_same_holds}
-use Rattle.run_views.specs.declared.look.Standing.TheVariants.{Ready, Blocked}
+use Rattle.run_views.specs.declared.look.Standing.TheVariants.{Ready, Blocked, Suspended}
 use Rattle.run_views.specs.Changes.{are_same_causes, are_same_numbers, are_same_standings}
 
 abbrev pub Tells : {X : Type 0} → (X → X → Bool) → Type 0
@@ -65,5 +65,5 @@ states_decided a b = apart (λ e. cc e)
 pub standings_decided : Tells are_same_standings
 standings_decided Ready Ready = (λ e. refl, λ e. refl)
 standings_decided (Blocked wake) (Blocked later) = Decides-like (are_same_numbers wake later) (λ e. ap Blocked e) (λ e. cc e) (numbers_decided wake later)
-standings_decided Ready (Blocked later) = apart (λ e. cc e)
-standings_decided (Blocked wake) Ready = apart (λ e. cc e)
+standings_decided Suspended Suspended = (λ e. refl, λ e. refl)
+standings_decided a b = apart (λ e. cc e)

@@ -18,7 +18,7 @@ use Rattle.run_views.specs.declared.change.QueueChange.TheVariants.{Messages}
 use Rattle.run_views.specs.declared.change.TaskChange.{TaskChange}
 use Rattle.run_views.specs.declared.change.TaskChange.TheVariants.{Stands, InUse, Base, Mask, Preempt, Call, Note}
 use Rattle.run_views.specs.declared.look.Standing.{Standing}
-use Rattle.run_views.specs.declared.look.Standing.TheVariants.{Ready, Blocked}
+use Rattle.run_views.specs.declared.look.Standing.TheVariants.{Ready, Blocked, Suspended}
 use Rattle.run_views.specs.StepWords.{index_text}
 
 -- what it was, and what it is
@@ -49,6 +49,12 @@ abbrev pub standing_text : Standing → List ℕ
 standing_text Ready = codes " woken"
 standing_text (Blocked None) = codes " blocked without end"
 standing_text (Blocked (Some wake)) = codes " blocked until tick " ++ decimal wake
+standing_text Suspended = codes " suspended"
+
+-- a suspended task that is ready was resumed
+abbrev pub standing_change : Standing → Standing → List ℕ
+standing_change Suspended Ready = codes " resumed"
+standing_change from to = standing_text to
 
 abbrev pub state_text : NoteState → List ℕ
 state_text NotWaiting = codes "none"
@@ -64,7 +70,7 @@ note_change header index (State from to) =
     ++ index_text header index
 
 abbrev pub task_change : Header → TaskChange → List ℕ
-task_change header (Stands from to) = standing_text to
+task_change header (Stands from to) = standing_change from to
 task_change header (InUse from to) = from_to (codes " priority in use") from to
 task_change header (Base from to) = from_to (codes " base priority") from to
 task_change header (Mask from to) = from_to (codes " mask") from to

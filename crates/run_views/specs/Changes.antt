@@ -20,7 +20,7 @@ use Rattle.run_views.specs.declared.change.TaskChange.{TaskChange}
 use Rattle.run_views.specs.declared.change.TaskChange.TheVariants.{Stands, InUse, Base, Mask, Preempt, Call, Note}
 use Rattle.run_views.specs.declared.look.Look.{Look}
 use Rattle.run_views.specs.declared.look.Standing.{Standing}
-use Rattle.run_views.specs.declared.look.Standing.TheVariants.{Ready, Blocked}
+use Rattle.run_views.specs.declared.look.Standing.TheVariants.{Ready, Blocked, Suspended}
 use Rattle.run_views.specs.declared.look.TaskStatus.{TaskStatus}
 
 abbrev pub are_same_numbers : Option ℕ → Option ℕ → Bool
@@ -29,6 +29,7 @@ are_same_numbers = are_same_options (λ m n. m == n)
 abbrev pub are_same_standings : Standing → Standing → Bool
 are_same_standings Ready Ready = true
 are_same_standings (Blocked wake) (Blocked later) = are_same_numbers wake later
+are_same_standings Suspended Suspended = true
 are_same_standings a b = false
 
 abbrev pub are_same_causes : Cause → Cause → Bool

@@ -3,7 +3,7 @@ use Rattle.std.specs.Prelude.{ℕ, List, length, Bool, false, ◌&&◌, ◌||◌
 use Rattle.std.specs.List.{list_any}
 use Rattle.bench_types.specs.declared.kernel_data.Hold.{Hold}
 use Rattle.bench_types.specs.declared.step.Call.{Call}
-use Rattle.bench_types.specs.declared.step.Call.TheVariants.{PrioritySet, AffinitySet, PreemptOff, PreemptOn, Notify, StateClear, ValueClear}
+use Rattle.bench_types.specs.declared.step.Call.TheVariants.{PrioritySet, AffinitySet, PreemptOff, PreemptOn, Suspend, Resume, Notify, StateClear, ValueClear}
 use Rattle.bench_types.specs.declared.step.Step.{Step}
 use Rattle.bench_types.specs.declared.step.Step.TheVariants as steps
 use Rattle.run_views.specs.declared.change.Change.{Change}
@@ -37,6 +37,8 @@ call_task (PrioritySet task priority) = Some task
 call_task (AffinitySet task mask) = Some task
 call_task (PreemptOff task) = Some task
 call_task (PreemptOn task) = Some task
+call_task (Suspend task) = Some task
+call_task (Resume task) = Some task
 call_task (Notify note) = Some note.task
 call_task (StateClear task index) = Some task
 call_task (ValueClear task bits index) = Some task
@@ -52,6 +54,9 @@ step_concerns interest (steps.Call core task call) =
 step_concerns interest (steps.Interrupt core note) =
     names_core interest core || names_task interest note.task
 step_concerns interest (steps.QueueInterrupt core queue direction) = names_core interest core
+step_concerns interest (steps.ResumeInterrupt core task) =
+    names_core interest core || names_task interest task
+step_concerns interest (steps.Pass units) = false
 
 abbrev pub hold_concerns : Interest → Option Hold → Bool
 hold_concerns interest None = false

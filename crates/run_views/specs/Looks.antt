@@ -14,14 +14,15 @@ use Rattle.bench_model.specs.State.{call_at, holder_at}
 use Rattle.bench_model.specs.Table.{Table, tick_count}
 use Rattle.run_views.specs.declared.look.Look.{Look}
 use Rattle.run_views.specs.declared.look.Standing.{Standing}
-use Rattle.run_views.specs.declared.look.Standing.TheVariants.{Ready, Blocked}
+use Rattle.run_views.specs.declared.look.Standing.TheVariants.{Ready, Blocked, Suspended}
 use Rattle.run_views.specs.declared.look.TaskStatus.{TaskStatus}
 
 -- how the task stands at a tick count: one that waits for some ticks is to wake that much later
 abbrev pub standing_in : ℕ → TaskLook → Standing
 standing_in tick look =
     if look.ready then Ready
-    else Blocked (option_map (λ left. (tick + left) % 2 ^ 32) look.left)
+    else (if look.suspended then Suspended
+    else Blocked (option_map (λ left. (tick + left) % 2 ^ 32) look.left))
 
 -- what the task's unfinished call waits for, if it has one
 abbrev pub cause_in : Table → ℕ → Option Cause

@@ -104,6 +104,8 @@ pass_meaning (steps.QueueInterrupt core queue Send) pass =
     if pass then codes ": the message was sent" else codes ": the queue is full"
 pass_meaning (steps.QueueInterrupt core queue Receive) pass =
     if pass then codes ": a message was received" else codes ": the queue is empty"
+pass_meaning (steps.ResumeInterrupt core task) pass =
+    if pass then codes ": the task was suspended" else codes ": the task was not suspended"
 pass_meaning step pass =
     if pass then codes ": the notification passed" else codes ": the notification did not pass"
 

@@ -6,7 +6,7 @@ use Rattle.bench_types.specs.declared.note.NotifyAction.TheVariants.{Nothing, Se
 use Rattle.bench_types.specs.declared.note.Note.{Note}
 use Rattle.bench_types.specs.declared.step.Call.{Call}
 use Rattle.bench_types.specs.declared.step.Call.TheVariants.{Yield, Delay, DelayUntil, PrioritySet, AffinitySet, PreemptOff, PreemptOn, Notify, NotifyWait}
-use Rattle.bench_types.specs.declared.step.Call.TheVariants.{NotifyTake, StateClear, ValueClear, MutexTake, MutexGive, QueueSend, QueueReceive}
+use Rattle.bench_types.specs.declared.step.Call.TheVariants.{NotifyTake, StateClear, ValueClear, MutexTake, MutexGive, QueueSend, QueueReceive, Suspend, Resume}
 use Rattle.bench_types.specs.declared.step.Call.TheVariants.{Finish, HoldOpen, HoldClose}
 use Rattle.bench_types.specs.declared.step.Direction.{Direction}
 use Rattle.bench_types.specs.declared.step.Direction.TheVariants.{Send, Receive}
@@ -61,6 +61,8 @@ call_word (MutexTake mutex ticks) = codes "mutex_take"
 call_word (MutexGive mutex) = codes "mutex_give"
 call_word (QueueSend queue ticks) = codes "queue_send"
 call_word (QueueReceive queue ticks) = codes "queue_receive"
+call_word (Suspend task) = codes "suspend"
+call_word (Resume task) = codes "resume"
 call_word Finish = codes "finish"
 call_word HoldOpen = codes "hold_open"
 call_word HoldClose = codes "hold_close"
@@ -93,6 +95,8 @@ call_members header (QueueSend queue ticks) =
     number_text (codes "queue") queue ++ number_text (codes "ticks") ticks
 call_members header (QueueReceive queue ticks) =
     number_text (codes "queue") queue ++ number_text (codes "ticks") ticks
+call_members header (Suspend task) = to_text header task
+call_members header (Resume task) = to_text header task
 call_members header Finish = []
 call_members header HoldOpen = []
 call_members header HoldClose = []
@@ -116,3 +120,6 @@ step_text header (steps.Interrupt core note) =
     codes "isr_notify" ++ core_text core ++ note_text header note
 step_text header (steps.QueueInterrupt core queue direction) =
     interrupt_word direction ++ core_text core ++ number_text (codes "queue") queue
+step_text header (steps.ResumeInterrupt core task) =
+    codes "isr_resume" ++ core_text core ++ to_text header task
+step_text header (steps.Pass units) = codes "pass" ++ number_text (codes "units") units

@@ -1,6 +1,6 @@
 //! A change in words.
 ghost use Rattle.std.specs.Prelude.{◌≡◌, ◌++◌, OnOk, codes, string_bytes};
-ghost use Rattle.run_views.specs.ChangeWords.{change_text, core_change, from_to, hold_change, hold_text, holder_change, mutex_change, note_change, queue_change, set_text, standing_text, state_text, task_change};
+ghost use Rattle.run_views.specs.ChangeWords.{change_text, core_change, from_to, hold_change, hold_text, holder_change, mutex_change, note_change, queue_change, set_text, standing_change, standing_text, state_text, task_change};
 
 use crate::step_words::push_index;
 use crate::{Change, CoreChange, MutexChange, NoteChange, QueueChange, Standing, TaskChange};
@@ -89,6 +89,17 @@ pub fn push_standing(text: &mut String, standing: Standing) -> Result<(), AllocE
         Standing::Ready => text.push_str(" woken"),
         Standing::Blocked(None) => text.push_str(" blocked without end"),
         Standing::Blocked(Some(wake)) => write!(text, " blocked until tick {wake}"),
+        Standing::Suspended => text.push_str(" suspended"),
+    }
+}
+
+fn push_standing_change(text: &mut String, from: Standing, to: Standing) -> Result<(), AllocError>
+    ensures { OnOk result
+        (string_bytes text.new ≡ string_bytes text.old ++ standing_change from to) }
+{
+    match (from, to) {
+        (Standing::Suspended, Standing::Ready) => text.push_str(" resumed"),
+        _ => push_standing(text, to),
     }
 }
 
@@ -139,7 +150,7 @@ fn push_task_change(
         (string_bytes text.new ≡ string_bytes text.old ++ task_change header.now change) }
 {
     match change {
-        TaskChange::Stands { from: _, to } => push_standing(text, to),
+        TaskChange::Stands { from, to } => push_standing_change(text, from, to),
         TaskChange::InUse { from, to } => push_from_to(text, " priority in use", from, to),
         TaskChange::Base { from, to } => push_from_to(text, " base priority", from, to),
         TaskChange::Mask { from, to } => push_from_to(text, " mask", from, to),

@@ -28,6 +28,8 @@ fn call_task(call: Call) -> Option<u32>
         | Call::AffinitySet { task, .. }
         | Call::PreemptOff(task)
         | Call::PreemptOn(task)
+        | Call::Suspend(task)
+        | Call::Resume(task)
         | Call::StateClear { task, .. }
         | Call::ValueClear { task, .. } => Some(task),
         Call::Notify(note) => Some(note.task),
@@ -67,7 +69,7 @@ impl Interest {
         ensures { result ≡ step_concerns self.now step }
     {
         match step {
-            Step::Tick => false,
+            Step::Tick | Step::Pass { .. } => false,
             Step::Switch { core } => self.names_core(core),
             Step::Call { core, task, call } => {
                 self.names_core(core)
@@ -76,6 +78,7 @@ impl Interest {
             }
             Step::Interrupt { core, note } => self.names_core(core) || self.names_task(note.task),
             Step::QueueInterrupt { core, .. } => self.names_core(core),
+            Step::ResumeInterrupt { core, task } => self.names_core(core) || self.names_task(task),
         }
     }
 

@@ -14,13 +14,15 @@ use bench_types::{Cause, CoreLook, Hold, Items, NoteState, Notification, TaskLoo
 use smp_kernel::Kernel;
 use std::alloc::{AllocError, Global};
 
-/// Whether a task is ready, and until when it waits.
+/// Whether a task is ready, waits, and until when, or is suspended.
 #[derive(Clone, Copy, Debug, PartialEq, Eq)]
 pub enum Standing {
     /// In a ready list (`eReady`, or `eRunning` on a core).
     Ready,
-    /// Waits until this tick count (`eBlocked`), or without end (`eSuspended`).
+    /// Waits until this tick count, or without end (`eBlocked`).
     Blocked(Option<u32>),
+    /// Neither ready nor does it wait for anything (`eSuspended`).
+    Suspended,
 }
 
 /// What can be seen of a task.
@@ -101,6 +103,9 @@ fn standing_in(tick: u32, look: TaskLook) -> Standing
 {
     if look.ready {
         return Standing::Ready;
+    }
+    if look.suspended {
+        return Standing::Suspended;
     }
     match look.left {
         Some(left) => Standing::Blocked(Some(tick.wrapping_add(left))),

@@ -10,8 +10,12 @@ fn caller_of(step: Step) -> u32
 {
     match step {
         Step::Call { task, .. } => task,
-        Step::Tick | Step::Switch { .. } | Step::Interrupt { .. } | Step::QueueInterrupt { .. } =>
-            0,
+        Step::Tick
+        | Step::Switch { .. }
+        | Step::Interrupt { .. }
+        | Step::QueueInterrupt { .. }
+        | Step::ResumeInterrupt { .. }
+        | Step::Pass { .. } => 0,
     }
 }
 
@@ -144,8 +148,12 @@ fn step_flag_meaning(header: &Header, step: Step, flag: bool) -> &'static str
 {
     match step {
         Step::Call { call, .. } => flag_meaning(header, call, flag),
-        Step::Tick | Step::Switch { .. } | Step::Interrupt { .. } | Step::QueueInterrupt { .. } =>
-            either(flag, "yes", "no"),
+        Step::Tick
+        | Step::Switch { .. }
+        | Step::Interrupt { .. }
+        | Step::QueueInterrupt { .. }
+        | Step::ResumeInterrupt { .. }
+        | Step::Pass { .. } => either(flag, "yes", "no"),
     }
 }
 
@@ -181,6 +189,11 @@ fn pass_meaning(step: Step, pass: bool) -> &'static str
             direction: Direction::Receive,
             ..
         } => either(pass, ": a message was received", ": the queue is empty"),
+        Step::ResumeInterrupt { .. } => either(
+            pass,
+            ": the task was suspended",
+            ": the task was not suspended",
+        ),
         _ => either(
             pass,
             ": the notification passed",

@@ -77,6 +77,7 @@ pub(crate) fn is_same_standing(standing: Standing, other: Standing) -> bool
     match (standing, other) {
         (Standing::Ready, Standing::Ready) => true,
         (Standing::Blocked(wake), Standing::Blocked(other)) => is_same_number(wake, other),
+        (Standing::Suspended, Standing::Suspended) => true,
         _ => false,
     }
 }

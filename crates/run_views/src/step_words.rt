@@ -86,6 +86,8 @@ fn call_word(call: Call) -> &'static str
         Call::MutexGive(_) => "mutex_give",
         Call::QueueSend { .. } => "queue_send",
         Call::QueueReceive { .. } => "queue_receive",
+        Call::Suspend(_) => "suspend",
+        Call::Resume(_) => "resume",
         Call::Finish => "finish",
         Call::HoldOpen => "hold_open",
         Call::HoldClose => "hold_close",
@@ -108,7 +110,8 @@ fn push_members(text: &mut String, header: &Header, call: Call) -> Result<(), Al
             push_to(text, header, task)?;
             push_number(text, "mask", mask)
         }
-        Call::PreemptOff(task) | Call::PreemptOn(task) => push_to(text, header, task),
+        Call::PreemptOff(task) | Call::PreemptOn(task) | Call::Suspend(task) | Call::Resume(task) =>
+            push_to(text, header, task),
         Call::StateClear { task, index } => {
             push_to(text, header, task)?;
             push_index(text, header, index)
@@ -182,5 +185,10 @@ pub fn push_step(text: &mut String, header: &Header, step: Step) -> Result<(), A
             push_number(text, "core", core)?;
             push_number(text, "queue", queue)
         }
+        Step::ResumeInterrupt { core, task } => {
+            write!(text, "isr_resume core {core}")?;
+            push_to(text, header, task)
+        }
+        Step::Pass { units } => write!(text, "pass units {units}"),
     }
 }

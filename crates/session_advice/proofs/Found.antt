@@ -11,7 +11,7 @@ use Rattle.list_orders.proofs.Filters.{All-append}
 use Rattle.settled_runs.specs.declared.waiting_call.WaitingCall.{WaitingCall}
 use Rattle.settled_runs.proofs.Pieces.{find_among}
 use Rattle.run_numbers.specs.declared.subject.Subject.{Subject}
-use Rattle.run_numbers.specs.declared.subject.Subject.TheVariants.{Ticks, Steps, TopPriority, MostMessages, NotMade}
+use Rattle.run_numbers.specs.declared.subject.Subject.TheVariants.{Time, Steps, TopPriority, MostMessages, NotMade}
 use Rattle.run_numbers.specs.Readings.{measured, IsSubjectOf}
 use Rattle.report_figures.specs.declared.figures.Figure.{Figure}
 use Rattle.report_figures.specs.Figures.{figures_in}
@@ -24,7 +24,7 @@ module _ (header : Header) (run : List Step) (left : List WaitingCall) where
   IsOf figure = IsSubjectOf (settings_of header) figure.subject
 
   figures_fit : (subject : Subject) → IsSubjectOf (settings_of header) subject → AllByRecursion IsOf (figures_in (measured header run left subject))
-  figures_fit (Ticks condition) fits = (fits, (fits, tt))
+  figures_fit (Time condition) fits = (fits, (fits, tt))
   figures_fit (Steps event) fits = (fits, tt)
   figures_fit (TopPriority task) fits = (fits, tt)
   figures_fit (MostMessages queue) fits = (fits, tt)

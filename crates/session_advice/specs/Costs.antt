@@ -6,7 +6,7 @@ use Rattle.run_numbers.specs.declared.subject.Cause.TheVariants.{AnyMutex, AnyQu
 use Rattle.run_numbers.specs.declared.subject.Condition.TheVariants.{Running, WantsCore, Inverted, Blocked}
 use Rattle.run_numbers.specs.declared.subject.Event.TheVariants.{TimesOut}
 use Rattle.run_numbers.specs.declared.subject.Subject.{Subject}
-use Rattle.run_numbers.specs.declared.subject.Subject.TheVariants.{Ticks, Steps, NotMade}
+use Rattle.run_numbers.specs.declared.subject.Subject.TheVariants.{Time, Steps, NotMade}
 use Rattle.run_numbers.specs.Tasks.{task_of}
 use Rattle.ranked_changes.specs.declared.change.Change.{Change}
 use Rattle.ranked_changes.specs.declared.judge.Verdict.{Verdict}
@@ -23,11 +23,11 @@ use Rattle.session_advice.specs.Words.{number_words}
 -- the task that bears what the subject tells: it runs, waits for a core, for a mutex or at a queue,
 -- its wait runs out, or its calls are not made
 abbrev pub bearer : Subject → Option ℕ
-bearer (Ticks (Running task)) = Some task
-bearer (Ticks (WantsCore task)) = Some task
-bearer (Ticks (Inverted task)) = Some task
-bearer (Ticks (Blocked task AnyMutex)) = Some task
-bearer (Ticks (Blocked task AnyQueue)) = Some task
+bearer (Time (Running task)) = Some task
+bearer (Time (WantsCore task)) = Some task
+bearer (Time (Inverted task)) = Some task
+bearer (Time (Blocked task AnyMutex)) = Some task
+bearer (Time (Blocked task AnyQueue)) = Some task
 bearer (Steps (TimesOut task)) = Some task
 bearer (NotMade task) = Some task
 bearer subject = None

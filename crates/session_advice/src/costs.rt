@@ -24,10 +24,10 @@ fn bearer(subject: Subject) -> Option<u32>
     ensures { result ≡ bearer subject }
 {
     match subject {
-        Subject::Ticks(Condition::Running { task })
-        | Subject::Ticks(Condition::WantsCore { task })
-        | Subject::Ticks(Condition::Inverted { task })
-        | Subject::Ticks(
+        Subject::Time(Condition::Running { task })
+        | Subject::Time(Condition::WantsCore { task })
+        | Subject::Time(Condition::Inverted { task })
+        | Subject::Time(
             Condition::Blocked {
                 task,
                 cause: Cause::AnyMutex | Cause::AnyQueue,

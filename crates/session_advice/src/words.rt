@@ -57,8 +57,8 @@ fn push_numbers(
 pub(crate) fn push_number(
     alloc: Global,
     text: &mut String,
-    before: u32,
-    after: u32,
+    before: u64,
+    after: u64,
 ) -> Result<(), AllocError>
     ensures { OnOk result
         (string_bytes text.new ≡ string_bytes text.old ++ number_words before after) }
@@ -71,7 +71,7 @@ pub(crate) fn push_number(
 pub(crate) fn push_verdict(
     alloc: Global,
     text: &mut String,
-    before: u32,
+    before: u64,
     verdict: Verdict,
 ) -> Result<(), AllocError>
     ensures { OnOk result

@@ -75,7 +75,7 @@ Example: smp_view page examples/questions/shared-mutex.json > page.html";
 
 // Below the options of a report.
 const REPORTS: &str =
-    "Ticks in each condition with the longest stretch of them, switches, refusals and the like, of
+    "Time in each condition with the longest stretch of it, switches, refusals and the like, of
 each task, core and mutex. The table leaves out what is 0; the JSON object has everything.
 
 Example: smp_view report --settle examples/settled/shorter-timeout.json";

@@ -62,7 +62,7 @@ fn push_most(alloc: Global, limits: &mut Vec<Wanted>, text: &str) -> Result<(), 
     if let Some((name, number)) = limit_parts(text) {
         limits.push(Wanted {
             name: String::from_str(alloc, name)?,
-            bound: Bound::AtMost(number),
+            bound: Bound::AtMost(u64::from(number)),
         })?;
     }
     Ok(())
@@ -76,7 +76,7 @@ fn push_least(alloc: Global, limits: &mut Vec<Wanted>, text: &str) -> Result<(),
     if let Some((name, number)) = limit_parts(text) {
         limits.push(Wanted {
             name: String::from_str(alloc, name)?,
-            bound: Bound::AtLeast(number),
+            bound: Bound::AtLeast(u64::from(number)),
         })?;
     }
     Ok(())

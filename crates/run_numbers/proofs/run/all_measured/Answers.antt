@@ -8,6 +8,7 @@ use Rattle.run_numbers.specs.declared.subject.Reading.{Reading}
 use Rattle.run_numbers.specs.declared.subject.Subject.{Subject}
 use Rattle.run_numbers.specs.declared.subject.Subject.TheVariants.{NotMade}
 use Rattle.run_numbers.specs.Counters.{first_counter, HasRoom}
+use Rattle.run_numbers.specs.Past.{past}
 use Rattle.run_numbers.specs.Progress.{counter_in, measured_at, reading_in, subject_in}
 use Rattle.run_numbers.proofs.run.all_measured.Goals as goal
 
@@ -18,8 +19,7 @@ reading-reading-requires-clause-room c =
     let within : k < length counted.counters.items = omega (arith, c.loop-k-test.true, c.requires.size) in
     let own : c.index.result.now ≡ counter_in counted.counters.items k =
     c.index.ensures ∙ get_or_default counted.counters.items k _ (first_counter 0 false) within in
-    subst (λ (ticks : List ℕ). HasRoom ticks c.index.result.now) (sym c.as_slice-ticks.ensures.value)
-    (subst (HasRoom counted.ticks.items) (sym own) (c.requires.room k c.loop-k-test.true))
+    subst (HasRoom (past counted.clock.elapsed counted.clock.places.items)) (sym own) (c.requires.room k c.loop-k-test.true)
 
 pub loop-k-preserved : goal.loop-k-preserved
 loop-k-preserved c =
@@ -28,16 +28,14 @@ loop-k-preserved c =
     let k = c.loop-k.k in
     let left = c.args.left.now in
     let subjects = c.args.subjects.now in
-    let ticks = counted.ticks.items in
+    let so_far = past counted.clock.elapsed counted.clock.places.items in
     let within : k < length counters = omega (arith, c.loop-k-test.true, c.requires.size) in
     let own : c.index.result.now ≡ counter_in counters k = c.index.ensures ∙ get_or_default counters k _ (first_counter 0 false) within in
     let same = get_or_default subjects k _ (NotMade 0) c.loop-k-test.true in
     let reading =
-    c.reading-reading.ensures
-    ∙ ap (λ (subject : Subject). reading_in c.as_slice-ticks.result.now c.index.result.now left subject) same
-    ∙ ap (λ (counter : Counter). reading_in c.as_slice-ticks.result.now counter left (subject_in subjects k)) own
-    ∙ ap (λ (ticks : List ℕ). reading_in ticks (counter_in counters k) left (subject_in subjects k)) c.as_slice-ticks.ensures.value in
+    c.reading-reading.ensures ∙ ap (λ (subject : Subject). reading_in so_far c.index.result.now left subject) same
+    ∙ ap (λ (counter : Counter). reading_in so_far counter left (subject_in subjects k)) own in
     let one = ap₂ (λ (subject : Subject) (reading : Reading). record { subject = subject; reading = reading }) same reading in
     c.in_ok-push.ensures.items ∙ ap (λ (m : Measured). c.loop-k.all.items ++ m ∷ []) one
-    ∙ ap (λ (ms : List Measured). ms ++ measured_at ticks counters left subjects k ∷ []) c.loop-k.invariant
-    ∙ sym (map-range_with_len_more (measured_at ticks counters left subjects) 0 k k (omega arith))
+    ∙ ap (λ (ms : List Measured). ms ++ measured_at so_far counters left subjects k ∷ []) c.loop-k.invariant
+    ∙ sym (map-range_with_len_more (measured_at so_far counters left subjects) 0 k k (omega arith))

@@ -9,6 +9,7 @@ use Rattle.run_numbers.specs.declared.counter.Counter.{Counter}
 use Rattle.run_numbers.specs.declared.look.Look.{Look}
 use Rattle.run_numbers.specs.Counted.{AreTold}
 use Rattle.run_numbers.specs.Looks.{IsKnown, IsRow}
+use Rattle.run_numbers.specs.Past.{past}
 use Rattle.run_numbers.proofs.Known.{never_yet}
 use Rattle.run_numbers.proofs.Runs.{start_counted}
 use Rattle.run_numbers.proofs.run.count_all.Goals as goal
@@ -20,14 +21,14 @@ run_all-requires-clause-begun c =
     let tasks = c.settings-tasks.result.tasks in
     let looks : c.deref_mut-2.result.now ≡ replicate tasks None =
     c.deref_mut-2.ensures.value ∙ c.in_ok-looks.ensures.items_if_clones_equal (λ y e. search rules) in
-    start_counted session kernel _ c.deref_mut.result.now c.deref_mut-2.result.now c.deref_mut-3.result.now c.in_ok-ticks.ticks.items
+    start_counted session kernel _ c.deref_mut.result.now c.deref_mut-2.result.now c.deref_mut-3.result.now _
     (subst (λ (header : Header). StandsFor kernel (start header)) c.header.ensures.header c.in-Ok.ensures.started)
     (c.in-Ok.ensures.shape ∙ ap settings_of c.header.ensures.header)
     (c.deref_mut.ensures.value ∙ c.in_ok-counters.ensures)
     (ap (λ (looks : List (Option Look)). length looks) looks ∙ length-replicate tasks None)
     (λ task look known. never_yet tasks task look (subst (λ (looks : List (Option Look)). IsKnown looks task look) looks known))
     (subst (λ row. IsRow row kernel) (sym c.deref_mut-3.ensures.value) c.in_ok-row.ensures)
-    c.in_ok-ticks.ensures.items
+    (ap (past 0) c.in_ok-with_capacity.ensures.items)
 
 pub returns-clause-told : goal.returns-clause-told
 returns-clause-told c =
@@ -36,4 +37,5 @@ returns-clause-told c =
     let size : length made ≡ n = omega (arith, c.run_all.auto.counters, c.deref_mut.ensures.len) in
     let all : take n (made ++ drop (length made) c.in_ok-counters.counters.items) ≡ made =
     take-append-le n made _ (omega (arith, size)) ∙ take_all n made (omega (arith, size)) in
-    subst (λ (counters : List Counter). AreTold c.args.session.now c.args.subjects.now c.run_all.new.ticks.items counters) (sym all) c.run_all.ensures.counted
+    subst (λ (counters : List Counter). AreTold c.args.session.now c.args.subjects.now
+    (past c.run_all.new.clock.elapsed c.run_all.new.clock.places.items) counters) (sym all) c.run_all.ensures.counted

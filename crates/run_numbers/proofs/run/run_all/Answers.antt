@@ -1,26 +1,52 @@
-use Rattle.std.proofs.Common.{◌≡◌, ℕ, suc, ◌+◌, ◌-◌, ◌<◌, ◌^◌, min, List, length, get_or, sym, ap, subst, ◌∙◌, arith, add-one}
+use Rattle.std.proofs.Common.{◌≡◌, ℕ, suc, ◌+◌, ◌-◌, ◌<◌, ◌^◌, min, List, length, get_or, sym, ap, ap₂, subst, ◌∙◌, arith, add-one}
+use Rattle.bench_types.specs.declared.header.Header.{Header}
 use Rattle.bench_types.specs.declared.kernel_data.Settings.{Settings}
 use Rattle.bench_types.specs.declared.step.Step.{Step}
 use Rattle.bench_types.specs.declared.step.Step.TheVariants.{Tick}
+use Rattle.step_times.specs.Times.{time_of}
 use Rattle.bench_model.specs.Equal.{StandsFor}
 use Rattle.bench_model.specs.Session.{state_at, step_of}
 use Rattle.smp_kernel.proofs.Counts.{counted_more}
 use Rattle.run_numbers.specs.AfterStep.{known_before}
 use Rattle.run_numbers.specs.Counted.{AreCounted, HaveRoom, IsUntouched}
 use Rattle.run_numbers.specs.Counters.{took}
+use Rattle.run_numbers.specs.Past.{Past, past, past_after}
 use Rattle.run_numbers.specs.Taking.{AreTaken, IsPlanOf}
-use Rattle.run_numbers.proofs.Runs.{all_told, have_room, more_counted, step_next, step_there}
+use Rattle.run_numbers.proofs.Runs.{all_told, have_room, more_counted, step_next, step_there, time_fits}
 use Rattle.run_numbers.proofs.run.run_all.Goals as goal
+
+pub note_time-requires-clause-little : goal.note_time-requires-clause-little
+note_time-requires-clause-little c =
+    let session = c.args.session.now in
+    let so_far = c.loop-place in
+    let step = get_or c.steps-steps.result.now so_far.place Tick in
+    let low : so_far.place < length session.steps =
+    omega (arith, c.loop-place-test.true, ap (λ (steps : List Step). length steps) c.steps-steps.ensures.steps) in
+    let time : c.time_of.result ≡ time_of session.header.config.units step =
+    c.time_of.ensures ∙ ap (λ (header : Header). time_of header.config.units step) c.header.ensures.header in
+    omega (
+      arith,
+      time,
+      time_fits session so_far.place so_far.kernel c.args.plan.now so_far.counters so_far.looks so_far.row
+          (past so_far.clock.elapsed so_far.clock.places.items) so_far.invariant.counted low c.steps-steps.ensures.checked.few step (omega (arith, time)),
+    )
 
 pub step_all-requires-clause-room : goal.step_all-requires-clause-room
 step_all-requires-clause-room c =
+    let session = c.args.session.now in
     let so_far = c.loop-place in
     let plan = c.args.plan.now in
-    let low : so_far.place < length c.args.session.now.steps =
+    let step = get_or c.steps-steps.result.now so_far.place Tick in
+    let before = past so_far.clock.elapsed so_far.clock.places.items in
+    let low : so_far.place < length session.steps =
     omega (arith, c.loop-place-test.true, ap (λ (steps : List Step). length steps) c.steps-steps.ensures.steps) in
-    subst (λ (ticks : List ℕ). HaveRoom ticks plan.subjects.now so_far.counters) (sym (c.as_slice-so_far.ensures.value ∙ c.note_tick.ensures.ticks))
-    (have_room c.args.session.now so_far.place so_far.kernel plan so_far.counters so_far.looks so_far.row so_far.ticks.items so_far.invariant.counted low
-    c.steps-steps.ensures.checked.few (get_or c.steps-steps.result.now so_far.place Tick))
+    let time : c.time_of.result ≡ time_of session.header.config.units step =
+    c.time_of.ensures ∙ ap (λ (header : Header). time_of header.config.units step) c.header.ensures.header in
+    let later = ap (past c.note_time.new.clock.elapsed) c.as_slice-places.ensures.value
+    ∙ ap₂ past c.note_time.ensures.elapsed c.note_time.ensures.places ∙ ap (λ time. past_after time so_far.place before) time in
+    subst (λ (so_far : Past). HaveRoom so_far plan.subjects.now c.loop-place.counters) (sym later)
+    (have_room session so_far.place so_far.kernel plan so_far.counters so_far.looks so_far.row before so_far.invariant.counted low
+    c.steps-steps.ensures.checked.few step (omega (arith, time)))
 
 pub loop-place-preserved : goal.loop-place-preserved
 loop-place-preserved c =
@@ -35,28 +61,32 @@ loop-place-preserved c =
     let few = c.steps-steps.ensures.checked.few in
     let step = get_or c.steps-steps.result.now place Tick in
     let table = state_at session.header session.steps place in
+    let before = past so_far.clock.elapsed so_far.clock.places.items in
     let low : place < length session.steps = omega (arith, c.loop-place-test.true, ap (λ (steps : List Step). length steps) steps_are) in
-    let ticks_are = c.as_slice-so_far.ensures.value ∙ c.note_tick.ensures.ticks in
+    let time : c.time_of.result ≡ time_of session.header.config.units step =
+    c.time_of.ensures ∙ ap (λ (header : Header). time_of header.config.units step) c.header.ensures.header in
+    let clock_is = ap₂ past c.note_time.ensures.elapsed c.note_time.ensures.places ∙ ap (λ time. past_after time place before) time in
+    let args_are = ap (past c.note_time.new.clock.elapsed) c.as_slice-places.ensures.value ∙ clock_is in
     let there =
-    step_there session place kernel plan so_far.counters so_far.looks so_far.row so_far.ticks.items counted low few c.steps-steps.result.now steps_are in
+    step_there session place kernel plan so_far.counters so_far.looks so_far.row before counted low few c.steps-steps.result.now steps_are in
     let next =
-    step_next session place kernel plan so_far.counters so_far.looks so_far.row so_far.ticks.items counted low few c.steps-steps.result.now steps_are in
+    step_next session place kernel plan so_far.counters so_far.looks so_far.row before counted low few c.steps-steps.result.now steps_are in
     let stood = subst (StandsFor later) next (c.step_all.ensures.state table counted.stands) in
     let plans = subst (λ (settings : Settings). IsPlanOf settings plan) (sym counted.settings) c.requires.plan in
-    let taken = subst (λ (ticks : List ℕ). AreTaken (took (known_before kernel step) step (step_of step table).0 later ticks)
-    (IsUntouched so_far.looks so_far.row (known_before kernel step) step later) plan so_far.counters c.step_all.new.counters) ticks_are
+    let taken = subst (λ (so_far : Past). AreTaken (took (known_before kernel step) step (step_of step table).0 later so_far)
+    (IsUntouched c.loop-place.looks c.loop-place.row (known_before kernel step) step later) plan c.loop-place.counters c.step_all.new.counters) args_are
     (c.step_all.ensures.taken table counted.stands) in
     let more =
-    more_counted session place kernel plan so_far.counters so_far.looks so_far.row so_far.ticks.items counted low few step there later stood next
-    c.step_all.ensures.shape plans c.step_all.ensures.core c.step_all.new.counters c.step_all.new.looks c.step_all.new.row c.step_all.auto.counters
-    c.step_all.auto.looks taken c.step_all.ensures.looked c.step_all.ensures.row in
+    more_counted session place kernel plan so_far.counters so_far.looks so_far.row before counted low few step there later stood next
+    c.step_all.ensures.shape plans c.step_all.ensures.core (omega (arith, time)) c.step_all.new.counters c.step_all.new.looks c.step_all.new.row
+    c.step_all.auto.counters c.step_all.auto.looks taken c.step_all.ensures.looked c.step_all.ensures.row in
     record {
       counted =
-          subst (λ n. AreCounted session n later plan c.step_all.new.counters c.step_all.new.looks c.step_all.new.row c.note_tick.new.ticks.items)
-          (sym (add-one place))
-          (subst (λ (ticks : List ℕ). AreCounted session (suc place) later plan c.step_all.new.counters c.step_all.new.looks c.step_all.new.row ticks)
-          (sym c.note_tick.ensures.ticks) more);
-      room = c.note_tick.ensures.room ∙ so_far.invariant.room;
+          subst (λ n. AreCounted session n later plan c.step_all.new.counters c.step_all.new.looks c.step_all.new.row
+          (past c.note_time.new.clock.elapsed c.note_time.new.clock.places.items)) (sym (add-one place))
+          (subst (λ (so_far : Past). AreCounted session (suc place) later plan c.step_all.new.counters c.step_all.new.looks c.step_all.new.row so_far)
+          (sym clock_is) more);
+      room = c.note_time.ensures.room ∙ so_far.invariant.room;
       meter = c.step_all.ensures.meter ∙ ap (λ count. min (count + 1) (2 ^ 64 - 1)) so_far.invariant.meter ∙ counted_more place c.args.meter.now;
     }
 
@@ -67,5 +97,6 @@ returns-clause-counted c =
     let so_far = c.loop-place in
     let all : so_far.place ≡ length session.steps =
     omega (arith, c.loop-place-test.false, so_far.auto.place-end, ap (λ (steps : List Step). length steps) c.steps-steps.ensures.steps) in
-    all_told session so_far.kernel plan so_far.counters so_far.looks so_far.row so_far.ticks.items c.steps-steps.ensures.checked.few
-    (subst (λ n. AreCounted session n so_far.kernel plan so_far.counters so_far.looks so_far.row so_far.ticks.items) all so_far.invariant.counted)
+    let before = past so_far.clock.elapsed so_far.clock.places.items in
+    all_told session so_far.kernel plan so_far.counters so_far.looks so_far.row before c.steps-steps.ensures.checked.few
+    (subst (λ n. AreCounted session n so_far.kernel plan so_far.counters so_far.looks so_far.row before) all so_far.invariant.counted)

@@ -3,6 +3,7 @@ use Rattle.bench_types.specs.declared.reply.Reply.{Reply}
 use Rattle.run_numbers.specs.declared.event.BeforeStep.{BeforeStep}
 use Rattle.run_numbers.specs.Counters.{took}
 use Rattle.run_numbers.specs.Looks.{look_of, IsApart}
+use Rattle.run_numbers.specs.Past.{past}
 use Rattle.run_numbers.specs.Progress.{counter_in, subject_in}
 use Rattle.run_numbers.specs.Taking.{row_at}
 use Rattle.run_numbers.proofs.run.step_all.Goals as goal
@@ -16,7 +17,7 @@ returns-clause-taken c table stands k within =
     let before = c.before_step-before.ensures.value in
     let reply = c.step-reply.ensures.reply table stands in
     elim (c.take_all.ensures.taken k within) [
-      | inl is ↦ inl (is ∙ ap₂ (λ (before : BeforeStep) (reply : Reply). took before step reply after c.args.ticks.now (subject_in plan.subjects.now k)
+      | inl is ↦ inl (is ∙ ap₂ (λ (before : BeforeStep) (reply : Reply). took before step reply after (past c.args.elapsed c.args.places.now) (subject_in plan.subjects.now k)
           (counter_in c.args.counters.now k)) before reply)
       | inr it ↦
           let known = c.forget_concerned.ensures.known task (look_of after task) it.1 in

@@ -1,12 +1,12 @@
 use Rattle.std.proofs.Common.{◌≡◌, ℕ, subst, sym, ◌∙◌, arith}
-use Rattle.run_numbers.specs.Counters.{took_in, HasRoomFor}
+use Rattle.run_numbers.specs.Counters.{past_of, took_in, HasRoomFor}
 use Rattle.run_numbers.specs.Progress.{subject_in}
 use Rattle.run_numbers.proofs.Visits.{all_looked, all_taken, visited_more, AreVisitedTo}
 use Rattle.run_numbers.proofs.taking.take_all.Goals as goal
 
 pub visit-requires-clause-room : goal.visit-requires-clause-room
 visit-requires-clause-room c k within is =
-    subst (HasRoomFor c.args.made.now.ticks.now (subject_in c.args.plan.now.subjects.now k)) (sym (c.loop-task.invariant.later k (omega (arith, is))))
+    subst (HasRoomFor (past_of c.args.made.now) (subject_in c.args.plan.now.subjects.now k)) (sym (c.loop-task.invariant.later k (omega (arith, is))))
     (c.requires.room c.loop-task.task k within is)
 
 pub loop-task-preserved : goal.loop-task-preserved

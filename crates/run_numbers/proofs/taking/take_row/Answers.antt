@@ -1,5 +1,5 @@
 use Rattle.std.proofs.Common.{refl, subst, sym, arith}
-use Rattle.run_numbers.specs.Counters.{took_in, HasRoomFor}
+use Rattle.run_numbers.specs.Counters.{past_of, took_in, HasRoomFor}
 use Rattle.run_numbers.specs.Progress.{subject_in}
 use Rattle.run_numbers.proofs.Visits.{row_taken, taken_more}
 use Rattle.run_numbers.proofs.taking.take_row.Goals as goal
@@ -8,7 +8,7 @@ pub take_at-requires-clause-room : goal.take_at-requires-clause-room
 take_at-requires-clause-room c is =
     let place = c.loop-place.place in
     let end = c.requires.plan.spans.end c.args.row c.requires.row in
-    subst (HasRoomFor c.args.made.now.ticks.now (subject_in c.args.plan.now.subjects.now place)) (sym (c.loop-place.invariant.later place (omega arith)))
+    subst (HasRoomFor (past_of c.args.made.now) (subject_in c.args.plan.now.subjects.now place)) (sym (c.loop-place.invariant.later place (omega arith)))
     (c.requires.room place (omega (arith, c.loop-place-test.true, end)) is)
 
 pub loop-place-preserved : goal.loop-place-preserved

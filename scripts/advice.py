@@ -90,7 +90,7 @@ def names_of(session):
         found = ["run", *(f"run.{core}" for core in cores), "ready", "ready.inverted"]
         found += ["blocked.delay", "blocked.notification", "blocked.mutex", "blocked.mutex.held_up"]
         found += [f"blocked.mutex.{mutex}" for mutex in range(session["mutexes"])]
-        found += report.queue_waits(session)
+        found += report.queue_waits(session) + report.suspensions(session)
         for one in found:
             yield from (f"{name}.{one}", f"{name}.{one}.longest")
         counts = ["switches", "inheritances", "top_priority", "timeouts"]
@@ -104,6 +104,12 @@ def names_of(session):
     for queue in report.queues_of(session):
         rest = ["messages", "empty", "empty.longest", "full", "full.longest", "waits"]
         yield from (f"queue.{queue}.{one}" for one in rest)
+
+
+def unit(session, name):
+    """What stands behind a number of time, where a tick has more than one unit."""
+    of_time = name.removesuffix(".longest") in report.all_conditions(session)
+    return " units" if of_time and report.units_of(session) else ""
 
 
 def unknown(session, name):
@@ -126,7 +132,7 @@ def check(document, settled, limits):
             continue
         longest = name if name.endswith(".longest") else f"{name}.longest"
         begins = f"; the longest stretch begins at place {places[longest]}" if longest in places else ""
-        lines.append(f"{name} is {value}, at {kind} {bound}{begins}\n")
+        lines.append(f"{name} is {value}{unit(session, name)}, at {kind} {bound}{begins}\n")
     return (1 if lines else 0), "".join(lines), ""
 
 
@@ -154,7 +160,7 @@ def advise(document, settled, task, number, families, count):
     for index, (size, words, made) in enumerate(tried):
         after = report.measure(changed(session, made), settled)["values"]
         judged.append(((after[name], size, index), words, after))
-    lines = [f"{name} is {before[name]}; {len(tried)} changes tried\n"]
+    lines = [f"{name} is {before[name]}{unit(session, name)}; {len(tried)} changes tried\n"]
     for rank, (key, words, after) in enumerate(sorted(judged, key=lambda one: one[0])[:count], 1):
         lines.append(f"{rank}. {words}: {difference(before[name], key[0])}\n")
         lines += costs(session, task, before, after)

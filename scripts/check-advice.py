@@ -21,7 +21,7 @@ import settle
 
 documents = importlib.import_module("check-settled")
 NUMBERS = ("ready", "ready.longest", "blocked.mutex", "blocked.queue", "run", "timeouts")
-NUMBERS += ("switches", "not_made")
+NUMBERS += ("switches", "not_made", "suspended")
 
 
 def told(text, words):

@@ -281,6 +281,7 @@ row "with \`$until\` as the first step" "$(first "$until")"
 row 'with a member `note` beside `steps`' "$(with 's/"steps"/"note": 0, &/')"
 row 'with `"notes": 2` beside `steps`' "$(with 's/"steps"/"notes": 2, &/')"
 row 'with `"format": 2`' "$(with 's/"format": 1/"format": 2/')"
+row 'with `"format": 2`, `"notes": 2` and `"units": 1`' "$(with 's/"format": 1/"format": 2, "notes": 2, "units": 1/')"
 index='{"do": "isr_notify", "core": 0, "to": "A", "action": "none", "index": "1"}'
 row "with \`\"format\": 2\`, \`\"notes\": 2\` and \`$index\` as the first step" \
     "$(with "s/{\"do\": \"delay\".*}/$index/; s/\"format\": 1/\"format\": 2, \"notes\": 2/")"
@@ -303,6 +304,8 @@ row 'with `{"do": "switch", "core": 1}` there' "$(there '{"do": "switch", "core"
 row 'with a member `edits` beside `limit`' "$(rig 's/"limit"/"edits": [], &/')"
 row 'with `"limit": 1000001`' "$(rig 's/"limit": 100/"limit": 1000001/')"
 row 'with `{"do": "tick"}` as the first action of the second script' "$(there '{"do": "tick"}')"
+row 'in format 3, with `{"do": "pass", "units": 1}` there' \
+    "$(there '{"do": "pass", "units": 1}' | sed 's/"format": 1/"format": 3, "notes": 1, "queues": []/')"
 rows="$(sed -n '/^## Paths/,/^## Order of checks/p' docs/FORMATS.md | grep -c '| `refused ')"
 [ "$held" = "$rows" ] || wrong "docs/FORMATS.md: $rows texts with their refusals, of which $held are tried"
 printf '%d texts with their refusals are tried of docs/FORMATS.md\n' "$held"

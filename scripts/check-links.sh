@@ -18,12 +18,13 @@ others=(
     # FreeRTOS: settings of FreeRTOSConfig.h
     configIDLE_SHOULD_YIELD configRUN_MULTIPLE_PRIORITIES configTICK_TYPE_WIDTH_IN_BITS configUSE_CORE_AFFINITY
     configUSE_COUNTING_SEMAPHORES configUSE_MUTEXES configUSE_PREEMPTION configUSE_TASK_NOTIFICATIONS configUSE_TASK_PREEMPTION_DISABLE
-    INCLUDE_vTaskDelay INCLUDE_vTaskPrioritySet INCLUDE_vTaskSuspend INCLUDE_xTaskDelayUntil
+    INCLUDE_vTaskDelay INCLUDE_vTaskPrioritySet INCLUDE_vTaskSuspend INCLUDE_xTaskDelayUntil INCLUDE_xTaskResumeFromISR
     # FreeRTOS: functions, fields and types of task.h, tasks.c, queue.c and list.c
-    prvCreateIdleTasks prvGetDisinheritPriorityAfterTimeout pxDelayedTaskList taskTASK_SCHEDULED_TO_YIELD TickType_t
+    eTaskGetState prvCreateIdleTasks prvGetDisinheritPriorityAfterTimeout pxDelayedTaskList taskTASK_SCHEDULED_TO_YIELD TickType_t
     ulTaskGenericNotifyValueClear vListInsert vTaskResume vTaskSuspend vTaskSuspendAll xMutexHolder xQueueGenericSendFromISR
     xQueueGiveFromISR xQueueOverwrite xQueuePeek xQueueReset xQueueSemaphoreTake xQueueSendToBack xQueueSendToFront
     xSemaphoreCreateBinary xSemaphoreGiveFromISR xSemaphoreTakeFromISR xShouldDelay xSuspendedTaskList xTaskAbortDelay
+    xTaskCheckForTimeOut
     xTaskGenericNotifyFromISR xTaskGenericNotifyStateClear xTaskNotifyIndexedFromISR xTaskResumeAll xTickCount xTicksToWait
     portGET_CORE_ID
     # zsh; `rt plant`; a tool; a word for the title of an issue

@@ -3,8 +3,9 @@
 
 2,000 random documents, or as many as the first argument says, have steps of every kind, edits of
 every kind, and tick counts at both ends of 32 bits. Of each the steps of the settled session, the
-lines about refused edits and the one about calls that were not made are compared. A line where one differs, then a total;
-status 1 where one does. The second argument is the first number of the random documents.
+lines about refused edits and the one about calls that were not made are compared. A line where
+one differs, then a total; status 1 where one does. The second argument is the first number of the
+random documents.
 """
 
 import json
@@ -25,9 +26,10 @@ KINDS = (
     *("notify_wait", "notify_take", "state_clear", "value_clear", "mutex_take", "mutex_give"),
 )
 OF_QUEUES = ("queue_send", "queue_send", "queue_receive", "queue_receive")
+SUSPENDING = ("suspend", "suspend", "resume", "resume")
 TARGETED = (
     *("priority_set", "affinity_set", "preempt_off", "preempt_on"),
-    *("state_clear", "value_clear"),
+    *("state_clear", "value_clear", "suspend", "resume"),
 )
 
 
@@ -35,7 +37,8 @@ def header(rng):
     """A session without steps."""
     cores, priorities = rng.choice((2, 2, 3, 4, 8)), rng.randint(1, 6)
     queues = [{"length": 2, "messages": 1}, {"length": 1, "messages": 0}]
-    third = (3, {"notes": 1, "queues": queues[: rng.randint(0, 2)]})
+    units = rng.choice(({}, {}, {"units": 1}, {"units": 1000}))
+    third = (3, {"notes": 1, "queues": queues[: rng.randint(0, 2)], **units})
     form, several = rng.choice(((1, {}), (2, {"notes": 3}), third, third))
     tasks = [
         {
@@ -89,6 +92,7 @@ def queue(rng, session):
 def call(rng, session):
     """A call of any kind, by any task on any core."""
     kinds = KINDS + (OF_QUEUES if session.get("queues") else ())
+    kinds += SUSPENDING if "queues" in session else ()
     do, cores = rng.choice(kinds), session["cores"]
     members = {
         "delay": lambda: ticks(rng),
@@ -110,18 +114,27 @@ def call(rng, session):
     return head | target | members.get(do, dict)()
 
 
+def interrupt(rng, session):
+    """An interrupt of any kind that the session may have."""
+    kinds = ["isr_notify", "isr_notify"]
+    kinds += ["isr_send", "isr_receive"] if session.get("queues") else []
+    kinds += ["isr_resume"] if "queues" in session else []
+    do = rng.choice(kinds)
+    members = {"isr_notify": note, "isr_resume": lambda *_: {"to": name(rng, session)}}
+    return {"do": do, "core": rng.randrange(session["cores"])} | members.get(do, queue)(rng, session)
+
+
 def step(rng, session):
     """A step of any kind."""
-    core, draw = rng.randrange(session["cores"]), rng.random()
+    draw = rng.random()
     if draw < 0.25:
         return {"do": "tick"}
-    if draw < 0.33 or draw < 0.4 and not session.get("queues"):
-        return {"do": "isr_notify", "core": core} | note(rng, session)
     if draw < 0.4:
-        do = rng.choice(("isr_send", "isr_receive"))
-        return {"do": do, "core": core} | queue(rng, session)
+        return interrupt(rng, session)
     if draw < 0.5:
-        return {"do": "switch", "core": core}
+        return {"do": "switch", "core": rng.randrange(session["cores"])}
+    if draw < 0.6 and session.get("units", 1) > 1:
+        return {"do": "pass", "units": rng.choice((1, 40, 250, 999))}
     return call(rng, session)
 
 

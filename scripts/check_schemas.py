@@ -13,10 +13,10 @@ from referencing import Registry, Resource
 
 SEED = 38
 ACCEPTED = {"session": 400, "bench": 400, "rig": 200}
-WRONG = {"session": 300, "bench": 90, "rig": 190}
+WRONG = {"session": 360, "bench": 110, "rig": 240}
 UNTELLABLE = {"session": 15, "bench": 15}
 NUMBERS = [0, 0, 1, 2, 3, 5, 7, 31, 4294967294, 4294967295]
-# The members of a step after `core` and `by`, or after `core` for an interrupt. Those for queues are steps of format 3 alone.
+# The members of a step after `core` and `by`, or after `core` for an interrupt.
 STEPS = {
     "tick": [], "switch": [], "isr_notify": ["to", "action"], "yield": [], "delay": ["ticks"],
     "delay_until": ["prev", "inc"], "priority_set": ["to", "priority"], "affinity_set": ["to", "mask"],
@@ -24,9 +24,13 @@ STEPS = {
     "notify_wait": ["entry", "exit", "ticks"], "notify_take": ["clear", "ticks"], "state_clear": ["to"],
     "value_clear": ["to", "bits"], "mutex_take": ["mutex", "ticks"], "mutex_give": ["mutex"],
     "queue_send": ["queue", "ticks"], "queue_receive": ["queue", "ticks"], "isr_send": ["queue"], "isr_receive": ["queue"],
+    "suspend": ["to"], "resume": ["to"], "isr_resume": ["to"], "pass": ["units"],
     "finish": [], "hold_open": [], "hold_close": [],
 }
-INTERRUPTS = ("isr_notify", "isr_send", "isr_receive")
+INTERRUPTS = ("isr_notify", "isr_send", "isr_receive", "isr_resume")
+# The steps that format 3 alone has. A rig has no `pass`.
+THIRD = ("queue_send", "queue_receive", "isr_send", "isr_receive", "suspend", "resume", "isr_resume", "pass")
+ACTION_STEPS = tuple(do for do in STEPS if do != "pass")
 # The steps that are for a notification: in formats 2 and 3 they may have its index.
 INDEXED = ("isr_notify", "notify", "notify_wait", "notify_take", "state_clear", "value_clear")
 ACTIONS = {"none": False, "set_bits": True, "increment": False, "set": True, "set_new": True}
@@ -53,7 +57,8 @@ def form(rng):
         return {"format": 1}
     if rng.random() < 0.5:
         return {"format": 2, "notes": notes}
-    return {"format": 3, "notes": notes, "queues": [queue(rng) for _ in range(rng.choice([0, 1, 2, 32]))]}
+    queues = [queue(rng) for _ in range(rng.choice([0, 1, 2, 32]))]
+    return {"format": 3, "notes": notes, "queues": queues, **rng.choice([{}, {"units": 1}, {"units": 2}, {"units": 1000000}])}
 
 
 def header(rng):
@@ -76,7 +81,7 @@ def member(rng, name, head):
         return rng.randrange(len(head["queues"]))
     if name == "mask":
         return mask(rng, head["cores"])
-    if name == "inc":
+    if name in ("inc", "units"):
         return max(1, rng.choice(NUMBERS))
     if name == "clear":
         return rng.random() < 0.5
@@ -87,7 +92,9 @@ def member(rng, name, head):
 
 def has_step(head, do):
     """Whether a session of these settings may have such a step."""
-    return not ("mutex" in STEPS[do] and not head["mutexes"] or "queue" in STEPS[do] and not head.get("queues"))
+    if do in THIRD and head["format"] != 3 or do == "pass" and head.get("units", 1) == 1:
+        return False
+    return not ("mutex" in STEPS[do] and not head["mutexes"] or "queue" in STEPS[do] and not head["queues"])
 
 
 def action(rng, head, kinds):
@@ -105,9 +112,9 @@ def action(rng, head, kinds):
 
 def step(rng, head, kinds=tuple(STEPS)):
     made = action(rng, head, kinds)
-    if made["do"] != "tick":
+    if made["do"] not in ("tick", "pass"):
         made["core"] = rng.randrange(head["cores"])
-    if made["do"] not in ("tick", "switch", *INTERRUPTS):
+    if made["do"] not in ("tick", "switch", "pass", *INTERRUPTS):
         made["by"] = rng.choice(head["tasks"])["name"]
     return mixed(rng, made)
 
@@ -134,8 +141,9 @@ def edit(rng, head, kinds=EDITS):
 def document(rng, kind):
     head = header(rng)
     if kind == "rig":
-        late = [k for k in STEPS if k != "tick"]
-        scripts = [[action(rng, head, late if core else list(STEPS)) for _ in range(rng.randrange(5))]
+        head.pop("units", None)
+        late = [k for k in ACTION_STEPS if k != "tick"]
+        scripts = [[action(rng, head, late if core else ACTION_STEPS) for _ in range(rng.randrange(5))]
                    for core in range(head["cores"])]
         limit = rng.choice([0, 1, 100, 1000000])
         return {"session": {**head, "steps": []}, "limit": limit, "scripts": scripts}
@@ -175,8 +183,10 @@ def wrong_value(rng, path, value):
 
 
 def needed_of(value):
-    """The members that an object can't be without."""
-    return [name for name in value if name != "index"] if isinstance(value, dict) else []
+    """The members that an object can't be without. A step needs its `units`, and a session doesn't."""
+    if not isinstance(value, dict):
+        return []
+    return [name for name in value if name != "index" and (name != "units" or "do" in value)]
 
 
 def damaged(rng, good):
@@ -223,13 +233,13 @@ def parts_of(rng, kind, head):
     if kind == "bench":
         return ([edit(rng, head, (name,)) for name in EDITS],
                 lambda piece: {"session": bare, "edits": [edit(rng, head), piece]})
-    return ([action(rng, head, (do,)) for do in STEPS if has_step(head, do)],
+    return ([action(rng, head, (do,)) for do in ACTION_STEPS if has_step(head, do)],
             lambda piece: {"session": bare, "limit": 5, "scripts": [[piece]] + [[]] * (head["cores"] - 1)})
 
 
 def faults_of_parts(rng, kind):
     """Documents of which one step, edit, action, task or the outermost object has each fault."""
-    head = {**header(rng), "mutexes": 2, "format": 3, "notes": 2, "queues": [queue(rng)]}
+    head = {**header(rng), "mutexes": 2, "format": 3, "notes": 2, "queues": [queue(rng)], "units": 1 if kind == "rig" else 10}
     pieces, whole = parts_of(rng, kind, head)
     yield from faults(rng, document(rng, kind))
     if kind == "session":
@@ -245,11 +255,14 @@ def faults_of_format(rng, kind):
     head = {**header(rng), "mutexes": 2, "format": 1}
     head.pop("notes", None)
     head.pop("queues", None)
+    head.pop("units", None)
     pieces, whole = parts_of(rng, kind, head)
     noted = {**head, "notes": 1, "steps": []}
     yield noted if kind == "session" else {**whole(pieces[0]), "session": noted}
     queued = {**noted, "format": 2, "queues": []}
     yield queued if kind == "session" else {**whole(pieces[0]), "session": queued}
+    timed = {**noted, "format": 2, "units": 1}
+    yield timed if kind == "session" else {**whole(pieces[0]), "session": timed}
     name = head["tasks"][0]["name"]
     for piece in pieces:
         if piece.get("do") in INDEXED:
@@ -257,19 +270,20 @@ def faults_of_format(rng, kind):
         if "step" in piece:
             yield whole({**piece, "step": {"do": "isr_notify", "core": 0, "to": name, "action": "none", "index": 0}})
             yield whole({**piece, "step": {"do": "isr_send", "core": 0, "queue": 0}})
-    yield from steps_of_queues(rng, kind)
+    yield from steps_of_format_3(rng, kind)
 
 
-def steps_of_queues(rng, kind):
-    """Documents of formats 1 and 2 with a step that only format 3 has."""
-    head = {**header(rng), "mutexes": 2, "format": 3, "notes": 2, "queues": [queue(rng)]}
-    first = {key: value for key, value in head.items() if key not in ("notes", "queues")}
+def steps_of_format_3(rng, kind):
+    """Documents of formats 1 and 2 with a step that only format 3 has, and rigs of format 3 with a `pass`."""
+    head = {**header(rng), "mutexes": 2, "format": 3, "notes": 2, "queues": [queue(rng)], "units": 10}
+    first = {key: value for key, value in head.items() if key not in ("notes", "queues", "units")}
     second = {**first, "notes": 2}
-    queued = [do for do in STEPS if "queue" in STEPS[do]]
     if kind == "bench":
-        pieces = [{"edit": "insert", "at": 0, "step": step(rng, head, (do,))} for do in queued]
+        pieces = [{"edit": "insert", "at": 0, "step": step(rng, head, (do,))} for do in THIRD]
     else:
-        pieces = [(step if kind == "session" else action)(rng, head, (do,)) for do in queued]
+        pieces = [(step if kind == "session" else action)(rng, head, (do,)) for do in THIRD]
+    if kind == "rig":
+        yield parts_of(rng, kind, {**head, "units": 1})[1](pieces[-1])
     for piece in pieces:
         yield parts_of(rng, kind, {**first, "format": 1})[1](piece)
         yield parts_of(rng, kind, {**second, "format": 2})[1](piece)

@@ -27,11 +27,11 @@ WIDTHS = (800, 1600)
 SCHEMES = {"dark": 0, "light": 1}
 SVG = "{http://www.w3.org/2000/svg}"
 LEGEND = {
-    "running", "ready", "blocked", "idle task", "core due to switch", "core holds the kernel", "priority inherited",
+    "running", "ready", "blocked", "suspended", "idle task", "core due to switch", "core holds the kernel", "priority inherited",
     "preemption off", "mutex held", "messages in a queue", "interrupt", "refused",
 }
 
-INTERRUPT = r"step \d+: isr_(notify|send|receive) "
+INTERRUPT = r"step \d+: isr_(notify|send|receive|resume) "
 
 passed = failed = 0
 
@@ -60,7 +60,8 @@ class Run:
         self.ticks, self.cores, self.holds, self.steps = [], [], [], []
         self.tasks = tasks
         self.blocked, self.priorities, self.masks, self.unpreempted, self.holders = [], [], [], [], []
-        blocked = {}
+        self.suspended = []
+        blocked, suspended = {}, set()
         masks = {task["name"]: task["mask"] for task in tasks}
         priority = {task["name"]: (task["priority"], task["priority"]) for task in tasks}
         self.messages = []
@@ -74,6 +75,7 @@ class Run:
                 self.holds.append(held[0] if held else None)
                 self.cores.append([part.split(" ", 2)[2] for part in parts[1:] if part.startswith("core ")])
                 self.blocked.append(dict(blocked))
+                self.suspended.append(set(suspended))
                 self.priorities.append(dict(priority))
                 self.masks.append(dict(masks))
                 self.unpreempted.append(set(unpreempted))
@@ -89,6 +91,11 @@ class Run:
                     blocked[words[0]] = " ".join(words[1:])
                 elif words[1:] == ["woken"]:
                     del blocked[words[0]]
+                elif words[1:] == ["suspended"]:
+                    blocked.pop(words[0], None)
+                    suspended.add(words[0])
+                elif words[1:] == ["resumed"]:
+                    suspended.remove(words[0])
                 elif words[1:4] == ["priority", "in", "use"]:
                     priority[words[0]] = (int(words[6]), priority[words[0]][1])
                 elif words[1:3] == ["base", "priority"]:
@@ -118,6 +125,8 @@ class Run:
         return (self.cores[place][core].split(", due by ") + [None])[1]
 
     def stance(self, place, name):
+        if name in self.suspended[place]:
+            return "suspended"
         if name in self.blocked[place]:
             return self.blocked[place][name]
         for core in range(len(self.cores[place])):
@@ -217,7 +226,8 @@ def legend_of(run):
                 used.add("core due to switch")
         for name in names:
             stance = run.stance(place, name)
-            used.add("blocked" if stance.startswith("blocked") else "ready" if stance == "ready" else "running")
+            kind = stance.split()[0]
+            used.add(kind if kind in ("blocked", "ready", "suspended") else "running")
             if len(set(run.priorities[place][name])) == 2:
                 used.add("priority inherited")
         if run.holds[place]:
@@ -262,7 +272,7 @@ def shown(elements):
             (r"(\S+) priority in use (\d+), base priority (\d+)$", lambda m: (("priority", m[1]), (int(m[2]), int(m[3])))),
             (r"(\S+) (runs on core \d+)$", lambda m: (("stance", m[1]), m[2])),
             (r"(\S+) (blocked (?:until tick \d+|without end))(?: \([^)]*\))?$", lambda m: (("stance", m[1]), m[2])),
-            (r"(\S+) (ready(?:\n.*)?)$", lambda m: (("stance", m[1]), m[2])),
+            (r"(\S+) (ready(?:\n.*)?|suspended)$", lambda m: (("stance", m[1]), m[2])),
             (r"(\S+) preemption (off)$", lambda m: (("preemption", m[1]), m[2])),
         ]
         for pattern, of in kinds:
@@ -461,6 +471,19 @@ def woken_among_idle():
     return {"format": 1, "cores": 2, "priorities": 2, "slicing": False, "mutexes": 0, "tick": 0, "tasks": tasks, "steps": made}
 
 
+def suspended_tasks():
+    """A session in which a running, a waiting and the calling task are suspended, and each is resumed in some way."""
+    tasks = [{"name": "A", "priority": 3, "mask": 3}, {"name": "B", "priority": 2, "mask": 3}, {"name": "C", "priority": 1, "mask": 3}]
+    made = [{"do": "suspend", "core": 0, "by": "A", "to": "B"}, {"do": "switch", "core": 1}, {"do": "pass", "units": 250},
+            {"do": "isr_resume", "core": 1, "to": "B"}, {"do": "isr_resume", "core": 1, "to": "B"}, {"do": "switch", "core": 1},
+            {"do": "queue_receive", "core": 1, "by": "B", "queue": 0, "ticks": 9}, {"do": "switch", "core": 1},
+            {"do": "suspend", "core": 0, "by": "A", "to": "B"}, {"do": "tick"}, {"do": "resume", "core": 1, "by": "C", "to": "B"},
+            {"do": "switch", "core": 1}, {"do": "finish", "core": 1, "by": "B"}, {"do": "suspend", "core": 0, "by": "A", "to": "A"},
+            {"do": "switch", "core": 0}, {"do": "tick"}, {"do": "resume", "core": 0, "by": "C", "to": "A"}, {"do": "switch", "core": 0}]
+    return {"format": 3, "cores": 2, "priorities": 4, "slicing": False, "mutexes": 0, "tick": 0, "notes": 1, "units": 1000,
+            "queues": [{"length": 1, "messages": 0}], "tasks": tasks, "steps": made}
+
+
 # ---- what a browser makes of it
 
 
@@ -513,6 +536,7 @@ def main():
         check_document(str(path), json.loads(path.read_text()), MODES)
     check_document("200 steps", long_session(200, 7), MODES)
     check_document("woken among idle tasks", woken_among_idle(), MODES)
+    check_document("suspended tasks", suspended_tasks(), MODES)
     begun = time.monotonic()
     status, svg, errors = view(["timeline"], json.dumps(long_session(3999, 11)))
     took = time.monotonic() - begun

@@ -1070,7 +1070,7 @@ Options:
       --strict  Ends with status 1 where an edit or a step of the run is refused
   -h, --help    Print help
 
-Ticks in each condition with the longest stretch of them, switches, refusals and the like, of
+Time in each condition with the longest stretch of it, switches, refusals and the like, of
 each task, core and mutex. The table leaves out what is 0; the JSON object has everything.
 
 Example: smp_view report --settle examples/settled/shorter-timeout.json

@@ -2,8 +2,9 @@
 """Measure a run: a second opinion, which shares no code with the bench.
 
 The kernel is that of settle.py, a flat table that is searched. A run is gone through step by step.
-Before each step it is asked of every condition whether it holds, and a tick counts those that do.
-A stretch of a condition ends where it fails. After each step the events of the step are counted.
+Before each step it is asked of every condition whether it holds, and the time that the step takes
+is that of those that do. A stretch of a condition ends where it fails. After each step the events
+of the step are counted.
 
 Standard input is a session, or an object of a `session` and its `edits`. It is taken to be well
 formed. With the word `--settle` the settled runs are measured. Standard output is the object that
@@ -75,10 +76,8 @@ def made(table, step):
     do, core = step["do"], step.get("core")
     before, in_use = list(table.current), list(table.in_use)
     events = []
-    if do == "tick":
-        settle.tick(table)
-    elif do in settle.NOT_CALLS:
-        settle.interrupt(table, step)
+    if do in settle.NOT_CALLS:
+        settle.come_from_outside(table, step)
     elif do == "switch":
         if table.hold_core is None and settle.is_due(table, core):
             settle.switch(table, core)
@@ -120,6 +119,9 @@ def task_conditions(table, task):
             yield "ready"
             if lower_core(table, task):
                 yield "ready.inverted"
+        return
+    if table.suspended[task]:
+        yield "suspended"
         return
     call = table.unfinished[task]
     cause = BLOCKED_BY.get(call["do"])
@@ -163,6 +165,13 @@ def event_name(event, names):
 # Numbers.
 
 
+def time_of(session, step):
+    """How many units of time a step takes: a pass its own, and a tick one where it has one."""
+    if step["do"] == "pass":
+        return step["units"]
+    return int(step["do"] == "tick" and session.get("units", 1) == 1)
+
+
 def queues_of(session):
     """The numbers of the queues."""
     return range(len(session.get("queues", [])))
@@ -174,6 +183,11 @@ def queue_waits(session):
     return ["blocked.queue", *ways] if ways else []
 
 
+def suspensions(session):
+    """The name of being suspended, where tasks can be."""
+    return ["suspended"] if "queues" in session else []
+
+
 def all_conditions(session):
     """The names of all conditions that may hold."""
     cores, mutexes = range(session["cores"]), range(session["mutexes"])
@@ -181,7 +195,7 @@ def all_conditions(session):
         rest = ["run", *(f"run.{core}" for core in cores), "ready", "ready.inverted"]
         rest += ["blocked.delay", "blocked.notification", "blocked.mutex", "blocked.mutex.held_up"]
         rest += [f"blocked.mutex.{mutex}" for mutex in mutexes]
-        rest += queue_waits(session)
+        rest += queue_waits(session) + suspensions(session)
         yield from (f"{task['name']}.{one}" for one in rest)
     for core in cores:
         yield from (f"core.{core}.{one}" for one in ("user", "idle", "due"))
@@ -213,13 +227,13 @@ def measured(session, steps, left):
     for place, step in enumerate(steps):
         found = set(conditions(table, names))
         stretches = {name: began for name, began in stretches.items() if name in found}
-        if step["do"] == "tick":
-            for name in found:
-                values[name] += 1
-                ticks, began = stretches.get(name, (0, place))
-                stretches[name] = (ticks + 1, began)
-                if ticks + 1 > values[f"{name}.longest"]:
-                    values[f"{name}.longest"], places[f"{name}.longest"] = ticks + 1, began
+        time = time_of(session, step)
+        for name in found if time else ():
+            values[name] += time
+            before, began = stretches.get(name, (0, place))
+            stretches[name] = (before + time, began)
+            if before + time > values[f"{name}.longest"]:
+                values[f"{name}.longest"], places[f"{name}.longest"] = before + time, began
         for event in made(table, step):
             if event_name(event, names):
                 values[event_name(event, names)] += 1
@@ -239,14 +253,21 @@ def measure(session, settled):
     return measured(session, steps, left)
 
 
+def units_of(session):
+    """How many units of time a tick has, where it has more than one."""
+    units = session.get("units", 1)
+    return {"units": units} if units != 1 else {}
+
+
 def report(document, settled):
     """The report of a session, or of a session and of it after its edits."""
+    rest = {"settled": settled} | units_of(document.get("session", document))
     if not document.get("edits"):
-        return measure(document.get("session", document), settled) | {"settled": settled}
+        return measure(document.get("session", document), settled) | rest
     before = measure(copy.deepcopy(document["session"]), settled)
     after = measure(settle.edited_session(document), settled)
     change = {name: after["values"][name] - value for name, value in before["values"].items()}
-    return {"before": before, "after": after, "change": change, "settled": settled}
+    return {"before": before, "after": after, "change": change} | rest
 
 
 def main():

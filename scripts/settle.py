@@ -3,14 +3,15 @@
 
 The kernel is one flat table. Each task has a stamp, and the later it came to where it stands, the
 greater its stamp; so the end of a list is a new stamp, and the front of a list is the least one.
-A task that is blocked for some ticks has the tick of its wake. The tick grows without end here,
-and is cut to 32 bits only where a call reads it. Every choice is a search of all tasks or cores.
+A task that is blocked for some ticks has the tick of its wake, and a suspended one a flag. The
+tick grows without end here, and is cut to 32 bits only where a call reads it. Every choice is a
+search of all tasks or cores.
 
 The settled run of a session is made of its events, which are all of its steps but each `switch`
 and `finish`: those the port and the return from a call make by themselves. The run is the start,
-then quiet work, and then each event in order, with quiet work after each. A tick or an interrupt
-is made as it stands, and a call is put behind the calls that wait. Quiet work is, until there is
-none, the first of these:
+then quiet work, and then each event in order, with quiet work after each. A tick, an interrupt or
+a pass is made as it stands, and a call is put behind the calls that wait. Quiet work is, until
+there is none, the first of these:
 
 1. the `switch` of the least core where it is not refused;
 2. the `finish` of the current user task of the least core where it is not refused;
@@ -32,7 +33,8 @@ ENDLESS = WORD - 1
 DEEPEST = 255
 MOST_STEPS = 1_000_000
 BY_THEMSELVES = ("switch", "finish")
-NOT_CALLS = ("tick", "isr_notify", "isr_send", "isr_receive")
+# What comes from outside. A `pass` lets units of time go by, in which nothing happens.
+NOT_CALLS = ("tick", "pass", "isr_notify", "isr_send", "isr_receive", "isr_resume")
 OF_NOTES = ("isr_notify", "notify", "notify_wait", "notify_take", "state_clear", "value_clear")
 # Of each step at a queue the way that its message goes, and the way that one goes the other way.
 WAYS = {"queue_send": "in", "isr_send": "in", "queue_receive": "out", "isr_receive": "out"}
@@ -69,6 +71,7 @@ class Table:
     mask: list[int]
     preempt: list[bool]
     ready: list[bool]
+    suspended: list[bool]
     stamp: list[int]
     wake: list[int | None]
     awaited: list[tuple | None]
@@ -161,7 +164,7 @@ def leave(table, task):
 
 def wake(table, acting, task):
     """Make a task ready, last in its list, and seek a core for it."""
-    table.ready[task] = True
+    table.ready[task], table.suspended[task] = True, False
     table.wake[task] = None
     leave(table, task)
     to_the_end(table, task)
@@ -362,6 +365,31 @@ def value_clear(table, _core, _task, call):
     table.value[table.number[call["to"]]][call.get("index", 0)] &= ~call["bits"]
 
 
+# Suspended tasks.
+
+
+def suspend(table, core, _task, call):
+    """Let a task neither be ready nor wait for anything until it is resumed, and ask its core.
+
+    What it has of its call stays: the call, and the tick at which that is to end.
+    """
+    to = table.number[call["to"]]
+    if table.suspended[to]:
+        return
+    table.ready[to], table.suspended[to] = False, True
+    table.wake[to] = None
+    leave(table, to)
+    table.state[to] = ["idle" if state == "waiting" else state for state in table.state[to]]
+    ask_its_core(table, core, to)
+
+
+def resume(table, core, _task, step):
+    """Make a suspended task ready, by a call or an interrupt; another one stays as it is."""
+    to = table.number[step["to"]]
+    if table.suspended[to]:
+        wake(table, core, to)
+
+
 # Holds.
 
 
@@ -537,9 +565,12 @@ def finish_queue(table, core, task, call):
 # Steps.
 
 
-def interrupt(table, step):
-    """Make an interrupt of a core."""
-    (notify if step["do"] == "isr_notify" else pass_message)(table, step["core"], None, step)
+def come_from_outside(table, step):
+    """Make a step that is no call: a tick, an interrupt of a core, or time that goes by."""
+    if step["do"] == "tick":
+        tick(table)
+    elif step["do"] in INTERRUPTS:
+        INTERRUPTS[step["do"]](table, step["core"], None, step)
 
 
 def finish(table, core, task, _call):
@@ -564,7 +595,7 @@ def waits_in_vain(table, call):
 
 
 def would_block(table, task, call):
-    """Whether a call would block its task."""
+    """Whether a call would block its task, or suspend it."""
     do = call["do"]
     if do == "finish":
         return not is_over(table, task) and waits_in_vain(table, table.unfinished[task])
@@ -574,6 +605,8 @@ def would_block(table, task, call):
         return call["ticks"] > 0 and not has_notification(table, task, call)
     if do == "mutex_take" or do in WAYS:
         return call["ticks"] > 0 and waits_in_vain(table, call)
+    if do == "suspend":
+        return table.number[call["to"]] == task
     return do == "delay" and call["ticks"] > 0
 
 
@@ -623,7 +656,15 @@ CALLS = {
     "mutex_give": mutex_give,
     "queue_send": queue_call,
     "queue_receive": queue_call,
+    "suspend": suspend,
+    "resume": resume,
     "finish": finish,
+}
+INTERRUPTS = {
+    "isr_notify": notify,
+    "isr_send": pass_message,
+    "isr_receive": pass_message,
+    "isr_resume": resume,
 }
 
 
@@ -648,7 +689,7 @@ def start(session):
         base=[0] * cores + [task["priority"] for task in tasks],
         in_use=[0] * cores + [task["priority"] for task in tasks],
         mask=[every] * cores + [task["mask"] & every for task in tasks],
-        preempt=[True] * count, ready=[True] * count,
+        preempt=[True] * count, ready=[True] * count, suspended=[False] * count,
         stamp=[len(tasks) + core for core in range(cores)] + list(range(len(tasks))),
         wake=[None] * count, awaited=[None] * count, wait_priority=[0] * count,
         values=listed if session["format"] == 3 else None,
@@ -714,14 +755,11 @@ def settle(session):
     for step in session["steps"]:
         if step["do"] in BY_THEMSELVES:
             continue
-        if step["do"] == "tick":
-            tick(table)
-        elif step["do"] in NOT_CALLS:
-            interrupt(table, step)
+        if step["do"] in NOT_CALLS:
+            come_from_outside(table, step)
+            run.append(step)
         else:
             waiting.append(step)
-        if step["do"] in NOT_CALLS:
-            run.append(step)
         run.extend(quiet_work(table, names, waiting))
     return run, waiting
 

@@ -51,6 +51,7 @@ fn two_thousand_steps(rt: HostRuntime) -> Result<(), Fail> {
         (Mix::Nothing, (370_025_982, 32, 2000)),
         (Mix::Notes(1), (33_837_225, 20, 2000)),
         (Mix::Notes(8), (2_721_003_482, 31, 2000)),
+        (Mix::Suspensions, (1_400_125_553, 20, 2000)),
     ] {
         check_digest(&rt, &random_session(&rt, &rt, 2000, *mix)?, expected);
     }

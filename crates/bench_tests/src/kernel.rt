@@ -7,7 +7,7 @@ ghost use Rattle.bench_model.specs.Session.{step_of};
 ghost use Rattle.bench_model.specs.Equal.{StandsFor};
 
 use crate::samples::{Started, assert_at, assert_is, assert_same, three_tasks};
-use bench_types::{Call, Header, NoteState, Refusal, Reply, Settings, Step, TaskLook};
+use bench_types::{Call, Header, Items, NoteState, Refusal, Reply, Settings, Step, TaskLook};
 use smp_kernel::{Kernel, Meter, StartFault};
 use std::alloc::Global;
 use std::process::Abort;
@@ -19,6 +19,7 @@ const IDLE: TaskLook = TaskLook {
     mask: 3,
     preempt: true,
     ready: true,
+    suspended: false,
     left: None,
     held: 0,
     in_call: false,
@@ -40,6 +41,7 @@ fn check_start(rt: &impl Abort, kernel: &Kernel) {
         mutexes: 0,
         notes: 1,
         queues: None,
+        units: 1,
         tasks: 5,
     };
     assert_same(rt, "settings", &kernel.settings(), &settings);
@@ -181,4 +183,52 @@ fn check_ranks(rt: &impl Abort, kernel: &Kernel) {
         kernel.is_current(4),
     );
     assert_same(rt, "current", &current, &(true, true, false));
+}
+
+#[test]
+fn shows_suspended_tasks(rt: HostRuntime) -> Result<(), Fail> {
+    let mut header = three_tasks(rt.alloc(), 2, true)?;
+    header.queues = Some(Items::new(Vec::new(rt.alloc())));
+    let mut started = Started::of(&rt, header)?;
+    check_suspended(&rt, &mut started);
+    Ok(())
+}
+
+/// A suspends C, and B while it waits; it resumes C, and suspends itself.
+fn check_suspended(rt: &impl Abort, started: &mut Started) {
+    let (core, task) = (1, 3);
+    let wait = Step::Call {
+        core,
+        task,
+        call: Call::Delay(2),
+    };
+    make(rt, started, wait, Reply::Blocked);
+    make(rt, started, call(Call::Suspend(4)), Reply::Done);
+    assert_suspended(rt, &started.kernel, (false, false, true));
+    make(rt, started, call(Call::Suspend(3)), Reply::Done);
+    assert_suspended(rt, &started.kernel, (false, true, true));
+    make(rt, started, call(Call::Resume(4)), Reply::Done);
+    assert_suspended(rt, &started.kernel, (false, true, false));
+    make(rt, started, call(Call::Suspend(2)), Reply::Done);
+    assert_suspended(rt, &started.kernel, (true, true, false));
+}
+
+/// Whether A, B and C are suspended. B is no longer ready, and waits for no tick once it is.
+fn assert_suspended(rt: &impl Abort, kernel: &Kernel, wanted: (bool, bool, bool)) {
+    assert!(rt; kernel.settings().tasks == 5);
+    let shown = (
+        kernel.suspended(2),
+        kernel.suspended(3),
+        kernel.suspended(4),
+    );
+    assert_same(rt, "suspended", &shown, &wanted);
+    let looks = (
+        kernel.look(2).suspended,
+        kernel.look(3).suspended,
+        kernel.look(4).suspended,
+    );
+    assert_same(rt, "looks", &looks, &wanted);
+    let left = if wanted.1 { None } else { Some(2) };
+    let shown = (kernel.ready(3), kernel.look(3).left);
+    assert_same(rt, "ready, ticks left", &shown, &(false, left));
 }

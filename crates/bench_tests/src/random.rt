@@ -53,6 +53,9 @@ pub enum Mix {
     Holds,
     /// Some set something of a task, and some send to one of four queues or receive from it.
     Queues,
+    /// Some set something of a task, some suspend or resume a task, some send, receive, or take or
+    /// give a mutex, and some let time go by.
+    Suspensions,
 }
 
 impl Mix {
@@ -60,6 +63,14 @@ impl Mix {
     fn notes(self) -> u32 {
         match self {
             Mix::Notes(notes) => notes,
+            _ => 1,
+        }
+    }
+
+    // How many units of time a tick has.
+    fn units(self) -> u32 {
+        match self {
+            Mix::Suspensions => 1000,
             _ => 1,
         }
     }
@@ -110,6 +121,7 @@ impl Played {
             Mix::Mutexes => with_mutex(kernel, step, number(&mut self.seed)),
             Mix::Holds => with_hold(kernel, step, number(&mut self.seed)),
             Mix::Queues => with_queue(step, number(&mut self.seed)),
+            Mix::Suspensions => with_suspension(kernel, step, number(&mut self.seed)),
         }
     }
 
@@ -135,6 +147,7 @@ fn large_header(alloc: Global, mix: Mix) -> Result<Header, Fail>
         tick: 4_294_967_200,
         mutexes: 4,
         notes: mix.notes(),
+        units: mix.units(),
     };
     let mut tasks = [(0, 0); 64];
     for task in 0..64 {
@@ -147,7 +160,7 @@ fn large_header(alloc: Global, mix: Mix) -> Result<Header, Fail>
 
 // Four queues, of sessions whose steps send and receive.
 fn some_queues(alloc: Global, mix: Mix) -> Result<Option<Items<QueueArgs>>, AllocError> {
-    if mix != Mix::Queues {
+    if mix != Mix::Queues && mix != Mix::Suspensions {
         return Ok(None);
     }
     let empty = QueueArgs {
@@ -389,6 +402,82 @@ fn some_queue_call(choice: u32) -> Call
     } else {
         Call::QueueReceive { queue, ticks }
     }
+}
+
+// The step, or an interrupt that resumes a task or time that goes by in place of a yield and of
+// some switches, and in place of most calls that set something a call that suspends or resumes a
+// task, or one that may wait.
+fn with_suspension(kernel: &Kernel, step: Step, choice: u32) -> Step
+    requires mutexes { kernel.now.settings.mutexes ≡ 4 }
+    requires choice { choice < 2 ^ 16 }
+{
+    match step {
+        Step::Switch { core } if choice > 60_000 => resume_or_pass(kernel, core, choice),
+        Step::Call { core, call, .. } if is_yield(call) => resume_or_pass(kernel, core, choice),
+        Step::Call { task, .. } => {
+            in_place_of(step, choice, some_suspension(kernel, task, choice))
+        }
+        _ => step,
+    }
+}
+
+fn resume_or_pass(kernel: &Kernel, core: u32, choice: u32) -> Step
+    requires { choice < 2 ^ 16 }
+{
+    if choice / 16 % 4 == 0 {
+        return Step::Pass {
+            units: 1 + choice / 64,
+        };
+    }
+    Step::ResumeInterrupt {
+        core,
+        task: some_suspended(kernel, choice / 64 % 64),
+    }
+}
+
+// A task suspends itself, or another one, or one that has an unfinished call.
+fn some_suspension(kernel: &Kernel, task: u32, choice: u32) -> Call
+    requires mutexes { kernel.now.settings.mutexes ≡ 4 }
+    requires choice { choice < 2 ^ 16 }
+{
+    let user = choice / 16 % 64;
+    match choice % 8 {
+        0 => Call::Suspend(task),
+        1 => Call::Suspend(8 + user),
+        2 => Call::Suspend(some_in_call(kernel, user)),
+        3 => Call::Resume(some_suspended(kernel, user)),
+        4..=5 => some_mutex_call(kernel, task, choice),
+        _ => some_queue_call(choice),
+    }
+}
+
+// The first task with an unfinished call of those from a user task on; that task where there is
+// none.
+fn some_in_call(kernel: &Kernel, user: u32) -> u32
+    requires { user < 64 }
+{
+    let from = 8 + user;
+    (from..72)
+        .find(|task| is_in_call(kernel, *task))
+        .unwrap_or(from)
+}
+
+fn is_in_call(kernel: &Kernel, task: u32) -> bool {
+    task < kernel.settings().tasks && kernel.look(task).in_call
+}
+
+// The first suspended task of those from a user task on; that task where there is none.
+fn some_suspended(kernel: &Kernel, user: u32) -> u32
+    requires { user < 64 }
+{
+    let from = 8 + user;
+    (from..72)
+        .find(|task| is_suspended(kernel, *task))
+        .unwrap_or(from)
+}
+
+fn is_suspended(kernel: &Kernel, task: u32) -> bool {
+    task < kernel.settings().tasks && kernel.suspended(task)
 }
 
 fn interrupt(core: u32, choice: u32, index: u32) -> Step

@@ -103,6 +103,11 @@ fn as_the_definitions_replay_queues(rt: HostRuntime) -> Result<(), Fail> {
     check_random(&rt, &rt, Mix::Queues)
 }
 
+#[test]
+fn as_the_definitions_replay_suspensions(rt: HostRuntime) -> Result<(), Fail> {
+    check_random(&rt, &rt, Mix::Suspensions)
+}
+
 // The steps of the store are these, and their replies and current tasks those of the definitions.
 pub(crate) fn check_store(
     rt: &impl Abort,

@@ -122,7 +122,7 @@ fn check_tallies(rt: &impl Abort, alloc: Global, store: &Store, anew: &Store) ->
 
 #[test]
 fn random_edits_by_some_spans(rt: HostRuntime) -> Result<(), Fail> {
-    for mix in &[Mix::Notes(2), Mix::Mutexes, Mix::Holds] {
+    for mix in &[Mix::Notes(2), Mix::Mutexes, Mix::Holds, Mix::Suspensions] {
         check_mix(&rt, &rt, *mix)?;
     }
     Ok(())

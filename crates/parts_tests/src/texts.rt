@@ -21,6 +21,8 @@ mod rigs;
 mod sessions;
 mod sets;
 mod steps;
+mod suspending;
+mod units;
 mod unknown_names;
 mod values;
 mod writing;

@@ -111,6 +111,8 @@ fn check_calls(rt: &(impl Wait + Abort), rig: &Rig, zero: &mut CoreSeat)
     let nobody = Call::StateClear { task: 0, index: 0 };
     refuse_call(rt, rig, zero, nobody, Fault::BadTask);
     refuse_call(rt, rig, zero, Call::MutexGive(0), Fault::BadMutex);
+    refuse_call(rt, rig, zero, Call::Suspend(0), Fault::BadTask);
+    refuse_call(rt, rig, zero, Call::Resume(2), Fault::BadArgument);
     let no_index = Call::StateClear { task: 2, index: 1 };
     refuse_call(rt, rig, zero, no_index, Fault::BadArgument);
     let nowhere = Call::AffinitySet { task: 2, mask: 4 };

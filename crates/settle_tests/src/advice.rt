@@ -47,7 +47,7 @@ fn advice<R: Threads + Abort + Sync>(
     let session = session_of(rt, header, Vec::from_slice(host.alloc(), &steps)?)?;
     let judge = Judge {
         settled: false,
-        subject: Subject::Ticks(Condition::Busy { core: 1 }),
+        subject: Subject::Time(Condition::Busy { core: 1 }),
         measure: Measure::Total,
     };
     let family = Family {

@@ -1,10 +1,12 @@
 //! The numbers of runs, and limits of them. Each was counted by hand.
 use crate::settled::{TICK, call, session_of, switch};
 use bench_samples::three_tasks;
-use bench_types::{Call, CheckedSession, Direction, Items, QueueArgs, Step};
+use bench_types::{Call, CheckedSession, Direction, Header, Items, QueueArgs, Step};
 use report_figures::{Bound, figure_called, figures_of, subjects_of};
+use run_numbers::{Condition, Subject};
 use session_reports::{CheckStatus, Checked, Wanted, check, figures_of_session};
 use smp_kernel::Meter;
+use std::alloc::Global;
 use std::process::Abort;
 use std::test::Fail;
 
@@ -20,7 +22,7 @@ fn value(
     session: &CheckedSession,
     settled: bool,
     name: &str,
-) -> Result<Option<u32>, Fail> {
+) -> Result<Option<u64>, Fail> {
     let alloc = host.alloc();
     let figures = figures_of_session(alloc, &mut Meter::new(host), session, settled)?;
     let figure = figure_called(alloc, session.header(), figures.as_slice(), name)?;
@@ -31,7 +33,7 @@ fn check_values(
     rt: &impl Abort,
     host: &HostRuntime,
     settled: bool,
-    wanted: &[(&str, Option<u32>)],
+    wanted: &[(&str, Option<u64>)],
 ) -> Result<(), Fail> {
     let session = session(rt, host)?;
     for (name, number) in wanted {
@@ -54,6 +56,7 @@ fn numbers_of_runs(rt: HostRuntime) -> Result<(), Fail> {
         ("A.top_priority", Some(2)),
         ("core.1.due", Some(1)),
         ("IDLE0.run", None),
+        ("A.suspended", None),
     ];
     check_values(&rt, &rt, false, &as_it_stands)?;
     let settled = [
@@ -138,18 +141,145 @@ fn numbers_of_queues(rt: HostRuntime) -> Result<(), Fail> {
         assert_eq!(&rt; found, Some(*number), "{name}");
     }
     let subjects = subjects_of(rt.alloc(), session.header())?;
-    assert_eq!(&rt; subjects.len(), 3 * (23 + 5) + 2 * 3 + 2 * 4);
+    assert_eq!(&rt; subjects.len(), 3 * (24 + 5) + 2 * 3 + 2 * 4);
     Ok(())
 }
 
-/// A session that says that there are no queues has no numbers of queues.
+/// A, B and C, in a session that says that there are no queues.
+fn without_queues(alloc: Global) -> Result<Header, Fail> {
+    let mut header = three_tasks(alloc, false)?;
+    header.queues = Some(Items::new(Vec::new(alloc)));
+    Ok(header)
+}
+
+/// Such a session has no numbers of queues. Its tasks can be suspended.
 #[test]
 fn numbers_without_queues(rt: HostRuntime) -> Result<(), Fail> {
-    let mut header = three_tasks(rt.alloc(), false)?;
-    header.queues = Some(Items::new(Vec::new(rt.alloc())));
+    let header = without_queues(rt.alloc())?;
     header.check()?;
     let subjects = subjects_of(rt.alloc(), &header)?;
-    assert_eq!(&rt; subjects.len(), 3 * 23 + 2 * 3);
+    assert_eq!(&rt; subjects.len(), 3 * 24 + 2 * 3);
+    let suspended = Subject::Time(Condition::Suspended { task: 2 });
+    assert_eq!(&rt; subjects.as_slice().get(9).copied(), Some(suspended));
+    Ok(())
+}
+
+/// A suspends B for three ticks, of which B still has core 1 at the first, and C for three while C
+/// waits for a tick; then A suspends itself.
+fn session_of_suspended(rt: &impl Abort, host: &HostRuntime) -> Result<CheckedSession, Fail> {
+    let steps = [
+        call(0, 2, Call::Suspend(3)),
+        TICK,
+        switch(1),
+        TICK,
+        call(1, 4, Call::Delay(3)),
+        switch(1),
+        call(0, 2, Call::Suspend(4)),
+        TICK,
+        call(0, 2, Call::Resume(3)),
+        switch(1),
+        TICK,
+        call(0, 2, Call::Suspend(2)),
+        TICK,
+    ];
+    let header = without_queues(host.alloc())?;
+    session_of(rt, header, Vec::from_slice(host.alloc(), &steps)?)
+}
+
+#[test]
+fn numbers_of_suspended_tasks(rt: HostRuntime) -> Result<(), Fail> {
+    let session = session_of_suspended(&rt, &rt)?;
+    let wanted = [
+        ("A.run", 5),
+        ("A.suspended", 1),
+        ("B.run", 3),
+        ("B.suspended", 3),
+        ("B.suspended.longest", 3),
+        ("B.blocked.delay", 0),
+        ("C.run", 1),
+        ("C.suspended", 3),
+        ("C.blocked.delay", 0),
+        ("core.0.due", 1),
+    ];
+    for (name, number) in &wanted {
+        let found = value(&rt, &session, false, name)?;
+        assert_eq!(&rt; found, Some(*number), "{name}");
+    }
+    Ok(())
+}
+
+const fn passes_by(units: u32) -> Step {
+    Step::Pass { units }
+}
+
+/// A tick has 1000 units of time. A waits for one, in which 100 go by before its core switches and
+/// 650 after that, and 40 go by before core 1 switches to it.
+fn session_of_time(rt: &impl Abort, host: &HostRuntime) -> Result<CheckedSession, Fail> {
+    let steps = [
+        passes_by(250),
+        call(0, 2, Call::Delay(1)),
+        passes_by(100),
+        switch(0),
+        passes_by(650),
+        TICK,
+        passes_by(40),
+        switch(1),
+    ];
+    let mut header = without_queues(host.alloc())?;
+    header.config.units = 1000;
+    session_of(rt, header, Vec::from_slice(host.alloc(), &steps)?)
+}
+
+#[test]
+fn numbers_of_time(rt: HostRuntime) -> Result<(), Fail> {
+    let session = session_of_time(&rt, &rt)?;
+    let wanted = [
+        ("A.run", 350),
+        ("A.run.longest", 350),
+        ("A.blocked.delay", 750),
+        ("A.ready", 40),
+        ("A.ready.inverted", 40),
+        ("B.run.1", 1040),
+        ("C.run.0", 690),
+        ("core.0.due", 100),
+        ("core.1.due", 40),
+    ];
+    for (name, number) in &wanted {
+        let found = value(&rt, &session, false, name)?;
+        assert_eq!(&rt; found, Some(*number), "{name}");
+    }
+    Ok(())
+}
+
+/// A works 200 of the 1000 units between two ticks, and is blocked as each tick comes.
+fn session_of_a_driver(rt: &impl Abort, host: &HostRuntime) -> Result<CheckedSession, Fail> {
+    let rest = call(0, 2, Call::Delay(1));
+    let round = [passes_by(800), TICK, passes_by(200), rest];
+    let mut steps = Vec::from_slice(host.alloc(), &[rest])?;
+    for _ in 0..5 {
+        steps.extend_from_slice(&round)?;
+    }
+    let mut header = without_queues(host.alloc())?;
+    header.config.units = 1000;
+    session_of(rt, header, steps)
+}
+
+/// So it has 20 in 100 of a core.
+#[test]
+fn numbers_of_a_driver(rt: HostRuntime) -> Result<(), Fail> {
+    let session = session_of_a_driver(&rt, &rt)?;
+    let wanted = [
+        ("A.run", 1000),
+        ("A.run.longest", 200),
+        ("A.blocked.delay", 4000),
+        ("A.blocked.delay.longest", 800),
+        ("core.0.user", 5000),
+        ("core.0.due", 0),
+    ];
+    for (name, number) in &wanted {
+        let found = value(&rt, &session, true, name)?;
+        assert_eq!(&rt; found, Some(*number), "{name}");
+    }
     Ok(())
 }
 

@@ -3,7 +3,7 @@ ghost use Rattle.std.specs.Prelude.{◌≡◌, All, IfOk, IsTrue, Ok};
 ghost use Rattle.bench_types.specs.Step.{settings_of, step_check, IsCheckedStep};
 
 use bench_samples::three_tasks;
-use bench_types::{Call, CheckedSession, Header, Refusal, Step};
+use bench_types::{Call, CheckedSession, Header, Items, Refusal, Step};
 use session_runs::Run;
 use settled_runs::WaitingCall;
 use settling::{SettleFault, push_left, settle};
@@ -148,6 +148,71 @@ fn a_call_that_is_not_made(rt: HostRuntime) -> Result<(), Fail> {
         call: Call::Yield,
     }];
     check(&rt, &rt, &steps, &run, &left)
+}
+
+// Its tasks can be suspended, and a tick has 1000 units of time.
+fn session_of_format_3(
+    rt: &impl Abort,
+    alloc: Global,
+    steps: &[Step],
+) -> Result<CheckedSession, Fail> {
+    let mut header = three_tasks(alloc, false)?;
+    header.queues = Some(Items::new(Vec::new(alloc)));
+    header.config.units = 1000;
+    session_of(rt, header, Vec::from_slice(alloc, steps)?)
+}
+
+const RESUME_B: Step = Step::ResumeInterrupt { core: 0, task: 3 };
+
+const QUARTER: Step = Step::Pass { units: 250 };
+
+fn suspending() -> [Step; 9] {
+    [
+        call(0, 2, Call::Suspend(3)),
+        call(1, 3, Call::Yield),
+        QUARTER,
+        call(1, 4, Call::Delay(2)),
+        TICK,
+        RESUME_B,
+        call(0, 2, Call::Suspend(2)),
+        call(0, 2, Call::Yield),
+        TICK,
+    ]
+}
+
+fn suspending_settled() -> [Step; 15] {
+    [
+        call(0, 2, Call::Suspend(3)),
+        switch(1),
+        QUARTER,
+        call(1, 4, Call::Delay(2)),
+        switch(1),
+        TICK,
+        RESUME_B,
+        switch(1),
+        call(1, 3, Call::Yield),
+        switch(1),
+        call(0, 2, Call::Suspend(2)),
+        switch(0),
+        TICK,
+        switch(0),
+        call(0, 4, Call::Finish),
+    ]
+}
+
+/// B is suspended, and its call waits until an interrupt resumed it; A suspends itself, and its
+/// last call is not made. Time that goes by stays where it is.
+#[test]
+fn suspended_tasks_make_no_call(rt: HostRuntime) -> Result<(), Fail> {
+    let session = session_of_format_3(&rt, rt.alloc(), &suspending())?;
+    let settled = settle(rt.alloc(), &session, &mut Meter::new(&rt))?;
+    assert_run(&rt, &settled, &suspending_settled());
+    let left = WaitingCall {
+        task: 2,
+        call: Call::Yield,
+    };
+    assert_left(&rt, &settled, &[left]);
+    Ok(())
 }
 
 // What is told of a session of so many calls of C.

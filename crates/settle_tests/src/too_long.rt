@@ -47,7 +47,7 @@ fn advice<R: Threads + Abort + Sync>(
     assert!(rt; session.header().tasks.as_slice().len() == 3);
     let judge = Judge {
         settled: true,
-        subject: Subject::Ticks(Condition::Running { task: 4 }),
+        subject: Subject::Time(Condition::Running { task: 4 }),
         measure: Measure::Total,
     };
     Ok(advise(

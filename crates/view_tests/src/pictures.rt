@@ -1,10 +1,10 @@
 //! Pictures.
 
-use crate::samples::{FIRST_RUN, HINDERED, WOKEN_AMONG_IDLE, session_in};
+use crate::samples::{FIRST_RUN, HINDERED, ONE_QUEUE, SUSPENDED, WOKEN_AMONG_IDLE, session_in};
 use bench_types::Step;
 use run_pictures::{
     Axis, Extent, PlacedRun, law_of_bars, law_of_first_columns, law_of_hindrances, law_of_legends,
-    law_of_waits, tick_columns, timeline, timelines,
+    law_of_queues, law_of_waits, tick_columns, timeline, timelines,
 };
 use run_views::Places;
 use smp_kernel::Meter;
@@ -69,6 +69,25 @@ const AMONG_IDLE: [&str; 2] = [
 core 0: IDLE0 of priority 0 runs, which is lower; the core was not asked
 core 1: due, has not switched yet</title>",
     "<title>place 7: Z runs on core 1</title>",
+];
+
+/// The row of a queue, below those of three tasks: the message is there from the step that sends it
+/// to the step that receives it. A waits for it.
+const QUEUED: &str = "<text class='s' x='8' y='243'>queue 0</text>
+<rect class='q' x='390' y='232' width='240' height='14'><title>places 3 to 5: queue 0 messages 1\
+</title></rect>
+<text class='l' x='393' y='243'>1</text>
+<title>places 1 to 2: A blocked until tick 5 (queue 0 to receive)</title>";
+
+/// What is told of suspended tasks, of which B has its core still at the first place, of the
+/// interrupt that resumes it, and in the legend.
+const AWAY: [&str; 4] = [
+    "<title>places 1 to 3: B suspended</title>",
+    "<title>places 6 to 7: A suspended</title>",
+    "h8l-4 7z'><title>step 3: isr_resume core 1 to B
+isr true false: the task was suspended</title></path>",
+    "<rect class='i' y='4' width='20' height='6'/>\
+<text class='s' x='26' y='11'>suspended</text></g>",
 ];
 
 /// What stands beside the bars of C, and above them.
@@ -158,12 +177,40 @@ fn a_picture_of_what_is_in_the_way(rt: HostRuntime) -> Result<(), Fail> {
 }
 
 #[test]
+fn a_picture_of_a_queue(rt: HostRuntime) -> Result<(), Fail> {
+    let alloc = rt.alloc();
+    let session = session_in(alloc, ONE_QUEUE)?;
+    let mut meter = Meter::new(&rt);
+    match timeline(alloc, &mut meter, ALL, &session)? {
+        Ok(picture) => expect_printed(&rt, picture.as_str(), QUEUED),
+        Err(_) => panic!(rt; "too long"),
+    }
+    law_of_queues();
+    Ok(())
+}
+
+#[test]
 fn an_idle_task_is_lower_than_priority_0(rt: HostRuntime) -> Result<(), Fail> {
     let alloc = rt.alloc();
     let session = session_in(alloc, WOKEN_AMONG_IDLE)?;
     let mut meter = Meter::new(&rt);
     match timeline(alloc, &mut meter, ALL, &session)? {
         Ok(picture) => expect_each(&rt, picture.as_str(), &AMONG_IDLE),
+        Err(_) => panic!(rt; "too long"),
+    }
+    Ok(())
+}
+
+#[test]
+fn a_picture_of_suspended_tasks(rt: HostRuntime) -> Result<(), Fail> {
+    let alloc = rt.alloc();
+    let session = session_in(alloc, SUSPENDED)?;
+    let mut meter = Meter::new(&rt);
+    match timeline(alloc, &mut meter, ALL, &session)? {
+        Ok(picture) => {
+            expect_each(&rt, picture.as_str(), &AWAY);
+            assert!(rt; !picture.contains("blocked"));
+        }
         Err(_) => panic!(rt; "too long"),
     }
     Ok(())

@@ -32,6 +32,21 @@ pub const ONE_QUEUE: &str = "{\"format\": 3, \"cores\": 2, \"priorities\": 5, \"
     {\"do\": \"isr_send\", \"core\": 1, \"queue\": 0}, {\"do\": \"switch\", \"core\": 1}, \
     {\"do\": \"finish\", \"core\": 1, \"by\": \"A\"}]}";
 
+/// A suspends B, which an interrupt of core 1 resumes, and itself, so that C resumes it; in between
+/// a quarter of a tick goes by.
+pub const SUSPENDED: &str = "{\"format\": 3, \"cores\": 2, \"priorities\": 5, \"slicing\": false, \
+    \"tick\": 0, \"mutexes\": 0, \"notes\": 1, \"queues\": [], \"units\": 1000, \
+    \"tasks\": [{\"name\": \"A\", \"priority\": 2, \"mask\": 3}, \
+    {\"name\": \"B\", \"priority\": 1, \"mask\": 3}, {\"name\": \"C\", \"priority\": 1, \"mask\": 3}], \
+    \"steps\": [{\"do\": \"suspend\", \"core\": 0, \"by\": \"A\", \"to\": \"B\"}, \
+    {\"do\": \"switch\", \"core\": 1}, {\"do\": \"pass\", \"units\": 250}, \
+    {\"do\": \"isr_resume\", \"core\": 1, \"to\": \"B\"}, \
+    {\"do\": \"isr_resume\", \"core\": 1, \"to\": \"B\"}, \
+    {\"do\": \"suspend\", \"core\": 0, \"by\": \"A\", \"to\": \"A\"}, \
+    {\"do\": \"switch\", \"core\": 0}, \
+    {\"do\": \"resume\", \"core\": 1, \"by\": \"C\", \"to\": \"A\"}, \
+    {\"do\": \"switch\", \"core\": 1}]}";
+
 /// B is kept from both cores, in turn by higher tasks, a hold, preemption that is off, its mask and
 /// a switch that is to come; then A is, and C while one core alone is asked for it.
 pub const HINDERED: &str = "{\"format\": 1, \"cores\": 2, \"priorities\": 8, \"slicing\": false, \

@@ -1,6 +1,6 @@
 //! The text of a trace.
 
-use crate::samples::{FIRST_RUN, ONE_QUEUE, TWO_NOTES, session_in};
+use crate::samples::{FIRST_RUN, ONE_QUEUE, SUSPENDED, TWO_NOTES, session_in};
 use bench_types::Items;
 use run_views::{Interest, Places, trace};
 use smp_kernel::Meter;
@@ -96,6 +96,49 @@ step 5: finish core 1 by A
 place 6, tick 0; core 0 C; core 1 A
 ";
 
+const SUSPENSIONS: &str = "place 0, tick 0; core 0 A; core 1 B
+step 0: suspend core 0 by A to B
+  done: the step was made
+  core 1 asked set
+  B suspended
+place 1, tick 0; core 0 A; core 1 B, due by asked
+step 1: switch core 1
+  done: the step was made
+  core 1 current B to C
+  core 1 asked cleared
+place 2, tick 0; core 0 A; core 1 C
+step 2: pass units 250
+  done: the step was made
+place 3, tick 0; core 0 A; core 1 C
+step 3: isr_resume core 1 to B
+  isr true false: the task was suspended
+  B resumed
+place 4, tick 0; core 0 A; core 1 C
+step 4: isr_resume core 1 to B
+  isr false false: the task was not suspended
+place 5, tick 0; core 0 A; core 1 C
+step 5: suspend core 0 by A to A
+  done: the step was made
+  core 0 pend set
+  A suspended
+place 6, tick 0; core 0 A, due by pend; core 1 C
+step 6: switch core 0
+  done: the step was made
+  core 0 current A to B
+  core 0 pend cleared
+place 7, tick 0; core 0 B; core 1 C
+step 7: resume core 1 by C to A
+  done: the step was made
+  core 1 pend set
+  A resumed
+place 8, tick 0; core 0 B; core 1 C, due by pend
+step 8: switch core 1
+  done: the step was made
+  core 1 current C to A
+  core 1 pend cleared
+place 9, tick 0; core 0 B; core 1 A
+";
+
 #[test]
 fn a_whole_run(rt: HostRuntime) -> Result<(), Fail> {
     let text = trace_of(&rt, FIRST_RUN, 0, u32::MAX)?;
@@ -114,6 +157,13 @@ fn a_run_with_two_notifications(rt: HostRuntime) -> Result<(), Fail> {
 fn a_run_with_a_queue(rt: HostRuntime) -> Result<(), Fail> {
     let text = trace_of(&rt, ONE_QUEUE, 0, u32::MAX)?;
     expect_text(&rt, text.as_str(), QUEUED);
+    Ok(())
+}
+
+#[test]
+fn a_run_with_suspended_tasks(rt: HostRuntime) -> Result<(), Fail> {
+    let text = trace_of(&rt, SUSPENDED, 0, u32::MAX)?;
+    expect_text(&rt, text.as_str(), SUSPENSIONS);
     Ok(())
 }
 

@@ -80,10 +80,20 @@ fn push_settings(text: &mut String, look: &TaskLook) -> Result<(), AllocError> {
 }
 
 fn push_wait(text: &mut String, look: &TaskLook) -> Result<(), AllocError> {
-    text.push_str(if look.ready { " ready" } else { " blocked" })?;
+    text.push_str(wait_text(look))?;
     match look.left {
         Some(left) => write!(text, " left {left}"),
         None => Ok(()),
+    }
+}
+
+fn wait_text(look: &TaskLook) -> &'static str {
+    if look.ready {
+        " ready"
+    } else if look.suspended {
+        " suspended"
+    } else {
+        " blocked"
     }
 }
 

@@ -115,8 +115,10 @@ fn texts_that_are_no_words(rt: HostRuntime) -> Result<(), Fail> {
 }
 
 /// The words of `do` in format 3.
-const KINDS: &str =
-    "tick, switch, isr_notify, yield, delay, delay_until, priority_set, affinity_set, preempt_off, preempt_on, notify, notify_wait, notify_take, state_clear, value_clear, mutex_take, mutex_give, finish, hold_open, hold_close, queue_send, queue_receive, isr_send, isr_receive";
+const KINDS: &str = "tick, switch, isr_notify, yield, delay, delay_until, priority_set, \
+    affinity_set, preempt_off, preempt_on, notify, notify_wait, notify_take, state_clear, \
+    value_clear, mutex_take, mutex_give, finish, hold_open, hold_close, queue_send, queue_receive, \
+    isr_send, isr_receive, suspend, resume, isr_resume, pass";
 
 /// Words of `do` that are none, each nearest to one that format 3 alone has.
 const NO_KINDS: &[(&str, Printed)] = &[

@@ -120,6 +120,7 @@ fn check_header(rt: &impl Abort, alloc: Global, row: &HeaderRow) -> Result<(), F
         tick,
         mutexes,
         notes: 1,
+        units: 1,
     };
     let header = header_of(alloc, config, tasks)?;
     check_answer(rt, &header, header.check(), answer(fits));

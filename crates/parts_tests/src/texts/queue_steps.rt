@@ -73,7 +73,9 @@ fn check_written(rt: &impl Abort, alloc: Global, text: &str, written: &str) -> R
     Ok(())
 }
 
-fn check_line(rt: &impl Abort, alloc: Global, line: &str, step: Step) -> Result<(), Fail> {
+/// The line's first text is read as the step in a session of two queues, which is then written as
+/// its second.
+pub fn check_line(rt: &impl Abort, alloc: Global, line: &str, step: Step) -> Result<(), Fail> {
     let (given, written) = line.split_once(" | ").ok_or("a row has two parts")?;
     let text = with_two_queues(alloc, given)?;
     check_steps(rt, alloc, text.as_str(), &[step])?;
@@ -160,7 +162,7 @@ fn steps_that_are_refused(rt: HostRuntime) -> Result<(), Fail> {
 }
 
 /// In formats 1 and 2 the step is unknown.
-fn check_unknown(rt: &impl Abort, alloc: Global, step: &str) -> Result<(), Fail> {
+pub fn check_unknown(rt: &impl Abort, alloc: Global, step: &str) -> Result<(), Fail> {
     let first = with_steps(alloc, 0, step)?;
     check_session(rt, alloc, first.as_bytes(), Why::BadShape, "steps[0].do");
     let second = with_notes(alloc, 2, step)?;
@@ -242,7 +244,7 @@ fn check_scripts(rt: &impl Abort, rig: &RigScript) {
 }
 
 /// The document of a rig with this session, whose first core makes these actions.
-fn rig_of(alloc: Global, session: &str, actions: &str) -> Result<String, Fail> {
+pub fn rig_of(alloc: Global, session: &str, actions: &str) -> Result<String, Fail> {
     Ok(format!(in alloc; "{{\"session\":{session},\"limit\":5,\"scripts\":[[{actions}],[]]}}")?)
 }
 
@@ -257,7 +259,9 @@ fn actions_of_scripts(rt: HostRuntime) -> Result<(), Fail> {
     Ok(())
 }
 
-fn check_refused_rig(
+/// The rig with this session, whose first core makes these actions, is refused for this, at this
+/// path.
+pub fn check_refused_rig(
     rt: &impl Abort,
     alloc: Global,
     session: &str,

@@ -33,6 +33,19 @@ pub fn with_two_queues(alloc: Global, steps: &str) -> Result<String, AllocError>
     )
 }
 
+/// A session of this format, with these members beside those of format 1 and `notes`, and of these
+/// steps.
+pub fn with_further(
+    alloc: Global,
+    format: u32,
+    further: &str,
+    steps: &str,
+) -> Result<String, AllocError> {
+    format!(in alloc;
+        "{{\"format\":{format},\"cores\":2,\"priorities\":5,\"slicing\":false,\"tick\":0,\"mutexes\":0,\"notes\":1,{further},\"tasks\":[{{\"name\":\"A\",\"priority\":2,\"mask\":3}},{{\"name\":\"B\",\"priority\":1,\"mask\":3}}],\"steps\":[{steps}]}}"
+    )
+}
+
 /// The session that the text is.
 pub fn session_of(alloc: Global, text: &str) -> Result<(Header, Vec<Step>), Fail>
     ensures { IfOk result

@@ -39,6 +39,7 @@ const CONFIG: Config = Config {
     tick: 0,
     mutexes: 0,
     notes: 1,
+    units: 1,
 };
 
 // Each task's name, priority and mask.

@@ -20,6 +20,7 @@ PICTURES = {
     "shorter-timeout": ["--settle", "examples/settled/shorter-timeout.json"],
     "shorter-timeout-by-ticks": ["--settle", "--axis", "tick", "examples/settled/shorter-timeout.json"],
     "producer-and-consumer": ["--settle", "examples/settled/producer-and-consumer.json"],
+    "time-stamps-by-time": ["--settle", "--axis", "time", "examples/settled/time-stamps.json"],
 }
 # And of other examples that a browser is shown.
 EXAMPLES = {name: [f"examples/{name}.json"] for name in ("first-run", "periodic-task", "another-call", "two-notifications")}
@@ -331,7 +332,8 @@ def check_panel(what, elements, run):
     check_rows(what, elements)
     rules = [int(re.match(r"M(\d+) ", e.get("d"))[1]) for e in elements if e.get("class") == "g"]
     ticks = [begins[first] for first, _, _ in want[("tick",)]]
-    hold(f"{what}: rules", rules == (ticks if "--axis tick" in what else []), f"{rules} and not {ticks}")
+    ruled = "--axis tick" in what or "--axis time" in what
+    hold(f"{what}: rules", rules == (ticks if ruled else []), f"{rules} and not {ticks}")
     return ticks
 
 
@@ -555,5 +557,6 @@ def main():
 
 VIEWER = sys.argv[1]
 BROWSER = os.environ.get("BROWSER", "chromium")
-MODES = [[], ["--settle"], ["--axis", "tick"], ["--axis", "tick", "--settle"]]
+AXES = [[], ["--axis", "tick"], ["--axis", "time"]]
+MODES = [[*axis, *settled] for axis in AXES for settled in ([], ["--settle"])]
 main()

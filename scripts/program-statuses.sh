@@ -1046,14 +1046,15 @@ Arguments:
 
 Options:
       --settle        Shows settled runs: what a target makes of the calls, ticks and interrupts
-      --axis <AXIS>   What a column is of: place, also if left out, or tick
+      --axis <AXIS>   What a column is of: place, also if left out, tick or time
       --from <PLACE>  The first place that is shown, or 0 if left out
       --to <PLACE>    The last place that is shown, or the last of the run if left out
       --strict        Ends with status 1 where an edit or a step of the run is refused
   -h, --help          Print help
 
 A picture shows at most 4000 places. With --axis tick each tick is ruled, and has as many columns
-as the run with more places in it needs, so that two runs stand tick by tick.
+as the run with more places in it needs, so that two runs stand tick by tick. With --axis time a
+place is as wide as the time until the next one, and one column at least.
 
 Example: smp_view timeline examples/questions/shared-mutex.json
 '
@@ -1126,7 +1127,7 @@ Arguments:
 
 Options:
       --settle        Shows settled runs: what a target makes of the calls, ticks and interrupts
-      --axis <AXIS>   What a column is of: place, also if left out, or tick
+      --axis <AXIS>   What a column is of: place, also if left out, tick or time
       --from <PLACE>  The first place that is shown, or 0 if left out
       --to <PLACE>    The last place that is shown, or the last of the run if left out
       --strict        Ends with status 1 where an edit or a step of the run is refused
@@ -1201,7 +1202,7 @@ bad_line 'a settled run that is settled' "unexpected argument '--settle' found" 
 bad_line 'a session of two files' "unexpected argument '$first' found" session "$first" "$first"
 bad_line 'a comparison of a task' "unexpected argument '--task' found" compare --task A
 bad_line 'a comparison with an unknown option' "unexpected argument '-x' found" compare -x
-no_axis="error: --axis takes place or tick
+no_axis="error: --axis takes place, tick or time
 
 For more information, try '--help'.
 "

@@ -16,7 +16,7 @@ use Rattle.run_views.specs.Looks.{look_of}
 use Rattle.run_pictures.specs.declared.signs.Sign.{Sign}
 use Rattle.run_pictures.specs.declared.signs.Sign.TheVariants.{Running, Idle, Ready, Blocked, Suspended, Due, Held, Inherited, PreemptionOff, Taken, Messages, Interrupt, Refused}
 use Rattle.run_pictures.specs.LegendLaws.{LegendIsOfRun, LegendIsOfRuns}
-use Rattle.run_pictures.specs.Picture.{shown_at, shown_of}
+use Rattle.run_pictures.specs.Picture.{shown_alone, shown_at}
 use Rattle.run_pictures.specs.RunLooks.{looks_of, run_looks, shown_places}
 use Rattle.run_pictures.specs.Signs.{all_signs, is_used}
 use Rattle.run_pictures.proofs.Legends.{drawn_used, used_drawn}
@@ -61,12 +61,12 @@ module _ (places : Places) (header : Header) (steps : List Step) (is : IsChecked
 
 pub legend_of_run : LegendIsOfRun
 unfolding run_looks
-legend_of_run places axis header steps top sign is checked =
-    let shown = shown_of places axis header steps in (
-      λ has. used_drawn shown top (wide places header steps is checked) (held places header steps is checked) sign
-          (filter_from (is_used shown) all_signs sign has).1,
-      λ drawn. filter_to (is_used shown) all_signs sign (all_has sign)
-          (drawn_used shown top (wide places header steps is checked) (held places header steps is checked) sign drawn),
+legend_of_run places axis run top sign drawable =
+    let shown = shown_alone places axis run in
+    let wide_run = wide places run.header run.steps drawable.header drawable.steps in
+    let held_run = held places run.header run.steps drawable.header drawable.steps in (
+      λ has. used_drawn shown top wide_run held_run sign (filter_from (is_used shown) all_signs sign has).1,
+      λ drawn. filter_to (is_used shown) all_signs sign (all_has sign) (drawn_used shown top wide_run held_run sign drawn),
     )
 
 one_true : (a b : Bool) → (a || b) ≡ true → (a ≡ true) ⊎ (b ≡ true)

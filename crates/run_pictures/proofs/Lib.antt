@@ -7,7 +7,6 @@ pub mod Hindering
 pub mod LaidOut
 pub mod Legends
 pub mod LegendsOf
-pub mod LinedUp
 pub mod Members
 pub mod Numbered
 pub mod Opened

@@ -25,7 +25,7 @@ use Rattle.run_pictures.specs.Bars.{queue_top, task_top, tick_shape}
 use Rattle.run_pictures.specs.Drawn.{Drawn}
 use Rattle.run_pictures.specs.Frame.{column_of, pixels, scale_for, x_of}
 use Rattle.run_pictures.specs.MutexLines.{taken_mutexes}
-use Rattle.run_pictures.specs.Picture.{count_of_both, end_of, left_of, shown_at, shown_count, shown_of}
+use Rattle.run_pictures.specs.Picture.{count_of, count_of_both, end_of, left_of, shown_at}
 use Rattle.run_pictures.specs.Poses.{detail_for, detailed_stretches, opening, pose_in, pose_stretches}
 use Rattle.run_pictures.specs.Preemption.{preempt_in, preempt_stretches}
 use Rattle.run_pictures.specs.QueueLines.{changed_queues}
@@ -169,17 +169,7 @@ module _ (shown : Shown) (top right : ℕ)
     changed = λ k few. changed_fill (queue_top shown top k) (slice_index_or (changed_queues shown.header looks) k 0);
   }
 
-pub run_laid_out : RunIsLaidOut
-unfolding x_of run_looks
-run_laid_out places axis header steps top =
-    let shown = shown_of places axis header steps in
-    let count = shown_count places (length steps) in
-    let many = many_shown places header steps in
-    let all : places.from + length (looks_of places header steps) - places.from ≡ count = omega (arith, many) in
-    laid_out shown top (columns_end shown count) (λ p q from order within. order) (omega arith)
-    (λ some. omega (arith, ap (pixels shown.frame.scale) all)) (omega arith)
-
-module _ (places : Places) (axis : Axis) (run other : Drawn) (climb : Climb run) (count left top : ℕ)
+module _ (places : Places) (axis : Axis) (run : Drawn) (climb : Climb run) (count left top : ℕ)
     (leftmost : left ≤ column_of run.columns places.from) (rightmost : end_of places run - left ≤ count) where
   climb_at : (n : ℕ) → n ≡ suc (min places.to (length run.steps)) - places.from → (p q : ℕ) → places.from ≤ p → p ≤ q → q ≤ places.from + n
       → column_of run.columns p ≤ column_of run.columns q
@@ -201,10 +191,14 @@ module _ (places : Places) (axis : Axis) (run other : Drawn) (climb : Climb run)
             (omega (arith, rightmost, ap (column_of run.columns) last)),
       )) (omega arith)
 
+pub run_laid_out : RunIsLaidOut
+run_laid_out places axis run top climbs = one_laid_out places axis run climbs (count_of places run) (column_of run.columns places.from) top (omega arith)
+    (omega arith)
+
 pub runs_laid_out : RunsAreLaidOut
 runs_laid_out places axis before after top below climbs climbed =
     let count = count_of_both places before after in
     let left = left_of places before after in (
-      one_laid_out places axis before after climbs count left top (omega arith) (omega arith),
-      one_laid_out places axis after before climbed count left below (omega arith) (omega arith),
+      one_laid_out places axis before climbs count left top (omega arith) (omega arith),
+      one_laid_out places axis after climbed count left below (omega arith) (omega arith),
     )

@@ -21,8 +21,8 @@ use Rattle.run_pictures.specs.declared.bar.Bar.{Bar}
 use Rattle.run_pictures.specs.declared.ink.Ink.TheVariants as ink
 use Rattle.run_pictures.specs.declared.stretch.Stretch.{Stretch}
 use Rattle.run_pictures.specs.Bars.{bar_over, messages_shape, queue_top}
-use Rattle.run_pictures.specs.Picture.{shown_at, shown_of}
-use Rattle.run_pictures.specs.QueueLaws.{messages_at, QueueRowsAreSo, QueueRowsOfRunsAreSo, TellMessages}
+use Rattle.run_pictures.specs.Picture.{shown_at}
+use Rattle.run_pictures.specs.QueueLaws.{messages_at, QueueRowsAreSo, TellMessages}
 use Rattle.run_pictures.specs.QueueLines.{changed_queues, is_changed, queues_of}
 use Rattle.run_pictures.specs.RunLooks.{looks_of, run_looks, shown_places}
 use Rattle.run_pictures.specs.StretchesOf.{extended, stretches_of, Follow}
@@ -204,10 +204,5 @@ module _ (places : Places) (header : Header) (steps : List Step) (is : IsChecked
 
 pub queue_rows_so : QueueRowsAreSo
 unfolding run_looks
-queue_rows_so places axis header steps top is checked k within =
-    rows_so places header steps is checked (queue_top (shown_of places axis header steps) top k) k within
-
-pub queue_rows_of_runs_so : QueueRowsOfRunsAreSo
-unfolding run_looks
-queue_rows_of_runs_so places axis scale left run top drawable k within =
+queue_rows_so places axis scale left run top drawable k within =
     rows_so places run.header run.steps drawable.header drawable.steps (queue_top (shown_at places axis scale left run) top k) k within

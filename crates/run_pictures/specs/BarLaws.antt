@@ -1,7 +1,5 @@
 -- No bar stands outside its row or beside the columns, and none over another of its kind in a row.
 use Rattle.std.specs.Prelude.{◌<◌, ◌≤◌, ℕ, suc, ◌+◌, List, [], ◌∷◌, length, All}
-use Rattle.bench_types.specs.declared.header.Header.{Header}
-use Rattle.bench_types.specs.declared.step.Step.{Step}
 use Rattle.run_views.specs.declared.places.Places.{Places}
 use Rattle.run_pictures.specs.declared.bar.Bar.{Bar}
 use Rattle.run_pictures.specs.declared.frame.Axis.{Axis}
@@ -11,7 +9,7 @@ use Rattle.run_pictures.specs.Bars.{changed_bars, core_top, current_bars, due_ba
 use Rattle.run_pictures.specs.Drawn.{Drawn}
 use Rattle.run_pictures.specs.Frame.{column_of, pixels, scale_for, width_between, x_of}
 use Rattle.run_pictures.specs.MutexLines.{taken_mutexes}
-use Rattle.run_pictures.specs.Picture.{count_of_both, left_of, shown_at, shown_count, shown_of}
+use Rattle.run_pictures.specs.Picture.{count_of, count_of_both, left_of, shown_alone, shown_at}
 use Rattle.run_pictures.specs.QueueLines.{changed_queues}
 use Rattle.run_pictures.specs.Shown.{Shown}
 
@@ -70,9 +68,9 @@ columns_end shown count = columns_begin + pixels shown.frame.scale count
 
 abbrev pub RunIsLaidOut : Type 0
 RunIsLaidOut =
-    (places : Places) (axis : Axis) (header : Header) (steps : List Step) (top : ℕ)
-    → let shown = shown_of places axis header steps in
-    AreLaidOut shown top (columns_end shown (shown_count places (length steps)))
+    (places : Places) (axis : Axis) (run : Drawn) (top : ℕ) → Climb run
+    → let shown = shown_alone places axis run in
+    AreLaidOut shown top (columns_end shown (count_of places run))
 
 abbrev pub RunsAreLaidOut : Type 0
 RunsAreLaidOut =

@@ -1,9 +1,5 @@
 -- A sign stands in the legend just where a bar of such an ink, or such a mark, is drawn.
-use Rattle.std.specs.Prelude.{◌≡◌, ◌<◌, ℕ, ◌⊎◌, ◌↔◌, List, All, Contains, length, Option, Some, None}
-use Rattle.bench_types.specs.declared.header.Header.{Header}
-use Rattle.bench_types.specs.declared.step.Step.{Step}
-use Rattle.bench_types.specs.Header.{IsCheckedHeader}
-use Rattle.bench_types.specs.Step.{settings_of, IsCheckedStep}
+use Rattle.std.specs.Prelude.{◌≡◌, ◌<◌, ℕ, ◌⊎◌, ◌↔◌, Contains, length, Option, Some, None}
 use Rattle.run_views.specs.declared.places.Places.{Places}
 use Rattle.run_pictures.specs.declared.bar.Bar.{Bar}
 use Rattle.run_pictures.specs.declared.frame.Axis.{Axis}
@@ -17,7 +13,7 @@ use Rattle.run_pictures.specs.declared.signs.Sign.TheVariants.{Running, Idle, Re
 use Rattle.run_pictures.specs.Bars.{all_bars}
 use Rattle.run_pictures.specs.Drawn.{Drawn, IsDrawable}
 use Rattle.run_pictures.specs.Marks.{mark_at}
-use Rattle.run_pictures.specs.Picture.{shown_at, shown_of}
+use Rattle.run_pictures.specs.Picture.{shown_alone, shown_at}
 use Rattle.run_pictures.specs.Shown.{Shown}
 use Rattle.run_pictures.specs.Signs.{signs_of, signs_of_both}
 
@@ -62,9 +58,8 @@ IsDrawn shown top sign = HasBar shown top sign ⊎ HasMark shown sign
 -- wherever the run begins from top to bottom
 abbrev pub LegendIsOfRun : Type 0
 LegendIsOfRun =
-    (places : Places) (axis : Axis) (header : Header) (steps : List Step) (top : ℕ) (sign : Sign)
-    → IsCheckedHeader header → All (IsCheckedStep (settings_of header)) steps
-    → let shown = shown_of places axis header steps in
+    (places : Places) (axis : Axis) (run : Drawn) (top : ℕ) (sign : Sign) → IsDrawable run
+    → let shown = shown_alone places axis run in
     Contains (signs_of shown) sign ↔ IsDrawn shown top sign
 
 -- and of two runs on one axis

@@ -7,7 +7,6 @@ pub mod ColumnLaws
 pub mod CoreBands
 pub mod Drawn
 pub mod Escape
-pub mod RunLooks
 pub mod Frame
 pub mod HindranceLaws
 pub mod HindranceWords
@@ -23,15 +22,16 @@ pub mod Preemption
 pub mod QueueLaws
 pub mod QueueLines
 pub mod RowStretches
+pub mod RunLooks
 pub mod Same
-pub mod StretchValues
 pub mod Shown
 pub mod Signs
-pub mod TaskStretches
 pub mod Stances
+pub mod StretchValues
 pub mod StretchesOf
 pub mod TaskBands
 pub mod TaskNames
+pub mod TaskStretches
 pub mod Theorem
-pub mod TickColumns
+pub mod TimeRow
 pub mod WaitLaws

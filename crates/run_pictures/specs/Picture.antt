@@ -1,9 +1,8 @@
 -- The picture of a run, or of two runs one above the other.
-use Rattle.std.specs.Prelude.{◌≡◌, ◌<◌, ◌≤◌, ℕ, suc, ◌+◌, ◌-◌, ◌*◌, ◌/◌, List, [], ◌++◌, flat_map, length, min, max, codes, decimal, MatchResult, Result}
+use Rattle.std.specs.Prelude.{◌≡◌, ◌<◌, ◌≤◌, ℕ, suc, ◌+◌, ◌-◌, ◌*◌, ◌/◌, List, ◌++◌, flat_map, length, min, max, codes, decimal, MatchResult, Result}
 use Rattle.std.specs.Prelude.{String, string_bytes}
 use Rattle.std.specs.declared.alloc.Global.{Global}
 use Rattle.bench_types.specs.declared.header.Header.{Header}
-use Rattle.bench_types.specs.declared.step.Step.{Step}
 use Rattle.list_orders.specs.Search.{numbers}
 use Rattle.run_views.specs.declared.look.Look.{Look}
 use Rattle.run_views.specs.declared.places.Places.{Places}
@@ -27,20 +26,8 @@ use Rattle.run_pictures.specs.QueueLines.{changed_queues, changed_rows}
 use Rattle.run_pictures.specs.Shown.{Shown}
 use Rattle.run_pictures.specs.Signs.{entries_text, legend_height, signs_of, signs_of_both}
 use Rattle.run_pictures.specs.TaskBands.{task_row}
-
--- how many places are shown of a session of so many steps
-abbrev pub shown_count : Places → ℕ → ℕ
-shown_count places steps = suc (min places.to steps) - places.from
-
--- of a run whose places stand at their numbers
-abbrev pub frame_for : Places → Axis → ℕ → Frame
-frame_for places axis count = record {
-  first = places.from;
-  scale = scale_for count;
-  left = places.from;
-  columns = [];
-  axis = axis;
-}
+use Rattle.run_pictures.specs.TimeRow.{time_height, time_row}
+use Rattle.run_columns.specs.TimeSlots.{times_of}
 
 -- as wide as so many columns, between the names and the last label
 abbrev pub width_of : Scale → ℕ → ℕ
@@ -89,10 +76,14 @@ abbrev pub queues_down : Header → List Look → ℕ
 queues_down header looks =
     mutexes_down header + MUTEX_ROW * length (taken_mutexes header looks)
 
--- a run takes so many pixels from top to bottom
+-- the rows of a run but that of time take so many pixels from top to bottom
 abbrev pub panel_height : Header → List Look → ℕ
 panel_height header looks =
     queues_down header looks + QUEUE_ROW * length (changed_queues header looks)
+
+-- and with that row
+abbrev pub run_height : Header → List Look → ℕ
+run_height header looks = time_height header + panel_height header looks
 
 abbrev pub core_rows : Header → Frame → ℕ → List Look → List ℕ
 core_rows header frame y looks =
@@ -107,7 +98,7 @@ task_rows header frame y looks =
     (header.config.cores + user))
     (numbers (length header.tasks))
 
--- the rows of a run, from the top on
+-- the rows of a run but that of time, from the top on
 unfoldable pub bands_text : Shown → ℕ → List ℕ
 bands_text shown top =
     let header = shown.header in
@@ -127,30 +118,24 @@ marks_text shown top =
     flat_map (step_at header frame top shown.run_looks.made) (numbers (length looks))
     ++ tick_rules frame top (top + panel_height header looks) looks
 
+-- the row of time, from the top on
+unfoldable pub time_text : Shown → ℕ → List ℕ
+time_text shown top =
+    time_row shown.header shown.frame top shown.times (length shown.run_looks.looks)
+
 -- a run, from the top on
 unfoldable pub panel_text : Shown → ℕ → List ℕ
-panel_text shown top = bands_text shown top ++ marks_text shown top
-
--- a run whose places stand at their numbers
-abbrev pub shown_of : Places → Axis → Header → List Step → Shown
-shown_of places axis header steps = record {
-  header = header;
-  frame = frame_for places axis (shown_count places (length steps));
-  run_looks = run_looks places header steps;
-}
+panel_text shown top =
+    let below = top + time_height shown.header in
+    time_text shown top ++ bands_text shown below ++ marks_text shown below
 
 -- the picture of a run that is so many columns wide
 unfoldable pub drawn_run : ℕ → Shown → List ℕ
 drawn_run count shown =
-    let height = panel_height shown.header shown.run_looks.looks in
+    let height = run_height shown.header shown.run_looks.looks in
     let signs = signs_of shown in
     opening_text (width_of shown.frame.scale count) (height + legend_height (length signs) + 20)
     ++ panel_text shown 4 ++ legend_text (height + 16) signs
-
--- the picture of one run
-unfoldable pub picture_text : Places → Axis → Header → List Step → List ℕ
-picture_text places axis header steps =
-    drawn_run (shown_count places (length steps)) (shown_of places axis header steps)
 
 -- the first column that is shown of two runs on one axis
 abbrev pub left_of : Places → Drawn → Drawn → ℕ
@@ -161,12 +146,16 @@ left_of places before after =
 abbrev pub end_of : Places → Drawn → ℕ
 end_of places run = column_of run.columns (suc (min places.to (length run.steps)))
 
+-- how many columns are shown of one run
+abbrev pub count_of : Places → Drawn → ℕ
+count_of places run = end_of places run - column_of run.columns places.from
+
 -- how many columns are shown of two runs on one axis
 abbrev pub count_of_both : Places → Drawn → Drawn → ℕ
 count_of_both places before after =
     max (end_of places before) (end_of places after) - left_of places before after
 
--- a run whose first column is the one of both
+-- of a run that is shown from this column on
 abbrev pub frame_of : Places → Axis → Scale → ℕ → Drawn → Frame
 frame_of places axis scale left run = record {
   first = places.from;
@@ -181,7 +170,17 @@ shown_at places axis scale left run = record {
   header = run.header;
   frame = frame_of places axis scale left run;
   run_looks = run_looks places run.header run.steps;
+  times = times_of run.header.config.units run.steps;
 }
+
+-- a run alone
+abbrev pub shown_alone : Places → Axis → Drawn → Shown
+shown_alone places axis run =
+    shown_at places axis (scale_for (count_of places run)) (column_of run.columns places.from) run
+
+-- the picture of one run
+unfoldable pub picture_text : Places → Axis → Drawn → List ℕ
+picture_text places axis run = drawn_run (count_of places run) (shown_alone places axis run)
 
 -- a run below its heading
 unfoldable pub headed_text : ℕ → List ℕ → Shown → List ℕ
@@ -196,8 +195,8 @@ both_text before after height =
 -- the picture of two runs that are so many columns wide
 unfoldable pub drawn_runs : ℕ → Shown → Shown → List ℕ
 drawn_runs count before after =
-    let height = panel_height before.header before.run_looks.looks in
-    let whole = height + panel_height after.header after.run_looks.looks in
+    let height = run_height before.header before.run_looks.looks in
+    let whole = height + run_height after.header after.run_looks.looks in
     let signs = signs_of_both before after in
     opening_text (width_of before.frame.scale count) (whole + legend_height (length signs) + 66)
     ++ both_text before after height ++ legend_text (whole + 62) signs

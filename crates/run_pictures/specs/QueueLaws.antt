@@ -1,9 +1,7 @@
 -- What the rows of queues tell is so, and tells all.
-use Rattle.std.specs.Prelude.{◌≡◌, ◌<◌, ◌≤◌, ℕ, List, All, Contains, length, slice_index_or}
+use Rattle.std.specs.Prelude.{◌≡◌, ◌<◌, ◌≤◌, ℕ, List, Contains, length, slice_index_or}
 use Rattle.bench_types.specs.declared.header.Header.{Header}
 use Rattle.bench_types.specs.declared.step.Step.{Step}
-use Rattle.bench_types.specs.Header.{IsCheckedHeader}
-use Rattle.bench_types.specs.Step.{settings_of, IsCheckedStep}
 use Rattle.bench_model.specs.Queues.{queue_at}
 use Rattle.bench_model.specs.Session.{state_at}
 use Rattle.run_views.specs.declared.places.Places.{Places}
@@ -13,7 +11,7 @@ use Rattle.run_pictures.specs.declared.frame.Scale.{Scale}
 use Rattle.run_pictures.specs.declared.ink.Ink.TheVariants as ink
 use Rattle.run_pictures.specs.Bars.{changed_bars}
 use Rattle.run_pictures.specs.Drawn.{Drawn, IsDrawable}
-use Rattle.run_pictures.specs.Picture.{shown_at, shown_of}
+use Rattle.run_pictures.specs.Picture.{shown_at}
 use Rattle.run_pictures.specs.QueueLines.{changed_queues}
 use Rattle.run_pictures.specs.RunLooks.{shown_places}
 use Rattle.run_pictures.specs.Shown.{Shown}
@@ -50,16 +48,9 @@ RowsAreSo places header steps shown top =
     (slice_index_or (changed_queues header shown.run_looks.looks) k 0)
     (changed_bars shown top k)
 
--- wherever the run begins from top to bottom
+-- wherever the run begins from top to bottom, alone or as one of two
 abbrev pub QueueRowsAreSo : Type 0
 QueueRowsAreSo =
-    (places : Places) (axis : Axis) (header : Header) (steps : List Step) (top : ℕ)
-    → IsCheckedHeader header → All (IsCheckedStep (settings_of header)) steps
-    → RowsAreSo places header steps (shown_of places axis header steps) top
-
--- and of each of two runs on one axis
-abbrev pub QueueRowsOfRunsAreSo : Type 0
-QueueRowsOfRunsAreSo =
     (places : Places) (axis : Axis) (scale : Scale) (left : ℕ) (run : Drawn) (top : ℕ)
     → IsDrawable run
     → RowsAreSo places run.header run.steps (shown_at places axis scale left run) top

@@ -1,5 +1,5 @@
 -- A run as it is drawn.
-use Rattle.std.specs.Prelude.{◌+◌, ◌<◌, ◌≤◌, ◌^◌, length}
+use Rattle.std.specs.Prelude.{ℕ, ◌+◌, ◌<◌, ◌≤◌, ◌^◌, List, length}
 use Rattle.bench_types.specs.declared.header.Header.{Header}
 use Rattle.bench_types.specs.Limits.{max_cores, max_queues, max_tasks}
 use Rattle.run_pictures.specs.declared.run_looks.RunLooks.{RunLooks}
@@ -13,12 +13,15 @@ pub record Shown : Type 0 where
   pub frame : Frame
   -- what is seen at them
   pub run_looks : RunLooks
+  -- the time before each place of the run
+  pub times : List ℕ
 
 abbrev pub shown : Panel → Shown
 shown panel = record {
   header = panel.header.now;
   frame = panel.frame;
   run_looks = panel.run_looks;
+  times = panel.times;
 }
 
 -- its places have numbers of 32 bits, and it has no more cores, tasks and queues than a session may

@@ -1,10 +1,10 @@
 //! The axis: the places by their numbers, and the tick count at each.
 ghost use Rattle.std.specs.Prelude.{◌≡◌, ◌++◌, ◌+◌, ◌<◌, ◌≤◌, ◌^◌, IfOk, OnOk, flat_map, length, map, string_bytes};
 ghost use Rattle.list_orders.specs.Search.{numbers};
-ghost use Rattle.run_pictures.specs.Axis.{axis_row, place_label, tick_bar, tick_rule, tick_rules};
+ghost use Rattle.run_pictures.specs.Axis.{axis_row, is_numbered, place_label, tick_bar, tick_rule, tick_rules};
 ghost use Rattle.run_pictures.specs.TaskStretches.{tick_in, tick_stretches};
 
-use crate::bar::{Bar, Letters, push_bar, push_label, push_name, push_over};
+use crate::bar::{Bar, Letters, fits, push_bar, push_label, push_name, push_over};
 use crate::frame::{Axis, Frame};
 use crate::ink::tick_ink;
 use crate::stretch::{Stretch, stretches_of};
@@ -40,28 +40,59 @@ fn tick_stretches(
     stretches_of(alloc, first, values)
 }
 
-// The number of a place, where it is one of those that are numbered.
-#[tactic(auto, unfolding(crate::specs::Axis::place_label))]
-fn push_place(text: &mut String, frame: &Frame, y: u64, place: u32) -> Result<(), AllocError>
-    ensures { OnOk result
-        (string_bytes text.new ≡ string_bytes text.old ++ place_label frame.now y place) }
+// Whether a number of the place is written: by time, where it fits into the columns of the place;
+// else, where the place is one of so many.
+fn is_numbered(frame: &Frame, place: u32, words: &str) -> bool
+    ensures { result ≡ is_numbered frame.now.axis frame.now place words.now }
 {
-    if place % frame.scale.every() == 0 {
+    match frame.axis {
+        Axis::Places | Axis::Ticks => place % frame.scale.every() == 0,
+        Axis::Time => {
+            let width = frame.width_between(place, place);
+            fits(Letters::Small, width, words.len())
+        }
+    }
+}
+
+/// A number of a place, where that is one of those that are numbered.
+#[tactic(auto, unfolding(crate::specs::Axis::place_label))]
+pub(crate) fn push_number(
+    alloc: Global,
+    text: &mut String,
+    frame: &Frame,
+    y: u64,
+    place: u32,
+    number: u64,
+) -> Result<(), AllocError>
+    ensures { OnOk result
+        (string_bytes text.new ≡ string_bytes text.old ++ place_label frame.now y place number) }
+{
+    let mut words = String::new(alloc);
+    write!(words, "{number}")?;
+    if is_numbered(frame, place, words.as_str()) {
         let x = frame.x_of(place) + 2;
-        write!(text, "<text class='s' x='{x}' y='{y}'>{place}</text>\n")?;
+        write!(text, "<text class='s' x='{x}' y='{y}'>{number}</text>\n")?;
     }
     Ok(())
 }
 
-fn push_places(text: &mut String, frame: &Frame, y: u64, count: u32) -> Result<(), AllocError>
+fn push_places(
+    alloc: Global,
+    text: &mut String,
+    frame: &Frame,
+    y: u64,
+    count: u32,
+) -> Result<(), AllocError>
     requires { frame.now.first + count ≤ 2 ^ 32 }
     ensures { OnOk result
         (string_bytes text.new
         ≡ string_bytes text.old
-        ++ flat_map (λ k. place_label frame.now y (frame.now.first + k)) (numbers count)) }
+        ++ flat_map (λ k. place_label frame.now y (frame.now.first + k) (frame.now.first + k))
+        (numbers count)) }
 {
     for k in 0..count {
-        push_place(text, frame, y, frame.first + k)?;
+        let place = frame.first + k;
+        push_number(alloc, text, frame, y, place, u64::from(place))?;
     }
     Ok(())
 }
@@ -154,7 +185,7 @@ fn push_rules_of(
     Ok(())
 }
 
-/// Rules each tick, where the columns stand for ticks.
+/// Rules each tick, where the columns stand for ticks or for time.
 #[tactic(auto, unfolding(crate::specs::Axis::tick_rules))]
 pub(crate) fn push_rules(
     alloc: Global,
@@ -171,7 +202,7 @@ pub(crate) fn push_rules(
 {
     match frame.axis {
         Axis::Places => Ok(()),
-        Axis::Ticks => {
+        Axis::Ticks | Axis::Time => {
             let stretches = tick_stretches(alloc, frame.first, looks)?;
             push_rules_of(text, frame, top, bottom, stretches.as_slice())
         }
@@ -194,7 +225,7 @@ pub(crate) fn push_axis(
         (string_bytes text.new ≡ string_bytes text.old ++ axis_row frame.now y looks.now) }
 {
     push_name(text, y + 11, "place")?;
-    push_places(text, frame, y + 11, looks.len() as u32)?;
+    push_places(alloc, text, frame, y + 11, looks.len() as u32)?;
     push_name(text, y + 27, "tick")?;
     let stretches = tick_stretches(alloc, frame.first, looks)?;
     push_ticks(alloc, text, frame, y + 16, stretches.as_slice())

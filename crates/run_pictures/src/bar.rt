@@ -67,8 +67,8 @@ pub(crate) fn push_bar(
     text.push_str("</title></rect>\n")
 }
 
-// Whether words of so many bytes fit into so many pixels.
-fn fits(letters: Letters, width: u64, bytes: usize) -> bool
+/// Whether words of so many bytes fit into so many pixels.
+pub(crate) fn fits(letters: Letters, width: u64, bytes: usize) -> bool
     ensures { result ≡ fits letters width bytes }
 {
     let room = width.saturating_sub(4);

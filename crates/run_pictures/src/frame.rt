@@ -23,6 +23,8 @@ pub enum Axis {
     Places,
     /// Ticks, each with as many columns as it needs, and ruled.
     Ticks,
+    /// Time, in columns of equal time, wider where more places stand in it; ticks are ruled.
+    Time,
 }
 
 /// How wide a column is drawn.

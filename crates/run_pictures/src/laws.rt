@@ -4,7 +4,7 @@ ghost use Rattle.run_pictures.specs.BarTexts.{BarsAreDrawn};
 ghost use Rattle.run_pictures.specs.ColumnLaws.{PicturesBeginAtLesser};
 ghost use Rattle.run_pictures.specs.HindranceLaws.{HindrancesAreSo};
 ghost use Rattle.run_pictures.specs.LegendLaws.{LegendIsOfRun, LegendIsOfRuns};
-ghost use Rattle.run_pictures.specs.QueueLaws.{QueueRowsAreSo, QueueRowsOfRunsAreSo};
+ghost use Rattle.run_pictures.specs.QueueLaws.{QueueRowsAreSo};
 ghost use Rattle.run_pictures.specs.WaitLaws.{BlockedCallsStay, WaitsAreUnfinished};
 
 /// A ready task that is on no core is hindered by something at each core, and is told what: it is
@@ -19,7 +19,7 @@ pub fn law_of_first_columns()
     ensures { PicturesBeginAtLesser }
 {}
 
-/// The bars that are told of are those that are drawn. In the picture of a run, and of two runs
+/// The bars that are told of are those that are drawn. In the picture of a run, and of two runs,
 /// whose columns climb, each stands in its row and between the first column and the end of the
 /// last, and no two of one kind in a row stand over one another.
 pub fn law_of_bars()
@@ -38,8 +38,7 @@ pub fn law_of_legends()
 /// stands for, and at each place that is shown at which it has some, one of these bars covers the
 /// place.
 pub fn law_of_queues()
-    ensures one { QueueRowsAreSo }
-    ensures both { QueueRowsOfRunsAreSo }
+    ensures { QueueRowsAreSo }
 {}
 
 /// At each place of a checked session a blocked task has an unfinished call, and is told to wait

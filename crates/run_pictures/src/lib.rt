@@ -3,7 +3,6 @@
 
 mod axis;
 mod bar;
-mod by_ticks;
 mod core_bands;
 mod escape;
 mod frame;
@@ -28,8 +27,8 @@ mod style;
 mod task_bands;
 mod task_names;
 mod task_stretches;
+mod time_row;
 
-pub use by_ticks::{TickColumns, tick_columns};
 pub use escape::{law_of_escapes, push_escaped, push_escaped_bytes};
 pub use frame::Axis;
 pub use hindrance::{Hindrance, Obstacle};

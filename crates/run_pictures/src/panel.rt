@@ -2,7 +2,7 @@
 
 use crate::frame::Frame;
 use crate::run_looks::RunLooks;
-use bench_types::Header;
+use bench_types::{Header, Items};
 
 /// A run as it is drawn.
 #[derive(Drop)]
@@ -12,4 +12,6 @@ pub(crate) struct Panel<'a> {
     pub(crate) frame: Frame,
     /// What is seen at them.
     pub(crate) run_looks: RunLooks,
+    /// The time before each place of the run.
+    pub(crate) times: Items<u64>,
 }

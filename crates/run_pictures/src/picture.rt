@@ -4,9 +4,10 @@ ghost use Rattle.list_orders.specs.Search.{numbers};
 ghost use Rattle.bench_types.specs.Limits.{max_cores, max_queues, max_tasks};
 ghost use Rattle.bench_types.specs.Session.{IsCheckedSession};
 ghost use Rattle.run_pictures.specs.CoreBands.{core_row};
+ghost use Rattle.run_pictures.specs.Frame.{column_of};
 ghost use Rattle.run_pictures.specs.Limits.{max_places};
 ghost use Rattle.run_pictures.specs.Drawn.{drawn};
-ghost use Rattle.run_pictures.specs.Picture.{bands_text, both_text, core_rows, count_of_both, drawn_run, drawn_runs, end_of, frame_for, frame_of, headed_text, heading_text, height_text, least_width, least_text, left_of, legend_text, marks_text, mutexes_down, opening_text, panel_height, panel_text, picture_text, pictures_text, queues_down, shown_at, shown_count, shown_of, size_text, task_rows, tasks_down, width_of, width_text, Answers};
+ghost use Rattle.run_pictures.specs.Picture.{bands_text, both_text, core_rows, count_of, count_of_both, drawn_run, drawn_runs, end_of, frame_of, headed_text, heading_text, height_text, least_width, least_text, left_of, legend_text, marks_text, mutexes_down, opening_text, panel_height, panel_text, picture_text, pictures_text, queues_down, run_height, shown_at, size_text, task_rows, tasks_down, time_text, width_of, width_text, Answers};
 ghost use Rattle.run_pictures.specs.QueueLines.{queues_of};
 ghost use Rattle.run_pictures.specs.Shown.{shown, IsNumbered};
 ghost use Rattle.run_pictures.specs.Theorem.{IsTiled};
@@ -26,7 +27,9 @@ use crate::run_looks::RunLooks;
 use crate::signs::{Sign, legend_height, push_entries, signs_of, signs_of_both};
 use crate::style::{OPENING, STYLE};
 use crate::task_bands::push_task_row;
+use crate::time_row::{push_time_row, time_height};
 use bench_types::{CheckedSession, Header, Items};
+use run_columns::times_of;
 use run_views::{Look, Places};
 use smp_kernel::Meter;
 use std::alloc::{AllocError, Global};
@@ -50,28 +53,6 @@ pub struct Extent {
 #[derive(Clone, Copy, Debug, PartialEq, Eq)]
 pub struct TooLong {
     pub places: u64,
-}
-
-// How many places are shown of a session of so many steps.
-fn shown_count(places: Places, steps: usize) -> u64
-    requires { steps + 1 < 2 ^ 32 }
-    ensures { result ≡ shown_count places steps }
-{
-    let last = u64::from(places.to).min(steps as u64);
-    (last + 1).saturating_sub(u64::from(places.from))
-}
-
-// The frame of a run whose places stand at their numbers.
-fn frame_for(alloc: Global, places: Places, axis: Axis, count: u64) -> Frame
-    ensures { result ≡ frame_for places axis count }
-{
-    Frame {
-        first: places.from,
-        scale: scale_for(count),
-        left: u64::from(places.from),
-        columns: Items::new(Vec::new(alloc)),
-        axis,
-    }
 }
 
 // How far below the top of a run the rows of its tasks begin.
@@ -107,10 +88,20 @@ fn panel_height(alloc: Global, header: &Header, looks: &[Look]) -> Result<u64, A
     requires tasks { length header.now.tasks ≤ max_tasks }
     requires queues { queues_of header.now ≤ max_queues }
     ensures value { IfOk result (λ height. height ≡ panel_height header.now looks.now) }
-    ensures few { IfOk result (λ height. height + 50 < 2 ^ 38) }
+    ensures few { IfOk result (λ height. height + 120 < 2 ^ 38) }
 {
     let queues = changed_queues(alloc, header, looks)?;
     Ok(queues_down(alloc, header, looks)? + QUEUE_ROW * queues.len() as u64)
+}
+
+fn run_height(alloc: Global, header: &Header, looks: &[Look]) -> Result<u64, AllocError>
+    requires cores { header.now.config.cores ≤ max_cores }
+    requires tasks { length header.now.tasks ≤ max_tasks }
+    requires queues { queues_of header.now ≤ max_queues }
+    ensures value { IfOk result (λ height. height ≡ run_height header.now looks.now) }
+    ensures few { IfOk result (λ height. height + 80 < 2 ^ 38) }
+{
+    Ok(time_height(header) + panel_height(alloc, header, looks)?)
 }
 
 fn width_of(scale: Scale, count: u64) -> u64
@@ -257,7 +248,7 @@ fn push_tasks(
     Ok(())
 }
 
-// The rows of one run, from the top on.
+// The rows of one run but that of time, from the top on.
 #[tactic(auto, unfolding(crate::specs::Picture::bands_text))]
 fn push_bands(
     alloc: Global,
@@ -312,9 +303,9 @@ fn push_marks(
     push_rules(alloc, text, frame, top, bottom, looks)
 }
 
-// One run, from the top on.
-#[tactic(auto, unfolding(crate::specs::Picture::panel_text))]
-fn push_panel(
+// The row of time, from the top on.
+#[tactic(auto, unfolding(crate::specs::Picture::time_text))]
+fn push_time(
     alloc: Global,
     text: &mut String,
     panel: &Panel<'_>,
@@ -323,10 +314,36 @@ fn push_panel(
     requires top { top < 2 ^ 38 }
     requires numbered { IsNumbered (shown panel.now) }
     ensures { OnOk result
+        (string_bytes text.new ≡ string_bytes text.old ++ time_text (shown panel.now) top) }
+{
+    push_time_row(
+        alloc,
+        text,
+        panel.header,
+        &panel.frame,
+        top,
+        panel.times.as_slice(),
+        panel.run_looks.looks.as_slice().len() as u32,
+    )
+}
+
+// One run, from the top on.
+#[tactic(auto, unfolding(crate::specs::Picture::panel_text))]
+fn push_panel(
+    alloc: Global,
+    text: &mut String,
+    panel: &Panel<'_>,
+    top: u64,
+) -> Result<(), AllocError>
+    requires top { top + 28 < 2 ^ 38 }
+    requires numbered { IsNumbered (shown panel.now) }
+    ensures { OnOk result
         (string_bytes text.new ≡ string_bytes text.old ++ panel_text (shown panel.now) top) }
 {
-    push_bands(alloc, text, panel, top)?;
-    push_marks(alloc, text, panel, top)
+    push_time(alloc, text, panel, top)?;
+    let below = top + time_height(panel.header);
+    push_bands(alloc, text, panel, below)?;
+    push_marks(alloc, text, panel, below)
 }
 
 // The picture of a run that is so many columns wide.
@@ -336,7 +353,7 @@ fn draw_panel(alloc: Global, panel: &Panel<'_>, count: u64) -> Result<String, Al
     requires count { count ≤ 2 ^ 32 }
     ensures { IfOk result (λ text. string_bytes text ≡ drawn_run count (shown panel.now)) }
 {
-    let height = panel_height(alloc, panel.header, panel.run_looks.looks.as_slice())?;
+    let height = run_height(alloc, panel.header, panel.run_looks.looks.as_slice())?;
     let signs = signs_of(alloc, panel)?;
     let width = width_of(panel.frame.scale, count);
     let mut text = String::new(alloc);
@@ -346,65 +363,25 @@ fn draw_panel(alloc: Global, panel: &Panel<'_>, count: u64) -> Result<String, Al
     Ok(text)
 }
 
-#[tactic(auto, unfolding(crate::specs::Picture::picture_text))]
-fn draw_run(
-    alloc: Global,
-    meter: &mut Meter,
-    places: Places,
-    axis: Axis,
-    session: &CheckedSession,
-    count: u64,
-) -> Result<String, AllocError>
-    requires { count ≡ shown_count places (length session.now.steps) }
-    ensures { IfOk result
-        (λ text. string_bytes text
-        ≡ picture_text places axis session.now.header session.now.steps) }
-{
-    let frame = frame_for(alloc, places, axis, count);
-    let run_looks = RunLooks::of_run(alloc, meter, places, session)?;
-    let panel = Panel {
-        header: session.header(),
-        frame,
-        run_looks,
-    };
-    draw_panel(alloc, &panel, count)
-}
-
-/// The picture of a checked session's run, at the places that are shown. `TooLong` where these are
-/// more than `MAX_PLACES`.
-pub fn timeline(
-    alloc: Global,
-    meter: &mut Meter,
-    extent: Extent,
-    session: &CheckedSession,
-) -> Result<Result<String, TooLong>, AllocError>
-    ensures picture { IfOk result (Answers (shown_count extent.places (length session.now.steps))
-        (picture_text extent.places extent.axis session.now.header session.now.steps)) }
-    // The stretches that are drawn tile what the replay has.
-    ensures tiled { IsTiled extent.places session.now.header session.now.steps }
-{
-    let Extent { places, axis } = extent;
-    let count = shown_count(places, session.steps().len());
-    if count > MAX_PLACES {
-        return Ok(Err(TooLong { places: count }));
-    }
-    let text = draw_run(alloc, meter, places, axis, session, count)?;
-    Ok(Ok(text))
-}
-
-/// A session whose run is drawn beside another one, and the columns at which its places begin. A
-/// place for which there is none stands at the column of its number.
+/// A session whose run is drawn, and the columns at which its places begin. A place for which there
+/// is none stands at the column of its number.
 #[derive(Clone, Copy)]
 pub struct PlacedRun<'a> {
     pub session: &'a CheckedSession,
     pub columns: &'a [u32],
 }
 
+fn first_of(places: Places, run: &PlacedRun<'_>) -> u64
+    ensures value { result ≡ column_of run.now.columns.now places.from }
+    ensures few { result ≤ 2 ^ 32 }
+{
+    column_of(run.columns, u64::from(places.from))
+}
+
 fn left_of(places: Places, before: &PlacedRun<'_>, after: &PlacedRun<'_>) -> u64
     ensures { result ≡ left_of places (drawn before.now) (drawn after.now) }
 {
-    let from = u64::from(places.from);
-    column_of(before.columns, from).min(column_of(after.columns, from))
+    first_of(places, before).min(first_of(places, after))
 }
 
 fn end_of(places: Places, run: &PlacedRun<'_>) -> u64
@@ -414,6 +391,14 @@ fn end_of(places: Places, run: &PlacedRun<'_>) -> u64
 {
     let last = u64::from(places.to).min(run.session.steps().len() as u64);
     column_of(run.columns, last + 1)
+}
+
+fn count_of(places: Places, run: &PlacedRun<'_>) -> u64
+    ensures value { result ≡ count_of places (drawn run.now) }
+    ensures few { result ≤ 2 ^ 32 }
+    ensures checked { IsCheckedSession run.now.session.now }
+{
+    end_of(places, run).saturating_sub(first_of(places, run))
 }
 
 fn count_of_both(places: Places, before: &PlacedRun<'_>, after: &PlacedRun<'_>) -> u64
@@ -463,11 +448,54 @@ fn panel_of<'a>(
 {
     let frame = frame_of(alloc, places, axis, scale, left, run)?;
     let run_looks = RunLooks::of_run(alloc, meter, places, run.session)?;
+    let header = run.session.header();
+    let times = times_of(alloc, header.config.units, run.session.steps())?;
     Ok(Panel {
-        header: run.session.header(),
+        header,
         frame,
         run_looks,
+        times: Items::new(times),
     })
+}
+
+#[tactic(auto, unfolding(crate::specs::Picture::picture_text))]
+fn draw_run(
+    alloc: Global,
+    meter: &mut Meter,
+    places: Places,
+    axis: Axis,
+    run: &PlacedRun<'_>,
+    count: u64,
+) -> Result<String, AllocError>
+    requires count { count ≡ count_of places (drawn run.now) }
+    requires few { count ≤ 2 ^ 32 }
+    ensures { IfOk result (λ text. string_bytes text ≡ picture_text places axis (drawn run.now)) }
+{
+    let left = first_of(places, run);
+    let panel = panel_of(alloc, meter, places, axis, scale_for(count), left, run)?;
+    draw_panel(alloc, &panel, count)
+}
+
+/// The picture of a checked session's run, at the places that are shown. `TooLong` where more
+/// columns are shown than `MAX_PLACES`.
+pub fn timeline(
+    alloc: Global,
+    meter: &mut Meter,
+    extent: Extent,
+    run: &PlacedRun<'_>,
+) -> Result<Result<String, TooLong>, AllocError>
+    ensures picture { IfOk result (Answers (count_of extent.places (drawn run.now))
+        (picture_text extent.places extent.axis (drawn run.now))) }
+    // The stretches that are drawn tile what the replay has.
+    ensures tiled { IsTiled extent.places run.now.session.now.header run.now.session.now.steps }
+{
+    let Extent { places, axis } = extent;
+    let count = count_of(places, run);
+    if count > MAX_PLACES {
+        return Ok(Err(TooLong { places: count }));
+    }
+    let text = draw_run(alloc, meter, places, axis, run, count)?;
+    Ok(Ok(text))
 }
 
 // A run below its heading.
@@ -479,7 +507,7 @@ fn push_headed(
     heading: &str,
     panel: &Panel<'_>,
 ) -> Result<(), AllocError>
-    requires top { top + 18 < 2 ^ 38 }
+    requires top { top + 46 < 2 ^ 38 }
     requires numbered { IsNumbered (shown panel.now) }
     ensures { OnOk result
         (string_bytes text.new
@@ -500,7 +528,7 @@ fn push_both(
 ) -> Result<(), AllocError>
     requires before { IsNumbered (shown before.now) }
     requires after { IsNumbered (shown after.now) }
-    requires height { height + 50 < 2 ^ 38 }
+    requires height { height + 78 < 2 ^ 38 }
     ensures { OnOk result
         (string_bytes text.new
         ≡ string_bytes text.old ++ both_text (shown before.now) (shown after.now) height) }
@@ -523,8 +551,8 @@ fn draw_panels(
     ensures { IfOk result
         (λ text. string_bytes text ≡ drawn_runs count (shown before.now) (shown after.now)) }
 {
-    let height = panel_height(alloc, before.header, before.run_looks.looks.as_slice())?;
-    let lower = panel_height(alloc, after.header, after.run_looks.looks.as_slice())?;
+    let height = run_height(alloc, before.header, before.run_looks.looks.as_slice())?;
+    let lower = run_height(alloc, after.header, after.run_looks.looks.as_slice())?;
     let whole = height + lower;
     let signs = signs_of_both(alloc, before, after)?;
     let width = width_of(before.frame.scale, count);

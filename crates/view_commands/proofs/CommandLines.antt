@@ -36,6 +36,7 @@ views = record {
   picture_between = refl;
   picture_settled = refl;
   picture_by_ticks = refl;
+  picture_by_time = refl;
   page = refl;
   page_settled = refl;
   page_by_ticks = refl;

@@ -65,8 +65,8 @@ one_of_comparison shown session edits printed other (inr one) (inr two) = one.1 
 -- what is told of a picture of these runs
 abbrev printed_of_runs : Extent → Header → Header → List Step → List Step → List Row → List WaitingCall → List WaitingCall → Printed
 printed_of_runs extent header edited run later rows left rest =
-    noted (picture_of_runs extent (record { header = header; steps = run; columns = columns_before extent.axis run later rows })
-    (record { header = edited; steps = later; columns = columns_after extent.axis run later rows })) (left_lines header edited left rest)
+    noted (picture_of_runs extent (record { header = header; steps = run; columns = columns_before extent.axis extent.places header.config.units run later rows })
+    (record { header = edited; steps = later; columns = columns_after extent.axis extent.places header.config.units run later rows })) (left_lines header edited left rest)
 
 told_of_pair : (extent : Extent) (session : Session) (edits : List Edit) (printed : Printed) (one : IsPrintedOfPair extent session edits printed) → printed ≡
     printed_of_runs extent session.header (after_edits session edits).header one.pair.before.session.steps one.pair.after.session.steps one.pair.rows.items

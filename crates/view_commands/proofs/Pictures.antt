@@ -7,9 +7,9 @@ use Rattle.bench_types.specs.Session.{Session}
 use Rattle.run_pictures.specs.declared.picture.Extent.{Extent}
 use Rattle.run_pictures.specs.Drawn.{Drawn}
 use Rattle.run_pictures.specs.Limits.{max_places}
-use Rattle.run_pictures.specs.Picture.{count_of_both, picture_text, pictures_text, shown_count, Answers}
+use Rattle.run_pictures.specs.Picture.{count_of, count_of_both, picture_text, pictures_text, Answers}
 use Rattle.program_io.specs.Outputs.{Printed, fine}
-use Rattle.view_commands.specs.Views.{answer_output, picture_of_run, picture_of_runs, picture_or, refused_long}
+use Rattle.view_commands.specs.Views.{answer_output, picture_of_one, picture_of_runs, picture_or, refused_long}
 
 -- an answer is the picture, or that it would be too long
 answered : (count : ℕ) (picture : List ℕ) (answer : Result (String Global) TooLong) → Answers count picture answer → answer_output answer ≡ picture_or count
@@ -27,12 +27,12 @@ pictured : {E : Type 0} (count : ℕ) (picture : List ℕ) (answer : Result (Str
 pictured count picture answer (Err e) answers printed = tt
 pictured count picture answer (Ok text) answers printed = printed ∙ answered count picture answer answers
 
--- of one run
-pub run_pictured : {E : Type 0} (extent : Extent) (session : Session) (answer : Result (String Global) TooLong) (result : Result Printed E) → Answers
-    (shown_count extent.places (length session.steps)) (picture_text extent.places extent.axis session.header session.steps) answer
-    → IfOk result (λ shown. shown ≡ answer_output answer) → IfOk result (λ shown. shown ≡ picture_of_run extent session)
-run_pictured extent session answer result answers printed = pictured (shown_count extent.places (length session.steps))
-    (picture_text extent.places extent.axis session.header session.steps) answer result answers printed
+-- of one run that is that
+pub run_pictured : {E : Type 0} (extent : Extent) (run one : Drawn) (answer : Result (String Global) TooLong) (result : Result Printed E) → one ≡ run → Answers
+    (count_of extent.places one) (picture_text extent.places extent.axis one) answer
+    → IfOk result (λ shown. shown ≡ answer_output answer) → IfOk result (λ shown. shown ≡ picture_of_one extent run)
+run_pictured extent run one answer result is answers printed = pictured (count_of extent.places run) (picture_text extent.places extent.axis run) answer result
+    (subst (λ (drawn : Drawn). Answers (count_of extent.places drawn) (picture_text extent.places extent.axis drawn) answer) is answers) printed
 
 -- of two runs
 pub runs_pictured : {E : Type 0} (extent : Extent) (before after : Drawn) (answer : Result (String Global) TooLong) (result : Result Printed E) → Answers

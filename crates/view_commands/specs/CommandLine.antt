@@ -152,7 +152,7 @@ no_limits =
 
 -- that a word names no axis
 abbrev pub no_axis : List ℕ
-no_axis = codes "error: --axis takes place or tick" ++ try_help
+no_axis = codes "error: --axis takes place, tick or time" ++ try_help
 
 -- that a word names no changes
 abbrev pub no_families : List ℕ

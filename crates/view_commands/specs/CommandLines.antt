@@ -34,6 +34,9 @@ by_places from to = record { places = places from to; axis = by.Places }
 abbrev pub by_ticks : ℕ → ℕ → Extent
 by_ticks from to = record { places = places from to; axis = by.Ticks }
 
+abbrev pub by_time : ℕ → ℕ → Extent
+by_time from to = record { places = places from to; axis = by.Time }
+
 -- the last place, where none is given
 abbrev pub most : ℕ
 most = 4294967295
@@ -110,6 +113,9 @@ pub record WorkedViews : Type 0 where
   pub picture_by_ticks :
       asked_after (codes "timeline" ∷ codes "--axis" ∷ codes "tick" ∷ [])
       ≡ a_lenient (Plain (view.Timeline (by_ticks 0 most))) None
+  pub picture_by_time :
+      asked_after (codes "timeline" ∷ codes "--axis=time" ∷ codes "--settle" ∷ [])
+      ≡ a_lenient (Settled (settled.Timeline (by_time 0 most))) None
   pub page :
       asked_after (codes "page" ∷ codes "--from" ∷ codes "3" ∷ codes "run.json" ∷ [])
       ≡ a_lenient (Page (record { settled = false; extent = by_places 3 most }))

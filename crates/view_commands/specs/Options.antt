@@ -28,6 +28,10 @@ use Rattle.view_commands.specs.declared.request.View.TheVariants as view
 abbrev pub is_number : Text → Bool
 is_number = is_unsigned_in 0 (2 ^ 32 - 1)
 
+-- below 2^64, as a value of a number of a run
+abbrev pub is_amount : Text → Bool
+is_amount = is_unsigned_in 0 (2 ^ 64 - 1)
+
 -- ---- each option
 
 -- whether the flag is there
@@ -72,7 +76,7 @@ file_in options = option_and_then file_named (first_of (codes "file") options)
 -- the name that stands before the sign `=`, and the number behind it
 abbrev pub number_behind : Text × Text → Option (Text × ℕ)
 number_behind parts =
-    if is_number parts.1 then Some (parts.0, number_of parts.1) else None
+    if is_amount parts.1 then Some (parts.0, number_of parts.1) else None
 
 -- a limit is cut at its last `=`, since names of tasks may have one
 abbrev pub limit_parts : Text → Option (Text × ℕ)
@@ -126,6 +130,7 @@ abbrev pub axis_of : Text → Option Axis
 axis_of word =
     if bytes_eq word (codes "place") then Some by.Places
     else if bytes_eq word (codes "tick") then Some by.Ticks
+    else if bytes_eq word (codes "time") then Some by.Time
     else None
 
 -- places, where none is named

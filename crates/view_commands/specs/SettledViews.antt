@@ -13,7 +13,7 @@ use Rattle.run_pictures.specs.declared.frame.Axis.{Axis}
 use Rattle.run_pictures.specs.declared.frame.Axis.TheVariants as by
 use Rattle.run_pictures.specs.declared.picture.Extent.{Extent}
 use Rattle.run_pictures.specs.Drawn.{Drawn}
-use Rattle.run_pictures.specs.TickColumns.{tick_columns}
+use Rattle.run_columns.specs.TimeSlots.{tick_columns, time_columns}
 use Rattle.run_comparisons.specs.declared.columns.Side.TheVariants.{Before, After}
 use Rattle.run_comparisons.specs.declared.rows.Row.{Row}
 use Rattle.run_comparisons.specs.declared.settled.SettledPair.{SettledPair}
@@ -80,32 +80,39 @@ abbrev pub IsPrintedOfBothAt : Places → Session → List Edit → Printed → 
 IsPrintedOfBothAt places session edits printed =
     IsPrintedOfComparison (Some places) session edits printed
 
--- where the places of one of two runs stand: in the columns of their rows, or by the ticks of both
-abbrev pub columns_before : Axis → List Step → List Step → List Row → List ℕ
-columns_before by.Places before after rows = columns_of Before rows
-columns_before by.Ticks before after rows = tick_columns before after before
+-- where the places of one of two runs stand: in the columns of their rows, or by the ticks of both,
+-- or by the time of both, where a tick has so many units
+abbrev pub columns_before : Axis → Places → ℕ → List Step → List Step → List Row → List ℕ
+columns_before by.Places places units before after rows = columns_of Before rows
+columns_before by.Ticks places units before after rows = tick_columns before after before
+columns_before by.Time places units before after rows =
+    time_columns units places.from places.to before after before
 
-abbrev pub columns_after : Axis → List Step → List Step → List Row → List ℕ
-columns_after by.Places before after rows = columns_of After rows
-columns_after by.Ticks before after rows = tick_columns before after after
+abbrev pub columns_after : Axis → Places → ℕ → List Step → List Step → List Row → List ℕ
+columns_after by.Places places units before after rows = columns_of After rows
+columns_after by.Ticks places units before after rows = tick_columns before after after
+columns_after by.Time places units before after rows =
+    time_columns units places.from places.to before after after
 
-abbrev pub drawn_before : Axis → SettledPair → Drawn
-drawn_before axis pair = record {
+abbrev pub drawn_before : Extent → SettledPair → Drawn
+drawn_before extent pair = record {
   header = pair.before.session.header;
   steps = pair.before.session.steps;
-  columns = columns_before axis pair.before.session.steps pair.after.session.steps pair.rows.items;
+  columns = columns_before extent.axis extent.places pair.before.session.header.config.units
+      pair.before.session.steps pair.after.session.steps pair.rows.items;
 }
 
-abbrev pub drawn_after : Axis → SettledPair → Drawn
-drawn_after axis pair = record {
+abbrev pub drawn_after : Extent → SettledPair → Drawn
+drawn_after extent pair = record {
   header = pair.after.session.header;
   steps = pair.after.session.steps;
-  columns = columns_after axis pair.before.session.steps pair.after.session.steps pair.rows.items;
+  columns = columns_after extent.axis extent.places pair.before.session.header.config.units
+      pair.before.session.steps pair.after.session.steps pair.rows.items;
 }
 
 abbrev pub picture_of_pair : Extent → SettledPair → Printed
 picture_of_pair extent pair =
-    picture_of_runs extent (drawn_before extent.axis pair) (drawn_after extent.axis pair)
+    picture_of_runs extent (drawn_before extent pair) (drawn_after extent pair)
 
 -- the calls of either run that were not made
 abbrev pub pair_note : SettledPair → List ℕ

@@ -6,6 +6,7 @@ use Rattle.bench_types.specs.declared.step.Step.{Step}
 use Rattle.bench_types.specs.Session.{Session}
 use Rattle.bench_model.specs.Edits.{after_edits}
 use Rattle.session_write.specs.Written.{written}
+use Rattle.run_views.specs.declared.places.Places.{Places}
 use Rattle.run_views.specs.Trace.{trace_text}
 use Rattle.std.specs.declared.alloc.Global.{Global}
 use Rattle.run_pictures.specs.declared.frame.Axis.{Axis}
@@ -14,8 +15,8 @@ use Rattle.run_pictures.specs.declared.picture.Extent.{Extent}
 use Rattle.run_pictures.specs.declared.picture.TooLong.{TooLong}
 use Rattle.run_pictures.specs.Drawn.{Drawn}
 use Rattle.run_pictures.specs.Limits.{max_places}
-use Rattle.run_pictures.specs.Picture.{count_of_both, picture_text, pictures_text, shown_count}
-use Rattle.run_pictures.specs.TickColumns.{tick_columns}
+use Rattle.run_pictures.specs.Picture.{count_of, count_of_both, picture_text, pictures_text}
+use Rattle.run_columns.specs.TimeSlots.{tick_columns, time_columns}
 use Rattle.run_comparisons.specs.Comparison.{compare_text}
 use Rattle.program_io.specs.Outputs.{Printed, fine, refusal}
 use Rattle.view_commands.specs.declared.request.View.{View}
@@ -70,10 +71,31 @@ abbrev pub picture_or : ℕ → List ℕ → Printed
 picture_or count picture =
     if nat_lt max_places count then refused_long count else fine picture
 
+-- where the places of one of two runs stand: at their numbers, or by the ticks of both, or by the
+-- time of both, where a tick has so many units
+abbrev pub columns_by : Axis → Places → ℕ → List Step → List Step → List Step → List ℕ
+columns_by by.Places places units before after run = []
+columns_by by.Ticks places units before after run = tick_columns before after run
+columns_by by.Time places units before after run =
+    time_columns units places.from places.to before after run
+
+-- the run of a session as it is drawn, which is one of these two
+abbrev pub drawn_by : Extent → Session → Session → Session → Drawn
+drawn_by extent before after session = record {
+  header = session.header;
+  steps = session.steps;
+  columns = columns_by extent.axis extent.places before.header.config.units before.steps
+      after.steps session.steps;
+}
+
+-- a picture of one run
+abbrev pub picture_of_one : Extent → Drawn → Printed
+picture_of_one extent run =
+    picture_or (count_of extent.places run) (picture_text extent.places extent.axis run)
+
+-- of the run of a session, which stands by itself
 abbrev pub picture_of_run : Extent → Session → Printed
-picture_of_run extent session =
-    picture_or (shown_count extent.places (length session.steps))
-    (picture_text extent.places extent.axis session.header session.steps)
+picture_of_run extent session = picture_of_one extent (drawn_by extent session session session)
 
 -- a picture of two runs
 abbrev pub picture_of_runs : Extent → Drawn → Drawn → Printed
@@ -81,23 +103,10 @@ picture_of_runs extent before after =
     picture_or (count_of_both extent.places before after)
     (pictures_text extent.places extent.axis before after)
 
--- where the places of one of two runs stand: at their numbers, or by the ticks of both
-abbrev pub columns_by : Axis → List Step → List Step → List Step → List ℕ
-columns_by by.Places before after run = []
-columns_by by.Ticks before after run = tick_columns before after run
-
--- the run of a session as it is drawn beside another one
-abbrev pub drawn_by : Axis → List Step → List Step → Session → Drawn
-drawn_by axis before after session = record {
-  header = session.header;
-  steps = session.steps;
-  columns = columns_by axis before after session.steps;
-}
-
 abbrev pub picture_of_both : Extent → Session → Session → Printed
 picture_of_both extent session edited =
-    picture_of_runs extent (drawn_by extent.axis session.steps edited.steps session)
-    (drawn_by extent.axis session.steps edited.steps edited)
+    picture_of_runs extent (drawn_by extent session edited session)
+    (drawn_by extent session edited edited)
 
 -- the picture of the run, and with edits that of the run after them below it
 abbrev pub picture_of : Extent → Session → List Edit → Printed

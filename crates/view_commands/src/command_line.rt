@@ -62,7 +62,8 @@ Example: smp_view compare --settle examples/settled/shorter-timeout.json";
 // Below the options of a picture.
 const PICTURES: &str =
     "A picture shows at most 4000 places. With --axis tick each tick is ruled, and has as many columns
-as the run with more places in it needs, so that two runs stand tick by tick.
+as the run with more places in it needs, so that two runs stand tick by tick. With --axis time a
+place is as wide as the time until the next one, and one column at least.
 
 Example: smp_view timeline examples/questions/shared-mutex.json";
 
@@ -154,7 +155,7 @@ fn core_option<'a>(alloc: Global) -> Arg<'a>
 fn axis_option<'a>(alloc: Global) -> Arg<'a>
     ensures { rule_of result ≡ axis_rule }
 {
-    option(alloc, "axis", "AXIS").help("What a column is of: place, also if left out, or tick")
+    option(alloc, "axis", "AXIS").help("What a column is of: place, also if left out, tick or time")
 }
 
 fn at_most_option<'a>(alloc: Global) -> Arg<'a>

@@ -2,7 +2,7 @@
 ghost use Rattle.std.specs.Prelude.{◌≡◌, ◌≤◌, ◌<◌, [], IfOk, decimal, length, map, slice_index_or, string_bytes};
 ghost use Rattle.bench_types.specs.Limits.{max_steps};
 ghost use Rattle.run_pictures.specs.Limits.{max_places};
-ghost use Rattle.view_commands.specs.Views.{answer_output, columns_by, document_of, most_places, picture_of, picture_of_both, picture_of_run, refused_long, refused_core, refused_task, shown, trace_of, trace_output};
+ghost use Rattle.view_commands.specs.Views.{answer_output, columns_by, document_of, drawn_by, most_places, picture_of, picture_of_both, picture_of_run, refused_long, refused_core, refused_task, shown, trace_of, trace_output};
 ghost use Rattle.program_io.specs.Outputs.{fine};
 
 use crate::interest::{interest_of, unknown_core, unknown_task};
@@ -10,11 +10,10 @@ use crate::parts::{Course, Part, PartProgress};
 use crate::{Selection, View};
 use bench_types::{CheckedSession, Items, Step};
 use program_io::Output;
+use run_columns::{RunColumns, tick_columns, time_columns};
 use run_comparisons::compare;
-use run_pictures::{
-    Axis, Extent, PlacedRun, TickColumns, TooLong, tick_columns, timeline, timelines,
-};
-use run_views::trace;
+use run_pictures::{Axis, Extent, PlacedRun, TooLong, timeline, timelines};
+use run_views::{Places, trace};
 use session_edits::EditedSession;
 use session_write::write_session;
 use smp_kernel::Meter;
@@ -118,6 +117,50 @@ pub(crate) fn answer_output(
     }
 }
 
+// Where the places of two runs stand: at their numbers, or by the ticks or the time of both.
+fn columns_by(
+    alloc: Global,
+    extent: Extent,
+    units: u32,
+    before: &[Step],
+    after: &[Step],
+) -> Result<RunColumns, AllocError>
+    requires before { length before.now ≤ max_steps }
+    requires after { length after.now ≤ max_steps }
+    ensures before { IfOk result (λ columns. columns.before
+        ≡ columns_by extent.axis extent.places units before.now after.now before.now) }
+    ensures after { IfOk result (λ columns. columns.after
+        ≡ columns_by extent.axis extent.places units before.now after.now after.now) }
+{
+    match extent.axis {
+        Axis::Places => Ok(RunColumns {
+            before: Items::new(Vec::new(alloc)),
+            after: Items::new(Vec::new(alloc)),
+        }),
+        Axis::Ticks => tick_columns(alloc, before, after),
+        Axis::Time => {
+            let Places { from, to } = extent.places;
+            time_columns(alloc, units, from, to, before, after)
+        }
+    }
+}
+
+// Where the places of the runs of two sessions stand.
+fn session_columns(
+    alloc: Global,
+    extent: Extent,
+    session: &CheckedSession,
+    edited: &CheckedSession,
+) -> Result<RunColumns, AllocError>
+    ensures before { IfOk result (λ columns. columns.before
+        ≡ (drawn_by extent session.now edited.now session.now).columns) }
+    ensures after { IfOk result (λ columns. columns.after
+        ≡ (drawn_by extent session.now edited.now edited.now).columns) }
+{
+    let units = session.header().config.units;
+    columns_by(alloc, extent, units, session.steps(), edited.steps())
+}
+
 /// The picture of the run of a session as its steps stand.
 pub(crate) fn picture_of_run(
     alloc: Global,
@@ -127,31 +170,13 @@ pub(crate) fn picture_of_run(
 ) -> Result<Output, AllocError>
     ensures { IfOk result (λ shown. shown ≡ picture_of_run extent session.now) }
 {
-    let answer = timeline(alloc, meter, extent, session)?;
+    let columns = session_columns(alloc, extent, session, session)?;
+    let run = PlacedRun {
+        session,
+        columns: columns.before.as_slice(),
+    };
+    let answer = timeline(alloc, meter, extent, &run)?;
     answer_output(alloc, answer)
-}
-
-// Where the places of two runs stand: at their numbers, or by the ticks of both.
-fn columns_by(
-    alloc: Global,
-    axis: Axis,
-    before: &[Step],
-    after: &[Step],
-) -> Result<TickColumns, AllocError>
-    requires before { length before.now ≤ max_steps }
-    requires after { length after.now ≤ max_steps }
-    ensures before { IfOk result
-        (λ columns. columns.before ≡ columns_by axis before.now after.now before.now) }
-    ensures after { IfOk result
-        (λ columns. columns.after ≡ columns_by axis before.now after.now after.now) }
-{
-    match axis {
-        Axis::Places => Ok(TickColumns {
-            before: Items::new(Vec::new(alloc)),
-            after: Items::new(Vec::new(alloc)),
-        }),
-        Axis::Ticks => tick_columns(alloc, before, after),
-    }
 }
 
 // The runs of two sessions, one below the other.
@@ -164,7 +189,7 @@ fn picture_of_both(
 ) -> Result<Output, AllocError>
     ensures { IfOk result (λ shown. shown ≡ picture_of_both extent session.now edited.now) }
 {
-    let columns = columns_by(alloc, extent.axis, session.steps(), edited.steps())?;
+    let columns = session_columns(alloc, extent, session, edited)?;
     let before = PlacedRun {
         session,
         columns: columns.before.as_slice(),

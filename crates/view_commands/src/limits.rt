@@ -9,18 +9,18 @@ use session_reports::Wanted;
 use std::alloc::{AllocError, Global};
 
 // The name with the number that the digits write.
-fn numbered<'a>(name: &'a str, digits: &str) -> Option<(&'a str, u32)>
+fn numbered<'a>(name: &'a str, digits: &str) -> Option<(&'a str, u64)>
     ensures { option_map (λ parts. (parts.0.now, parts.1)) result
         ≡ number_behind (name.now, digits.now) }
 {
-    match digits.parse::<u32>() {
+    match digits.parse::<u64>() {
         Ok(number) => Some((name, number)),
         Err(_) => None,
     }
 }
 
 // The name and the number of a limit.
-fn limit_parts(text: &str) -> Option<(&str, u32)>
+fn limit_parts(text: &str) -> Option<(&str, u64)>
     ensures { option_map (λ parts. (parts.0.now, parts.1)) result ≡ limit_parts text.now }
 {
     match text.rsplit_once('=') {
@@ -62,7 +62,7 @@ fn push_most(alloc: Global, limits: &mut Vec<Wanted>, text: &str) -> Result<(), 
     if let Some((name, number)) = limit_parts(text) {
         limits.push(Wanted {
             name: String::from_str(alloc, name)?,
-            bound: Bound::AtMost(u64::from(number)),
+            bound: Bound::AtMost(number),
         })?;
     }
     Ok(())
@@ -76,7 +76,7 @@ fn push_least(alloc: Global, limits: &mut Vec<Wanted>, text: &str) -> Result<(),
     if let Some((name, number)) = limit_parts(text) {
         limits.push(Wanted {
             name: String::from_str(alloc, name)?,
-            bound: Bound::AtLeast(u64::from(number)),
+            bound: Bound::AtLeast(number),
         })?;
     }
     Ok(())

@@ -33,7 +33,7 @@ For more information, try '--help'.
 ";
 
 // What is told where a word names no axis.
-const NO_AXIS: &str = "error: --axis takes place or tick
+const NO_AXIS: &str = "error: --axis takes place, tick or time
 
 For more information, try '--help'.
 ";
@@ -187,6 +187,9 @@ fn axis_of(word: &str) -> Option<Axis>
     }
     if word == "tick" {
         return Some(Axis::Ticks);
+    }
+    if word == "time" {
+        return Some(Axis::Time);
     }
     None
 }

@@ -3,7 +3,7 @@ ghost use Rattle.std.specs.Prelude.{◌≡◌, ◌+◌, ◌<◌, ◌^◌, IfOk, 
 ghost use Rattle.run_comparisons.specs.declared.columns.Side.TheVariants.{Before, After};
 ghost use Rattle.run_comparisons.specs.Columns.{columns_of};
 ghost use Rattle.run_comparisons.specs.Settled.{IsSettledPair};
-ghost use Rattle.view_commands.specs.SettledViews.{columns_after, columns_before, pair_note, picture_of_pair, IsPrintedOfPictures};
+ghost use Rattle.view_commands.specs.SettledViews.{drawn_after, drawn_before, pair_note, picture_of_pair, IsPrintedOfPictures};
 ghost use Rattle.program_io.specs.Outputs.{noted};
 
 use crate::edited::answer_output;
@@ -11,8 +11,10 @@ use crate::parts::{Course, Part, PartProgress};
 use crate::settled::not_settled;
 use bench_types::Items;
 use program_io::Output;
+use run_columns::{RunColumns, tick_columns, time_columns};
 use run_comparisons::{Row, SettledPair, Side, columns_of, push_left_lines, settle_both};
-use run_pictures::{Axis, Extent, PlacedRun, TickColumns, tick_columns, timelines};
+use run_pictures::{Axis, Extent, PlacedRun, timelines};
+use run_views::Places;
 use session_edits::EditedSession;
 use smp_kernel::Meter;
 use std::alloc::{AllocError, Global};
@@ -27,32 +29,34 @@ fn noted_pair(alloc: Global, pair: &SettledPair, shown: Output) -> Result<Output
 }
 
 // The columns of the rows.
-fn row_columns(alloc: Global, rows: &[Row]) -> Result<TickColumns, AllocError>
+fn row_columns(alloc: Global, rows: &[Row]) -> Result<RunColumns, AllocError>
     requires { length rows.now + 1 < 2 ^ 32 }
     ensures before { IfOk result (λ columns. columns.before ≡ columns_of Before rows.now) }
     ensures after { IfOk result (λ columns. columns.after ≡ columns_of After rows.now) }
 {
-    Ok(TickColumns {
+    Ok(RunColumns {
         before: Items::new(columns_of(alloc, Side::Before, rows)?),
         after: Items::new(columns_of(alloc, Side::After, rows)?),
     })
 }
 
-// Where the places of the pair stand: in the columns of their rows, or by the ticks of both.
-fn pair_columns(alloc: Global, axis: Axis, pair: &SettledPair) -> Result<TickColumns, AllocError>
+// Where the places of the pair stand: in the columns of their rows, or by the ticks or the time of
+// both.
+fn pair_columns(alloc: Global, extent: Extent, pair: &SettledPair) -> Result<RunColumns, AllocError>
     requires { length pair.now.rows.items + 1 < 2 ^ 32 }
-    ensures before { IfOk result (λ columns. columns.before
-        ≡ columns_before axis pair.now.before.session.steps pair.now.after.session.steps
-        pair.now.rows.items) }
-    ensures after { IfOk result (λ columns. columns.after
-        ≡ columns_after axis pair.now.before.session.steps pair.now.after.session.steps
-        pair.now.rows.items) }
+    ensures before { IfOk result
+        (λ columns. columns.before ≡ (drawn_before extent pair.now).columns) }
+    ensures after { IfOk result
+        (λ columns. columns.after ≡ (drawn_after extent pair.now).columns) }
 {
-    match axis {
+    let (before, after) = (pair.before.session(), pair.after.session());
+    match extent.axis {
         Axis::Places => row_columns(alloc, pair.rows.as_slice()),
-        Axis::Ticks => {
-            let (before, after) = (pair.before.session(), pair.after.session());
-            tick_columns(alloc, before.steps(), after.steps())
+        Axis::Ticks => tick_columns(alloc, before.steps(), after.steps()),
+        Axis::Time => {
+            let units = before.header().config.units;
+            let Places { from, to } = extent.places;
+            time_columns(alloc, units, from, to, before.steps(), after.steps())
         }
     }
 }
@@ -67,7 +71,7 @@ fn picture_of_pair(
     requires { length pair.now.rows.items + 1 < 2 ^ 32 }
     ensures { IfOk result (λ shown. shown ≡ picture_of_pair extent pair.now) }
 {
-    let columns = pair_columns(alloc, extent.axis, pair)?;
+    let columns = pair_columns(alloc, extent, pair)?;
     let before = PlacedRun {
         session: pair.before.session(),
         columns: columns.before.as_slice(),

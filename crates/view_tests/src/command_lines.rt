@@ -42,17 +42,20 @@ smp_view timeline --settle => settled picture 0 4294967295
 smp_view timeline --axis place => picture 0 4294967295
 smp_view timeline --axis tick => picture by ticks 0 4294967295
 smp_view timeline --settle --axis=tick --to 7 => settled picture by ticks 0 7
+smp_view timeline --axis time --from 3 => picture by time 3 4294967295
 smp_view timeline --from 3 --settle => settled picture 3 4294967295
 smp_view timeline --settle --to 7 run.json => settled picture 0 7 file run.json
 smp_view page => page 0 4294967295
 smp_view page --settle --to 7 run.json => settled page 0 7 file run.json
 smp_view page --strict --from 3 => strict page 3 4294967295
 smp_view page --axis tick --settle => settled page by ticks 0 4294967295
+smp_view page --axis=time => page by time 0 4294967295
 smp_view report => report table
 smp_view report --json => report object
 smp_view report --settle => report settled table
 smp_view report run.json --json --settle => report settled object file run.json
 smp_view check --at-most A.run=3 => check A.run most 3
+smp_view check --at-most A.run=18446744073709551615 => check A.run most 18446744073709551615
 smp_view check --at-least a=b.run=+3 --settle f => check settled a=b.run least 3 file f
 smp_view check --at-least A.run=1 --at-most=-x.run=2 => check -x.run most 2 A.run least 1
 smp_view advise --task A --less run => advise A.run priority mask order best 10
@@ -135,7 +138,7 @@ smp_view check --at-most 3 => bad
 smp_view check --at-most A.run => bad
 smp_view check --at-most A.run= => bad
 smp_view check --at-most A.run=-1 => bad
-smp_view check --at-most A.run=4294967296 => bad
+smp_view check --at-most A.run=18446744073709551616 => bad
 smp_view check --at-most A.run=3 --at-least B.run=x => bad
 smp_view check --at-most A.run=3 --json => bad
 smp_view advise => bad
@@ -151,6 +154,7 @@ smp_view advise --task A --task B --less run => bad
 smp_view advise --task A --less run --from 3 => bad
 smp_view timeline -3 => bad
 smp_view timeline --axis core => bad
+smp_view timeline --axis times => bad
 smp_view timeline --axis => bad
 smp_view timeline --axis tick --axis tick => bad
 smp_view timeline --task A => bad
@@ -320,6 +324,7 @@ fn extent_printed(alloc: Global, extent: Extent) -> Result<String, AllocError> {
     match extent.axis {
         Axis::Places => format!(in alloc; "{from} {to}"),
         Axis::Ticks => format!(in alloc; "by ticks {from} {to}"),
+        Axis::Time => format!(in alloc; "by time {from} {to}"),
     }
 }
 

@@ -127,7 +127,7 @@ Arguments:
 
 Options:
       --settle        Shows settled runs: what a target makes of the calls, ticks and interrupts
-      --axis <AXIS>   What a column is of: place, also if left out, or tick
+      --axis <AXIS>   What a column is of: place, also if left out, tick or time
       --from <PLACE>  The first place that is shown, or 0 if left out
       --to <PLACE>    The last place that is shown, or the last of the run if left out
       --strict        Ends with status 1 where an edit or a step of the run is refused
@@ -135,7 +135,8 @@ Options:
 
 A picture shows at most 4000 places. With --axis tick each tick is ruled, and has as many \
     columns
-as the run with more places in it needs, so that two runs stand tick by tick.
+as the run with more places in it needs, so that two runs stand tick by tick. With --axis time a
+place is as wide as the time until the next one, and one column at least.
 
 Example: smp_view timeline examples/questions/shared-mutex.json
 ";
@@ -222,7 +223,7 @@ Arguments:
 
 Options:
       --settle        Shows settled runs: what a target makes of the calls, ticks and interrupts
-      --axis <AXIS>   What a column is of: place, also if left out, or tick
+      --axis <AXIS>   What a column is of: place, also if left out, tick or time
       --from <PLACE>  The first place that is shown, or 0 if left out
       --to <PLACE>    The last place that is shown, or the last of the run if left out
       --strict        Ends with status 1 where an edit or a step of the run is refused

@@ -1,10 +1,13 @@
 //! Pictures.
 
-use crate::samples::{FIRST_RUN, HINDERED, ONE_QUEUE, SUSPENDED, WOKEN_AMONG_IDLE, session_in};
-use bench_types::Step;
+use crate::samples::{
+    FIRST_RUN, HINDERED, ONE_QUEUE, PASSED, SUSPENDED, WOKEN_AMONG_IDLE, session_in,
+};
+use bench_types::{CheckedSession, Step};
+use run_columns::{tick_columns, time_columns};
 use run_pictures::{
     Axis, Extent, PlacedRun, law_of_bars, law_of_first_columns, law_of_hindrances, law_of_legends,
-    law_of_queues, law_of_waits, tick_columns, timeline, timelines,
+    law_of_queues, law_of_waits, timeline, timelines,
 };
 use run_views::Places;
 use smp_kernel::Meter;
@@ -132,6 +135,39 @@ const LOWER: [Step; 4] = [
     Step::Tick,
 ];
 
+/// Steps of which the third place of the upper run begins behind 10 units of time; the second and
+/// third of the lower begin behind 5.
+const EARLY: [Step; 4] = [
+    Step::Pass { units: 3 },
+    Step::Switch { core: 0 },
+    Step::Pass { units: 7 },
+    Step::Tick,
+];
+
+const LATE: [Step; 2] = [Step::Pass { units: 5 }, Step::Tick];
+
+/// The row of time stands above the others. The pass of 640 units is 160 columns wide, a column for
+/// each 4 units; that of 900 is 225, and the tick is ruled. A switch has one column. Numbers stand
+/// where they fit.
+const BY_TIME: &str =
+    "<text x='8' y='15'>time in units, <tspan x='8' dy='13'>1000 a tick</tspan></text>
+<text class='s' x='164' y='28'>0</text>
+<text class='s' x='1124' y='28'>640</text>
+<text class='s' x='2480' y='28'>1540</text>
+<text class='s' x='1124' y='43'>3</text>
+<text class='s' x='2516' y='43'>7</text>
+<rect class='z' x='156' y='32' width='6' height='14'><title>step 1: switch core 0
+<rect class='z' x='162' y='32' width='960' height='14'><title>step 2: pass units 640
+<rect class='z' x='1122' y='32' width='1350' height='14'><title>step 3: pass units 900
+<rect class='z' x='2472' y='32' width='6' height='14'><title>step 4: tick
+<path class='g' d='M2478 32V260'/>";
+
+/// By places each has the time before it.
+const TIMES: &str = "<text class='s' x='152' y='28'>0</text>
+<text class='s' x='272' y='28'>640</text>
+<text class='s' x='312' y='28'>1540</text>
+<text class='s' x='512' y='28'>1575</text>";
+
 const ALL: Extent = Extent {
     places: Places {
         from: 0,
@@ -145,7 +181,7 @@ fn a_picture_of_a_run(rt: HostRuntime) -> Result<(), Fail> {
     let alloc = rt.alloc();
     let session = session_in(alloc, FIRST_RUN)?;
     let mut meter = Meter::new(&rt);
-    match timeline(alloc, &mut meter, ALL, &session)? {
+    match timeline(alloc, &mut meter, ALL, &alone(&session))? {
         Ok(picture) => {
             expect_printed(&rt, picture.as_str(), PRINTED);
             expect_printed(&rt, picture.as_str(), LAID_OUT);
@@ -162,7 +198,7 @@ fn a_picture_of_what_is_in_the_way(rt: HostRuntime) -> Result<(), Fail> {
     let alloc = rt.alloc();
     let session = session_in(alloc, HINDERED)?;
     let mut meter = Meter::new(&rt);
-    match timeline(alloc, &mut meter, ALL, &session)? {
+    match timeline(alloc, &mut meter, ALL, &alone(&session))? {
         Ok(picture) => {
             expect_each(&rt, picture.as_str(), &IN_THE_WAY);
             expect_each(&rt, picture.as_str(), &BESIDE);
@@ -181,7 +217,7 @@ fn a_picture_of_a_queue(rt: HostRuntime) -> Result<(), Fail> {
     let alloc = rt.alloc();
     let session = session_in(alloc, ONE_QUEUE)?;
     let mut meter = Meter::new(&rt);
-    match timeline(alloc, &mut meter, ALL, &session)? {
+    match timeline(alloc, &mut meter, ALL, &alone(&session))? {
         Ok(picture) => expect_printed(&rt, picture.as_str(), QUEUED),
         Err(_) => panic!(rt; "too long"),
     }
@@ -194,7 +230,7 @@ fn an_idle_task_is_lower_than_priority_0(rt: HostRuntime) -> Result<(), Fail> {
     let alloc = rt.alloc();
     let session = session_in(alloc, WOKEN_AMONG_IDLE)?;
     let mut meter = Meter::new(&rt);
-    match timeline(alloc, &mut meter, ALL, &session)? {
+    match timeline(alloc, &mut meter, ALL, &alone(&session))? {
         Ok(picture) => expect_each(&rt, picture.as_str(), &AMONG_IDLE),
         Err(_) => panic!(rt; "too long"),
     }
@@ -206,7 +242,7 @@ fn a_picture_of_suspended_tasks(rt: HostRuntime) -> Result<(), Fail> {
     let alloc = rt.alloc();
     let session = session_in(alloc, SUSPENDED)?;
     let mut meter = Meter::new(&rt);
-    match timeline(alloc, &mut meter, ALL, &session)? {
+    match timeline(alloc, &mut meter, ALL, &alone(&session))? {
         Ok(picture) => {
             expect_each(&rt, picture.as_str(), &AWAY);
             assert!(rt; !picture.contains("blocked"));
@@ -235,6 +271,14 @@ fn a_picture_of_two_runs_in_columns(rt: HostRuntime) -> Result<(), Fail> {
     }
     law_of_first_columns();
     Ok(())
+}
+
+// A run whose places stand at their numbers.
+fn alone(session: &CheckedSession) -> PlacedRun<'_> {
+    PlacedRun {
+        session,
+        columns: &[],
+    }
 }
 
 fn expect_each(rt: &impl Abort, picture: &str, wanted: &[&str]) {
@@ -269,6 +313,53 @@ fn a_picture_by_ticks(rt: HostRuntime) -> Result<(), Fail> {
     };
     match timelines(alloc, &mut meter, extent, &run, &run)? {
         Ok(picture) => expect_printed(&rt, picture.as_str(), RULES),
+        Err(_) => panic!(rt; "too long"),
+    }
+    Ok(())
+}
+
+/// A time at which neither run has a place has one column, and a time at which one run has more
+/// places as many as that run needs.
+#[test]
+fn times_of_two_runs_line_up(rt: HostRuntime) -> Result<(), Fail> {
+    let columns = time_columns(rt.alloc(), 10, 0, 3, &EARLY, &LATE)?;
+    assert!(rt; columns.before.as_slice() == [0, 3, 4, 12, 13, 14].as_slice());
+    assert!(rt; columns.after.as_slice() == [0, 6, 7, 8].as_slice());
+    Ok(())
+}
+
+/// The time that is shown decides how much of it a column is: of 4000 units it is 11.
+#[test]
+fn columns_have_the_time_that_is_shown(rt: HostRuntime) -> Result<(), Fail> {
+    let steps = [Step::Pass { units: 4000 }, Step::Pass { units: 100 }];
+    let columns = time_columns(rt.alloc(), 1000, 0, 0, &steps, &steps)?;
+    assert!(rt; columns.before.as_slice() == [0, 363, 372, 373].as_slice());
+    let columns = time_columns(rt.alloc(), 1000, 1, 2, &steps, &steps)?;
+    assert!(rt; columns.before.as_slice() == [0, 4000, 4100, 4101].as_slice());
+    Ok(())
+}
+
+#[test]
+fn a_picture_by_time(rt: HostRuntime) -> Result<(), Fail> {
+    let alloc = rt.alloc();
+    let session = session_in(alloc, PASSED)?;
+    let mut meter = Meter::new(&rt);
+    let steps = session.steps();
+    let columns = time_columns(alloc, 1000, 0, u32::MAX, steps, steps)?;
+    let run = PlacedRun {
+        session: &session,
+        columns: columns.before.as_slice(),
+    };
+    let extent = Extent {
+        axis: Axis::Time,
+        ..ALL
+    };
+    match timeline(alloc, &mut meter, extent, &run)? {
+        Ok(picture) => expect_printed(&rt, picture.as_str(), BY_TIME),
+        Err(_) => panic!(rt; "too long"),
+    }
+    match timeline(alloc, &mut meter, ALL, &alone(&session))? {
+        Ok(picture) => expect_printed(&rt, picture.as_str(), TIMES),
         Err(_) => panic!(rt; "too long"),
     }
     Ok(())

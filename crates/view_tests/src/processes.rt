@@ -43,7 +43,7 @@ fn texts_that_are_told_in_full(rt: HostRuntime) -> Result<(), Fail> {
             "smp_view timeline --axis core",
             2,
             "",
-            "error: --axis takes place or tick\n\nFor more information, try '--help'.\n",
+            "error: --axis takes place, tick or time\n\nFor more information, try '--help'.\n",
         ),
         (
             "smp_view advise --task A --less run --over masks",

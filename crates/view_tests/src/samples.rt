@@ -47,6 +47,17 @@ pub const SUSPENDED: &str = "{\"format\": 3, \"cores\": 2, \"priorities\": 5, \"
     {\"do\": \"resume\", \"core\": 1, \"by\": \"C\", \"to\": \"A\"}, \
     {\"do\": \"switch\", \"core\": 1}]}";
 
+/// Time goes by where A waits for a tick: 640 units, 900, and behind the tick 20 and 15.
+pub const PASSED: &str = "{\"format\": 3, \"cores\": 2, \"priorities\": 5, \"slicing\": false, \
+    \"tick\": 0, \"mutexes\": 0, \"notes\": 1, \"queues\": [], \"units\": 1000, \
+    \"tasks\": [{\"name\": \"A\", \"priority\": 2, \"mask\": 3}, \
+    {\"name\": \"B\", \"priority\": 1, \"mask\": 3}, {\"name\": \"C\", \"priority\": 1, \"mask\": 3}], \
+    \"steps\": [{\"do\": \"delay\", \"core\": 0, \"by\": \"A\", \"ticks\": 1}, \
+    {\"do\": \"switch\", \"core\": 0}, {\"do\": \"pass\", \"units\": 640}, \
+    {\"do\": \"pass\", \"units\": 900}, {\"do\": \"tick\"}, {\"do\": \"pass\", \"units\": 20}, \
+    {\"do\": \"switch\", \"core\": 1}, {\"do\": \"pass\", \"units\": 15}, \
+    {\"do\": \"finish\", \"core\": 1, \"by\": \"A\"}]}";
+
 /// B is kept from both cores, in turn by higher tasks, a hold, preemption that is off, its mask and
 /// a switch that is to come; then A is, and C while one core alone is asked for it.
 pub const HINDERED: &str = "{\"format\": 1, \"cores\": 2, \"priorities\": 8, \"slicing\": false, \

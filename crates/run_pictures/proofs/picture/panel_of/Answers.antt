@@ -9,13 +9,13 @@ unfolding run_looks
 returns-clause-numbered c =
     let places = c.args.places in
     let session = c.args.run.now.session.now in
-    let checked = c.header.ensures.checked in
+    let checked = c.header-header.ensures.checked in
     let seen_run = c.in_ok-run_looks.ensures in
     let framed = c.in_ok-frame.ensures in
     let few = looks_few places session.header session.steps (omega arith) (omega (arith, checked.few)) in
     let some = looks_counted places session.header session.steps (omega (arith, checked.few)) in
     let limits = header_facts session.header (passes_whole session.header checked.checked.header.passes) in
-    let same = c.header.ensures.header in
+    let same = c.header-header.ensures.header in
     record {
       places = rw (seen_run, framed) few;
       looks = rw seen_run some;

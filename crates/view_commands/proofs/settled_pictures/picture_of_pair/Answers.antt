@@ -5,9 +5,9 @@ use Rattle.view_commands.proofs.settled_pictures.picture_of_pair.Goals as goal
 
 pub returns : goal.returns
 returns c =
-    let axis = c.args.extent.axis in
+    let extent = c.args.extent in
     let pair = c.args.pair.now in
     let before = ap₂ drawn_of c.session.ensures (c.as_slice.ensures ∙ c.in_ok-columns.ensures.before) in
     let after = ap₂ drawn_of c.session-2.ensures (c.as_slice-2.ensures ∙ c.in_ok-columns.ensures.after) in
-    same_pictured c.args.extent (drawn_before axis pair) (drawn_after axis pair) _ _ c.in_ok-timelines.field-0 c.answer_output.result before after
+    same_pictured extent (drawn_before extent pair) (drawn_after extent pair) _ _ c.in_ok-timelines.field-0 c.answer_output.result before after
     c.in_ok-timelines.ensures.picture c.answer_output.ensures

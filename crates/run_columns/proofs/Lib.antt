@@ -1,0 +1,2 @@
+pub mod LinedUp
+pub mod Timed

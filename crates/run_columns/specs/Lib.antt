@@ -1,0 +1,2 @@
+pub mod SlotColumns
+pub mod TimeSlots

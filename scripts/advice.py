@@ -93,22 +93,37 @@ def names_of(session):
         found += report.queue_waits(session) + report.suspensions(session)
         for one in found:
             yield from (f"{name}.{one}", f"{name}.{one}.longest")
-        counts = ["switches", "inheritances", "top_priority", "timeouts"]
-        counts += [f"refused.{code}" for code in report.CODES]
-        yield from (f"{name}.{one}" for one in (*counts, "not_made"))
+        counts = ["switches", "preempted", "inheritances", "top_priority", "timeouts"]
+        counts += ["late", "notifications.lost", *(f"refused.{code}" for code in report.CODES)]
+        yield from (f"{name}.{one}" for one in counts)
+        for one in ("inherited", "preemption_off"):
+            yield from (f"{name}.{one}", f"{name}.{one}.longest")
+        for one in report.call_names(session):
+            yield from (f"{name}.{one}", f"{name}.{one}.total", f"{name}.{one}.longest")
+        yield f"{name}.not_made"
     for core in range(session["cores"]):
-        for one in ("user", "idle", "due"):
+        for one in ("user", "idle", "due", "held"):
             yield from (f"core.{core}.{one}", f"core.{core}.{one}.longest")
+        yield from (f"core.{core}.{one}" for one in ("switches", "interrupts"))
     for mutex in range(session["mutexes"]):
-        yield from (f"mutex.{mutex}.held", f"mutex.{mutex}.held.longest", f"mutex.{mutex}.waits")
+        rest = ["held", "held.longest", "waits", "refused"]
+        yield from (f"mutex.{mutex}.{one}" for one in rest)
     for queue in report.queues_of(session):
         rest = ["messages", "empty", "empty.longest", "full", "full.longest", "waits"]
         yield from (f"queue.{queue}.{one}" for one in rest)
+    yield from ("run.time", "run.steps", "run.not_made")
+
+
+def condition_of(session, name):
+    """The condition that a number is of, if it is of one."""
+    counts, condition = set(report.all_counts(session)), name.removesuffix(".longest")
+    condition = condition.removesuffix(".total") if name not in counts else condition
+    return condition if name not in counts and condition in report.all_conditions(session) else None
 
 
 def unit(session, name):
     """What stands behind a number of time, where a tick has more than one unit."""
-    of_time = name.removesuffix(".longest") in report.all_conditions(session)
+    of_time = name == "run.time" or condition_of(session, name) is not None
     return " units" if of_time and report.units_of(session) else ""
 
 
@@ -130,20 +145,18 @@ def check(document, settled, limits):
         value = values[name]
         if value <= bound if kind == "most" else value >= bound:
             continue
-        longest = name if name.endswith(".longest") else f"{name}.longest"
+        longest = f"{condition_of(session, name)}.longest"
         begins = f"; the longest stretch begins at place {places[longest]}" if longest in places else ""
         lines.append(f"{name} is {value}{unit(session, name)}, at {kind} {bound}{begins}\n")
     return (1 if lines else 0), "".join(lines), ""
 
 
-def costs(session, task, before, after):
-    """What the numbers of other tasks have become, where they differ."""
-    for other in session["tasks"]:
-        if other["name"] == task:
-            continue
+def costs(session, judged, before, after):
+    """What the numbers of tasks have become, but for the judged one, where they differ."""
+    for task in session["tasks"]:
         for one in COSTS:
-            name = f"{other['name']}.{one}"
-            if before.get(name) != after.get(name):
+            name = f"{task['name']}.{one}"
+            if name != judged and before.get(name) != after.get(name):
                 yield f"   {name} {difference(before[name], after[name])}\n"
 
 
@@ -163,7 +176,7 @@ def advise(document, settled, task, number, families, count):
     lines = [f"{name} is {before[name]}{unit(session, name)}; {len(tried)} changes tried\n"]
     for rank, (key, words, after) in enumerate(sorted(judged, key=lambda one: one[0])[:count], 1):
         lines.append(f"{rank}. {words}: {difference(before[name], key[0])}\n")
-        lines += costs(session, task, before, after)
+        lines += costs(session, name, before, after)
     return 0, "".join(lines), ""
 
 

@@ -737,6 +737,9 @@ run 'a report of a file' 0 '     value number
          1 A.blocked.delay
          1 A.blocked.delay.longest from place 2
          2 A.top_priority
+         1 A.calls.delay
+         1 A.calls.delay.total
+         1 A.calls.delay.longest from place 2
          1 B.run
          1 B.run.longest from place 2
          1 B.run.1
@@ -750,8 +753,11 @@ run 'a report of a file' 0 '     value number
          1 C.top_priority
          1 core.0.user
          1 core.0.user.longest from place 2
+         1 core.0.switches
          1 core.1.user
          1 core.1.user.longest from place 2
+         1 run.time
+         5 run.steps
 ' '' report "$first"
 run 'limits that are kept' 0 '' '' check --at-most A.run=0 --at-least=C.run=1 "$first"
 run 'limits that are not kept' 1 'A.blocked.delay is 1, at most 0; the longest stretch begins at place 2
@@ -764,16 +770,20 @@ control.run is 1, at least 2; the longest stretch begins at place 26
 jq .session examples/what-if/ends-an-inversion.json >"$folder/in"
 run 'advice' 0 'control.ready is 3; 20 changes tried
 1. priority of logger 4, was 1: 0 (-3)
+   control.run 3 (+3)
+   control.ready.inverted 0 (-3)
    network.run 0 (-3)
    network.ready 3 (+3)
    network.not_made 1 (+1)
 2. mask of logger 1, was 3: 0 (-3)
+   control.ready.inverted 0 (-3)
    logger.run 0 (-3)
    logger.ready 3 (+3)
    logger.not_made 2 (+2)
 ' '' advise --settle --task control --less ready --best 2
 run 'advice on masks alone' 0 'control.ready.inverted is 3; 6 changes tried
 1. mask of logger 1, was 3: 0 (-3)
+   control.ready 0 (-3)
    logger.run 0 (-3)
    logger.ready 3 (+3)
    logger.not_made 2 (+2)

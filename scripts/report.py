@@ -57,18 +57,41 @@ def runs_out(table, task):
     return False
 
 
+def cause_of(call):
+    """What a call waits for, as numbers name it; none where it waits for nothing."""
+    cause = BLOCKED_BY.get(call["do"])
+    if cause == "mutex":
+        return f"mutex.{call['mutex']}"
+    return f"queue.{call['queue']}.{WAYS[call['do']]}" if cause == "queue" else cause
+
+
 def call_events(table, task, call, code):
     """The events that a call is by itself, of which some are told by what stands before it."""
     if code is not None:
         yield ("refused", task, code)
-    elif call["do"] == "finish":
+        return
+    if cause_of(call) is not None:
+        yield ("calls", task, cause_of(call))
+    if call["do"] == "delay_until" and not settle.would_block(table, task, call):
+        yield ("late", task)
+    if call["do"] == "finish":
         if runs_out(table, task):
             yield ("timeouts", task)
-    elif call["do"] == "mutex_take" and call["ticks"] > 0:
+            if table.unfinished[task]["do"] == "mutex_take":
+                yield ("refused", f"mutex.{table.unfinished[task]['mutex']}")
+    elif call["do"] == "mutex_take":
         if table.holder[call["mutex"]] is not None:
-            yield ("waits", f"mutex.{call['mutex']}")
+            yield ("waits" if call["ticks"] > 0 else "refused", f"mutex.{call['mutex']}")
     elif call["do"] in WAYS and settle.would_block(table, task, call):
         yield ("waits", f"queue.{call['queue']}")
+
+
+def overruns(table, step):
+    """The task that loses one of two values by a notification."""
+    if step["do"] in ("notify", "isr_notify") and step["action"] in ("set", "set_new"):
+        task = table.number[step["to"]]
+        if table.state[task][step.get("index", 0)] == "received":
+            yield ("notifications.lost", task)
 
 
 def made(table, step):
@@ -77,17 +100,23 @@ def made(table, step):
     before, in_use = list(table.current), list(table.in_use)
     events = []
     if do in settle.NOT_CALLS:
+        events += overruns(table, step)
         settle.come_from_outside(table, step)
+        if do.startswith("isr_"):
+            events.append(("interrupts", f"core.{core}"))
     elif do == "switch":
         if table.hold_core is None and settle.is_due(table, core):
             settle.switch(table, core)
             if table.current[core] != before[core]:
-                events.append(("switches", table.current[core]))
+                events += [("switches", table.current[core]), ("switches", f"core.{core}")]
+                if table.ready[before[core]]:
+                    events.append(("preempted", before[core]))
     else:
         task = table.number[step["by"]]
         code = refusal(table, core, task, step)
         events += call_events(table, task, step, code)
         if code is None:
+            events += overruns(table, step)
             settle.CALLS[do](table, core, task, step)
     rows = enumerate(zip(in_use, table.in_use, table.base))
     return events + [("inheritances", t) for t, (was, now, base) in rows if was < now and base < now]
@@ -112,6 +141,13 @@ def held_up(table, task):
 
 def task_conditions(table, task):
     """The names, after the task's, of the conditions of a task that hold."""
+    call = table.unfinished[task]
+    if call is not None and cause_of(call) is not None:
+        yield f"calls.{cause_of(call)}"
+    if table.base[task] < table.in_use[task]:
+        yield "inherited"
+    if not table.preempt[task]:
+        yield "preemption_off"
     if task in table.current:
         yield from ("run", f"run.{table.current.index(task)}")
     if table.ready[task]:
@@ -123,7 +159,6 @@ def task_conditions(table, task):
     if table.suspended[task]:
         yield "suspended"
         return
-    call = table.unfinished[task]
     cause = BLOCKED_BY.get(call["do"])
     if cause is None:
         return
@@ -142,6 +177,8 @@ def conditions(table, names):
         yield from (f"{name}.{rest}" for rest in task_conditions(table, task))
     for core, task in enumerate(table.current):
         yield f"core.{core}.{'idle' if task < table.cores else 'user'}"
+        if table.hold_core == core:
+            yield f"core.{core}.held"
         if settle.is_due(table, core):
             yield f"core.{core}.due"
     for mutex, holder in enumerate(table.holder):
@@ -157,8 +194,8 @@ def conditions(table, names):
 def event_name(event, names):
     """The name of what an event is counted by; none of an idle task."""
     kind, of, *code = event
-    if kind == "waits":
-        return f"{of}.waits"
+    if isinstance(of, str):
+        return f"{of}.{kind}"
     return ".".join([names[of], kind, *code]) if of in names else None
 
 
@@ -183,6 +220,13 @@ def queue_waits(session):
     return ["blocked.queue", *ways] if ways else []
 
 
+def call_names(session):
+    """The names of the calls that may wait."""
+    yield from ("calls.delay", "calls.notification")
+    yield from (f"calls.mutex.{mutex}" for mutex in range(session["mutexes"]))
+    yield from (f"calls.queue.{queue}.{way}" for queue in queues_of(session) for way in WAYS.values())
+
+
 def suspensions(session):
     """The name of being suspended, where tasks can be."""
     return ["suspended"] if "queues" in session else []
@@ -196,9 +240,10 @@ def all_conditions(session):
         rest += ["blocked.delay", "blocked.notification", "blocked.mutex", "blocked.mutex.held_up"]
         rest += [f"blocked.mutex.{mutex}" for mutex in mutexes]
         rest += queue_waits(session) + suspensions(session)
+        rest += ["inherited", "preemption_off", *call_names(session)]
         yield from (f"{task['name']}.{one}" for one in rest)
     for core in cores:
-        yield from (f"core.{core}.{one}" for one in ("user", "idle", "due"))
+        yield from (f"core.{core}.{one}" for one in ("user", "idle", "due", "held"))
     yield from (f"mutex.{mutex}.held" for mutex in mutexes)
     yield from (f"queue.{queue}.{one}" for queue in queues_of(session) for one in ("empty", "full"))
 
@@ -206,10 +251,14 @@ def all_conditions(session):
 def all_counts(session):
     """The names of all that is counted in steps or calls."""
     for task in session["tasks"]:
-        rest = ["switches", "inheritances", "top_priority", "timeouts", "not_made"]
-        rest += [f"refused.{code}" for code in CODES]
+        rest = ["switches", "preempted", "inheritances", "top_priority", "timeouts", "not_made"]
+        rest += ["late", "notifications.lost"]
+        rest += [f"refused.{code}" for code in CODES] + list(call_names(session))
         yield from (f"{task['name']}.{one}" for one in rest)
-    yield from (f"mutex.{mutex}.waits" for mutex in range(session["mutexes"]))
+    for core in range(session["cores"]):
+        yield from (f"core.{core}.{one}" for one in ("switches", "interrupts"))
+    for mutex in range(session["mutexes"]):
+        yield from (f"mutex.{mutex}.{one}" for one in ("waits", "refused"))
     for queue in queues_of(session):
         yield from (f"queue.{queue}.{one}" for one in ("messages", "waits"))
 
@@ -219,8 +268,10 @@ def measured(session, steps, left):
     table = settle.start(session)
     names = {number: name for name, number in table.number.items()}
     values = dict.fromkeys(all_counts(session), 0)
-    for name in all_conditions(session):
-        values[name] = values[f"{name}.longest"] = 0
+    # The time in calls has a longer name than their count.
+    totals = {name: f"{name}.total" if name in values else name for name in all_conditions(session)}
+    for name, total in totals.items():
+        values[total] = values[f"{name}.longest"] = 0
     places, stretches = {}, {}
     tops = {task: table.in_use[task] for task in names}
     most = list(table.messages)
@@ -229,7 +280,7 @@ def measured(session, steps, left):
         stretches = {name: began for name, began in stretches.items() if name in found}
         time = time_of(session, step)
         for name in found if time else ():
-            values[name] += time
+            values[totals[name]] += time
             before, began = stretches.get(name, (0, place))
             stretches[name] = (before + time, began)
             if before + time > values[f"{name}.longest"]:
@@ -242,6 +293,8 @@ def measured(session, steps, left):
     for task, name in names.items():
         values[f"{name}.top_priority"] = tops[task]
         values[f"{name}.not_made"] = sum(call["by"] == name for call in left)
+    values["run.time"] = sum(time_of(session, step) for step in steps)
+    values["run.steps"], values["run.not_made"] = len(steps), len(left)
     for queue, messages in enumerate(most):
         values[f"queue.{queue}.messages"] = messages
     return {"places": places, "values": values}

@@ -1,5 +1,5 @@
 -- The names of figures.
-use Rattle.std.specs.Prelude.{ℕ, ◌==◌, List, [], ◌++◌, codes, decimal, if◌then◌else◌}
+use Rattle.std.specs.Prelude.{ℕ, ◌==◌, ◌&&◌, not, Bool, true, false, List, [], ◌++◌, codes, decimal, if◌then◌else◌}
 use Rattle.bench_types.specs.Codes.{refusal_code}
 use Rattle.bench_types.specs.declared.header.Header.{Header}
 use Rattle.bench_types.specs.declared.step.Direction.{Direction}
@@ -8,11 +8,13 @@ use Rattle.bench_types.specs.Header.{name_of}
 use Rattle.run_numbers.specs.declared.subject.Cause.{Cause}
 use Rattle.run_numbers.specs.declared.subject.Cause.TheVariants.{Delay, Notification, AnyMutex, Mutex, AnyQueue, Queue}
 use Rattle.run_numbers.specs.declared.subject.Condition.{Condition}
-use Rattle.run_numbers.specs.declared.subject.Condition.TheVariants.{Running, RunningOn, WantsCore, Inverted, Blocked, HeldUp, Suspended, Busy, Idle, Due, Held, Empty, Full}
+use Rattle.run_numbers.specs.declared.subject.Condition.TheVariants.{Running, RunningOn, WantsCore, Inverted, Blocked, HeldUp, Suspended, InCall, Raised, PreemptionOff, Busy, Idle, Due, Holding, Held, Empty, Full}
 use Rattle.run_numbers.specs.declared.subject.Event.{Event}
-use Rattle.run_numbers.specs.declared.subject.Event.TheVariants.{SwitchedIn, Inherits, TimesOut, Refused, Awaited, QueueAwaited}
+use Rattle.run_numbers.specs.declared.subject.Event.TheVariants.{SwitchedIn, Inherits, TimesOut, Refused, Late, Called, SwitchedOn, PutOff, Loses, Interrupted, NotTaken, Awaited, QueueAwaited}
 use Rattle.run_numbers.specs.declared.subject.Subject.{Subject}
-use Rattle.run_numbers.specs.declared.subject.Subject.TheVariants.{Time, Steps, TopPriority, MostMessages, NotMade}
+use Rattle.run_numbers.specs.declared.subject.Subject.TheVariants.{Time, Steps, TopPriority, MostMessages, NotMade, Run}
+use Rattle.run_numbers.specs.declared.subject.Whole.{Whole}
+use Rattle.run_numbers.specs.declared.subject.Whole.TheVariants as whole
 use Rattle.report_figures.specs.declared.figures.Part.{Part}
 use Rattle.report_figures.specs.declared.figures.Part.TheVariants.{Total, Longest}
 
@@ -42,9 +44,14 @@ condition_name header (Blocked task cause) =
     name_of header task ++ codes ".blocked." ++ cause_name cause
 condition_name header (HeldUp task) = name_of header task ++ codes ".blocked.mutex.held_up"
 condition_name header (Suspended task) = name_of header task ++ codes ".suspended"
+condition_name header (InCall task cause) =
+    name_of header task ++ codes ".calls." ++ cause_name cause
+condition_name header (Raised task) = name_of header task ++ codes ".inherited"
+condition_name header (PreemptionOff task) = name_of header task ++ codes ".preemption_off"
 condition_name header (Busy core) = codes "core." ++ decimal core ++ codes ".user"
 condition_name header (Idle core) = codes "core." ++ decimal core ++ codes ".idle"
 condition_name header (Due core) = codes "core." ++ decimal core ++ codes ".due"
+condition_name header (Holding core) = codes "core." ++ decimal core ++ codes ".held"
 condition_name header (Held mutex) = codes "mutex." ++ decimal mutex ++ codes ".held"
 condition_name header (Empty queue) = codes "queue." ++ decimal queue ++ codes ".empty"
 condition_name header (Full queue) = codes "queue." ++ decimal queue ++ codes ".full"
@@ -56,8 +63,21 @@ event_name header (Inherits task) = name_of header task ++ codes ".inheritances"
 event_name header (TimesOut task) = name_of header task ++ codes ".timeouts"
 event_name header (Refused task why) =
     name_of header task ++ codes ".refused." ++ refusal_code why
+event_name header (Late task) = name_of header task ++ codes ".late"
+event_name header (Called task cause) =
+    name_of header task ++ codes ".calls." ++ cause_name cause
+event_name header (SwitchedOn core) = codes "core." ++ decimal core ++ codes ".switches"
+event_name header (PutOff task) = name_of header task ++ codes ".preempted"
+event_name header (Loses task) = name_of header task ++ codes ".notifications.lost"
+event_name header (Interrupted core) = codes "core." ++ decimal core ++ codes ".interrupts"
+event_name header (NotTaken mutex) = codes "mutex." ++ decimal mutex ++ codes ".refused"
 event_name header (Awaited mutex) = codes "mutex." ++ decimal mutex ++ codes ".waits"
 event_name header (QueueAwaited queue) = codes "queue." ++ decimal queue ++ codes ".waits"
+
+abbrev pub whole_name : Whole → List ℕ
+whole_name whole.Time = codes "run.time"
+whole_name whole.Steps = codes "run.steps"
+whole_name whole.NotMade = codes "run.not_made"
 
 -- the name of a subject
 unfoldable pub subject_name : Header → Subject → List ℕ
@@ -67,16 +87,25 @@ subject_name header (TopPriority task) = name_of header task ++ codes ".top_prio
 subject_name header (MostMessages queue) =
     codes "queue." ++ decimal queue ++ codes ".messages"
 subject_name header (NotMade task) = name_of header task ++ codes ".not_made"
+subject_name header (Run number) = whole_name number
 
--- what a total and a longest stretch add to the name of their subject
-abbrev pub part_name : Part → List ℕ
-part_name Total = []
-part_name Longest = codes ".longest"
+-- what a total and a longest stretch add to the name of their subject; the time in calls has the
+-- name of their number before it
+abbrev pub part_name : Subject → Part → List ℕ
+part_name (Time (InCall task cause)) Total = codes ".total"
+part_name subject Total = []
+part_name subject Longest = codes ".longest"
+
+-- a number of time
+abbrev pub is_time : Subject → Bool
+is_time (Time condition) = true
+is_time (Run whole.Time) = true
+is_time subject = false
 
 -- the unit of a number of time, where a tick has more than one
 abbrev pub unit_text : Header → Subject → List ℕ
-unit_text header (Time condition) = if header.config.units == 1 then [] else codes " units"
-unit_text header subject = []
+unit_text header subject =
+    if is_time subject && not (header.config.units == 1) then codes " units" else []
 
 -- how many units a tick has, where it has more than one
 abbrev pub units_line : Header → List ℕ
@@ -85,4 +114,4 @@ units_line header = if header.config.units == 1 then []
 
 -- the name of a figure
 abbrev pub figure_name : Header → Subject → Part → List ℕ
-figure_name header subject part = subject_name header subject ++ part_name part
+figure_name header subject part = subject_name header subject ++ part_name subject part

@@ -7,11 +7,13 @@ use Rattle.bench_types.specs.declared.reply.Refusal.{Refusal}
 use Rattle.bench_types.specs.declared.reply.Refusal.TheVariants as refusal
 use Rattle.bench_types.specs.declared.step.Direction.TheVariants.{Send, Receive}
 use Rattle.bench_types.specs.Step.{queue_total, settings_of}
+use Rattle.run_numbers.specs.declared.subject.Cause.{Cause}
 use Rattle.run_numbers.specs.declared.subject.Cause.TheVariants.{Delay, Notification, AnyMutex, Mutex, AnyQueue, Queue}
 use Rattle.run_numbers.specs.declared.subject.Condition.TheVariants as condition
 use Rattle.run_numbers.specs.declared.subject.Event.TheVariants as event
 use Rattle.run_numbers.specs.declared.subject.Subject.{Subject}
-use Rattle.run_numbers.specs.declared.subject.Subject.TheVariants.{Time, Steps, TopPriority, MostMessages, NotMade}
+use Rattle.run_numbers.specs.declared.subject.Subject.TheVariants.{Time, Steps, TopPriority, MostMessages, NotMade, Run}
+use Rattle.run_numbers.specs.declared.subject.Whole.TheVariants as whole
 
 -- the task is on a core, whichever, and on each
 abbrev pub on_core : ℕ → ℕ → List Subject
@@ -55,8 +57,36 @@ waits_of mutexes queues suspends task =
 -- what steps are to the task, and its greatest priority
 abbrev pub steps_of : ℕ → List Subject
 steps_of task =
-    Steps (event.SwitchedIn task) ∷ Steps (event.Inherits task) ∷ TopPriority task
-    ∷ Steps (event.TimesOut task) ∷ []
+    Steps (event.SwitchedIn task) ∷ Steps (event.PutOff task) ∷ Steps (event.Inherits task)
+    ∷ TopPriority task ∷ Steps (event.TimesOut task) ∷ Steps (event.Late task)
+    ∷ Steps (event.Loses task) ∷ []
+
+-- the task inherits its priority, and its preemption is off
+abbrev pub state_of : ℕ → List Subject
+state_of task = Time (condition.Raised task) ∷ Time (condition.PreemptionOff task) ∷ []
+
+-- the calls of the task that may wait for the cause, and the time in those that do
+abbrev pub calls_for : ℕ → Cause → List Subject
+calls_for task cause = Steps (event.Called task cause) ∷ Time (condition.InCall task cause) ∷ []
+
+-- those that take each of the mutexes
+abbrev pub takes_of : ℕ → ℕ → List Subject
+takes_of mutexes task = flat_map (λ mutex. calls_for task (Mutex mutex)) (numbers mutexes)
+
+-- those that send to the queue, and that receive from it
+abbrev pub transfers_at : ℕ → ℕ → List Subject
+transfers_at task queue =
+    calls_for task (Queue queue Send) ++ calls_for task (Queue queue Receive)
+
+-- those of each of the queues
+abbrev pub transfers_of : ℕ → ℕ → List Subject
+transfers_of queues task = flat_map (transfers_at task) (numbers queues)
+
+-- the calls of the task by what they may wait for
+unfoldable pub calls_by : ℕ → ℕ → ℕ → List Subject
+calls_by mutexes queues task =
+    calls_for task Delay ++ calls_for task Notification ++ takes_of mutexes task
+    ++ transfers_of queues task
 
 -- why a call is refused; the tenth reason is that of a switch
 abbrev pub refusals : List Refusal
@@ -72,7 +102,8 @@ refusals_of task = map (λ why. Steps (event.Refused task why)) refusals
 unfoldable pub task_subjects : Config → ℕ → Bool → ℕ → List Subject
 task_subjects config queues suspends task =
     on_core config.cores task ++ off_core task ++ waits_of config.mutexes queues suspends task
-    ++ steps_of task ++ refusals_of task ++ NotMade task ∷ []
+    ++ steps_of task ++ refusals_of task ++ state_of task ++ calls_by config.mutexes queues task
+    ++ NotMade task ∷ []
 
 -- of so many user tasks, whose numbers follow those of the idle tasks
 abbrev pub user_subjects : Config → ℕ → Bool → ℕ → List Subject
@@ -82,11 +113,14 @@ user_subjects config queues suspends count =
 -- all that is measured of a core
 abbrev pub core_subjects : ℕ → List Subject
 core_subjects core =
-    Time (condition.Busy core) ∷ Time (condition.Idle core) ∷ Time (condition.Due core) ∷ []
+    Time (condition.Busy core) ∷ Time (condition.Idle core) ∷ Time (condition.Due core)
+    ∷ Time (condition.Holding core) ∷ Steps (event.SwitchedOn core)
+    ∷ Steps (event.Interrupted core) ∷ []
 
 -- all that is measured of a mutex
 abbrev pub mutex_subjects : ℕ → List Subject
-mutex_subjects mutex = Time (condition.Held mutex) ∷ Steps (event.Awaited mutex) ∷ []
+mutex_subjects mutex =
+    Time (condition.Held mutex) ∷ Steps (event.Awaited mutex) ∷ Steps (event.NotTaken mutex) ∷ []
 
 -- all that is measured of a queue
 abbrev pub queue_subjects : ℕ → List Subject
@@ -102,10 +136,14 @@ queues_of header = queue_total (settings_of header)
 abbrev pub can_suspend : Header → Bool
 can_suspend header = is_some header.queues
 
--- task by task, core by core, mutex by mutex, queue by queue
+-- all that is measured of the run as a whole
+abbrev pub run_subjects : List Subject
+run_subjects = Run whole.Time ∷ Run whole.Steps ∷ Run whole.NotMade ∷ []
+
+-- task by task, core by core, mutex by mutex, queue by queue, and of the run
 abbrev pub subjects_of : Header → List Subject
 subjects_of header =
     user_subjects header.config (queues_of header) (can_suspend header) (length header.tasks)
     ++ flat_map core_subjects (numbers header.config.cores)
     ++ flat_map mutex_subjects (numbers header.config.mutexes)
-    ++ flat_map queue_subjects (numbers (queues_of header))
+    ++ flat_map queue_subjects (numbers (queues_of header)) ++ run_subjects

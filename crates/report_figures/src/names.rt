@@ -1,11 +1,11 @@
 //! The names of figures.
-ghost use Rattle.std.specs.Prelude.{◌≡◌, ◌++◌, OnOk, decimal, string_bytes};
+ghost use Rattle.std.specs.Prelude.{◌≡◌, ◌++◌, OnOk, codes, decimal, string_bytes};
 ghost use Rattle.bench_types.specs.Header.{name_of};
-ghost use Rattle.report_figures.specs.Names.{cause_name, condition_name, direction_name, event_name, figure_name, part_name, subject_name, unit_text, units_line};
+ghost use Rattle.report_figures.specs.Names.{cause_name, condition_name, direction_name, event_name, figure_name, is_time, part_name, subject_name, unit_text, units_line, whole_name};
 
 use crate::figures::Part;
 use bench_types::{Direction, Header};
-use run_numbers::{Cause, Condition, Event, Subject};
+use run_numbers::{Cause, Condition, Event, Subject, Whole};
 use std::alloc::AllocError;
 
 /// Writes the name of a figure after the text: the name of its subject, and of the longest stretch
@@ -20,7 +20,7 @@ pub fn push_name(
         (string_bytes text.new ≡ string_bytes text.old ++ figure_name header.now subject part) }
 {
     push_subject(text, header, subject)?;
-    text.push_str(part_name(part))
+    text.push_str(part_name(subject, part))
 }
 
 /// Writes the unit of a number of time after the text, where a tick has more than one.
@@ -32,10 +32,17 @@ pub(crate) fn push_unit(
     ensures { OnOk result
         (string_bytes text.new ≡ string_bytes text.old ++ unit_text header.now subject) }
 {
-    match subject {
-        Subject::Time(_) if header.config.units != 1 => text.push_str(" units"),
-        _ => Ok(()),
+    if is_time(subject) && header.config.units != 1 {
+        text.push_str(" units")
+    } else {
+        Ok(())
     }
+}
+
+fn is_time(subject: Subject) -> bool
+    ensures { result ≡ is_time subject }
+{
+    matches!(subject, Subject::Time(_) | Subject::Run(Whole::Time))
 }
 
 /// Writes after the text how many units of time a tick has, where it has more than one.
@@ -49,12 +56,23 @@ pub(crate) fn push_units(text: &mut String, header: &Header) -> Result<(), Alloc
     }
 }
 
-fn part_name(part: Part) -> &'static str
-    ensures { result.now ≡ part_name part }
+fn whole_name(number: Whole) -> &'static str
+    ensures { result.now ≡ whole_name number }
 {
-    match part {
-        Part::Total => "",
-        Part::Longest => ".longest",
+    match number {
+        Whole::Time => "run.time",
+        Whole::Steps => "run.steps",
+        Whole::NotMade => "run.not_made",
+    }
+}
+
+fn part_name(subject: Subject, part: Part) -> &'static str
+    ensures { result.now ≡ part_name subject part }
+{
+    match (subject, part) {
+        (Subject::Time(Condition::InCall { .. }), Part::Total) => ".total",
+        (_, Part::Total) => "",
+        (_, Part::Longest) => ".longest",
     }
 }
 
@@ -69,6 +87,7 @@ fn push_subject(text: &mut String, header: &Header, subject: Subject) -> Result<
         Subject::TopPriority { task } => push_of_task(text, header, task, ".top_priority"),
         Subject::MostMessages { queue } => push_numbered(text, "queue.", queue, ".messages"),
         Subject::NotMade { task } => push_of_task(text, header, task, ".not_made"),
+        Subject::Run(number) => text.push_str(whole_name(number)),
     }
 }
 
@@ -95,13 +114,28 @@ fn push_condition(
         }
         Condition::HeldUp { task } => push_of_task(text, header, task, ".blocked.mutex.held_up"),
         Condition::Suspended { task } => push_of_task(text, header, task, ".suspended"),
+        Condition::InCall { task, cause } => push_calls(text, header, task, cause),
+        Condition::Raised { task } => push_of_task(text, header, task, ".inherited"),
+        Condition::PreemptionOff { task } => { push_of_task(text, header, task, ".preemption_off") }
         Condition::Busy { core } => push_numbered(text, "core.", core, ".user"),
         Condition::Idle { core } => push_numbered(text, "core.", core, ".idle"),
         Condition::Due { core } => push_numbered(text, "core.", core, ".due"),
+        Condition::Holding { core } => push_numbered(text, "core.", core, ".held"),
         Condition::Held { mutex } => push_numbered(text, "mutex.", mutex, ".held"),
         Condition::Empty { queue } => push_numbered(text, "queue.", queue, ".empty"),
         Condition::Full { queue } => push_numbered(text, "queue.", queue, ".full"),
     }
+}
+
+// The calls of the task that may wait for the cause.
+fn push_calls(text: &mut String, header: &Header, task: u32, cause: Cause) -> Result<(), AllocError>
+    ensures { OnOk result
+        (string_bytes text.new
+        ≡ string_bytes text.old
+        ++ name_of header.now task ++ codes ".calls." ++ cause_name cause) }
+{
+    push_of_task(text, header, task, ".calls.")?;
+    push_cause(text, cause)
 }
 
 fn push_cause(text: &mut String, cause: Cause) -> Result<(), AllocError>
@@ -142,6 +176,13 @@ fn push_event(text: &mut String, header: &Header, event: Event) -> Result<(), Al
             push_of_task(text, header, task, ".refused.")?;
             text.push_str(why.code())
         }
+        Event::Late { task } => push_of_task(text, header, task, ".late"),
+        Event::Called { task, cause } => push_calls(text, header, task, cause),
+        Event::SwitchedOn { core } => push_numbered(text, "core.", core, ".switches"),
+        Event::PutOff { task } => push_of_task(text, header, task, ".preempted"),
+        Event::Loses { task } => push_of_task(text, header, task, ".notifications.lost"),
+        Event::Interrupted { core } => push_numbered(text, "core.", core, ".interrupts"),
+        Event::NotTaken { mutex } => push_numbered(text, "mutex.", mutex, ".refused"),
         Event::Awaited { mutex } => push_numbered(text, "mutex.", mutex, ".waits"),
         Event::QueueAwaited { queue } => push_numbered(text, "queue.", queue, ".waits"),
     }

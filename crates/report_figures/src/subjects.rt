@@ -4,14 +4,14 @@ ghost use Rattle.list_orders.specs.Search.{numbers};
 ghost use Rattle.bench_types.specs.Header.{header_check};
 ghost use Rattle.bench_types.specs.Step.{settings_of};
 ghost use Rattle.run_numbers.specs.Readings.{IsSubjectOf};
-ghost use Rattle.report_figures.specs.Subjects.{blocked_at, blocked_on, blocked_ways, core_subjects, mutex_subjects, off_core, on_core, queue_subjects, queues_of, refusals_of, steps_of, subjects_of, suspended_in, task_subjects, user_subjects, waits_of};
+ghost use Rattle.report_figures.specs.Subjects.{blocked_at, blocked_on, blocked_ways, calls_by, calls_for, core_subjects, mutex_subjects, off_core, on_core, queue_subjects, queues_of, refusals_of, run_subjects, steps_of, state_of, subjects_of, suspended_in, takes_of, task_subjects, transfers_at, transfers_of, user_subjects, waits_of};
 
 use bench_types::{Config, Direction, Header, Refusal};
-use run_numbers::{Cause, Condition, Event, Subject};
+use run_numbers::{Cause, Condition, Event, Subject, Whole};
 use std::alloc::{AllocError, Global};
 
 /// All that a run of a session with this header is measured by: task by task, then core by core,
-/// then mutex by mutex, then queue by queue. Idle tasks are left out.
+/// then mutex by mutex, then queue by queue, and of the run as a whole. Idle tasks are left out.
 #[tactic(auto, using(bench_types::proofs::Passes::checked_header))]
 pub fn subjects_of(alloc: Global, header: &Header) -> Result<Vec<Subject>, AllocError>
     requires { header_check header.now ≡ Ok tt }
@@ -34,6 +34,7 @@ pub fn subjects_of(alloc: Global, header: &Header) -> Result<Vec<Subject>, Alloc
     push_cores(&mut subjects, config.cores)?;
     push_mutexes(&mut subjects, config.mutexes)?;
     push_queues(&mut subjects, queues)?;
+    push_all(&mut subjects, &run_subjects())?;
     Ok(subjects)
 }
 
@@ -84,6 +85,8 @@ fn push_task(
     push_waits(subjects, config.mutexes, queues, suspends, task)?;
     push_all(subjects, &steps_of(task))?;
     push_refusals(subjects, task)?;
+    push_all(subjects, &state_of(task))?;
+    push_calls(subjects, config.mutexes, queues, task)?;
     subjects.push(Subject::NotMade { task })?;
     Ok(())
 }
@@ -196,14 +199,17 @@ fn push_suspended(subjects: &mut Vec<Subject>, suspends: bool, task: u32) -> Res
     Ok(())
 }
 
-fn steps_of(task: u32) -> [Subject; 4]
+fn steps_of(task: u32) -> [Subject; 7]
     ensures { result ≡ steps_of task }
 {
     [
         Subject::Steps(Event::SwitchedIn { task }),
+        Subject::Steps(Event::PutOff { task }),
         Subject::Steps(Event::Inherits { task }),
         Subject::TopPriority { task },
         Subject::Steps(Event::TimesOut { task }),
+        Subject::Steps(Event::Late { task }),
+        Subject::Steps(Event::Loses { task }),
     ]
 }
 
@@ -227,6 +233,85 @@ fn push_refusals(subjects: &mut Vec<Subject>, task: u32) -> Result<(), AllocErro
     Ok(())
 }
 
+fn state_of(task: u32) -> [Subject; 2]
+    ensures { result ≡ state_of task }
+{
+    [
+        Subject::Time(Condition::Raised { task }),
+        Subject::Time(Condition::PreemptionOff { task }),
+    ]
+}
+
+fn calls_for(task: u32, cause: Cause) -> [Subject; 2]
+    ensures { result ≡ calls_for task cause }
+{
+    [
+        Subject::Steps(Event::Called { task, cause }),
+        Subject::Time(Condition::InCall { task, cause }),
+    ]
+}
+
+#[tactic(auto, unfolding(crate::specs::Subjects::calls_by))]
+fn push_calls(
+    subjects: &mut Vec<Subject>,
+    mutexes: u32,
+    queues: u32,
+    task: u32,
+) -> Result<(), AllocError>
+    ensures { OnOk result
+        (subjects.new.items ≡ subjects.old.items ++ calls_by mutexes queues task) }
+{
+    push_all(subjects, &calls_for(task, Cause::Delay))?;
+    push_all(subjects, &calls_for(task, Cause::Notification))?;
+    push_takes(subjects, mutexes, task)?;
+    push_transfers(subjects, queues, task)
+}
+
+fn push_takes(subjects: &mut Vec<Subject>, mutexes: u32, task: u32) -> Result<(), AllocError>
+    ensures { OnOk result (subjects.new.items ≡ subjects.old.items ++ takes_of mutexes task) }
+{
+    for mutex in 0..mutexes {
+        push_all(subjects, &calls_for(task, Cause::Mutex(mutex)))?;
+    }
+    Ok(())
+}
+
+fn way_of(queue: u32, direction: Direction) -> Cause
+    ensures { result ≡ Cause.Queue queue direction }
+{
+    Cause::Queue { queue, direction }
+}
+
+fn transfers_at(task: u32, queue: u32) -> [Subject; 4]
+    ensures { result ≡ transfers_at task queue }
+{
+    let (send, receive) = (
+        way_of(queue, Direction::Send),
+        way_of(queue, Direction::Receive),
+    );
+    [
+        Subject::Steps(Event::Called { task, cause: send }),
+        Subject::Time(Condition::InCall { task, cause: send }),
+        Subject::Steps(Event::Called {
+            task,
+            cause: receive,
+        }),
+        Subject::Time(Condition::InCall {
+            task,
+            cause: receive,
+        }),
+    ]
+}
+
+fn push_transfers(subjects: &mut Vec<Subject>, queues: u32, task: u32) -> Result<(), AllocError>
+    ensures { OnOk result (subjects.new.items ≡ subjects.old.items ++ transfers_of queues task) }
+{
+    for queue in 0..queues {
+        push_all(subjects, &transfers_at(task, queue))?;
+    }
+    Ok(())
+}
+
 fn push_cores(subjects: &mut Vec<Subject>, cores: u32) -> Result<(), AllocError>
     ensures { OnOk result
         (subjects.new.items ≡ subjects.old.items ++ flat_map core_subjects (numbers cores)) }
@@ -243,6 +328,9 @@ fn push_core(subjects: &mut Vec<Subject>, core: u32) -> Result<(), AllocError>
     subjects.push(Subject::Time(Condition::Busy { core }))?;
     subjects.push(Subject::Time(Condition::Idle { core }))?;
     subjects.push(Subject::Time(Condition::Due { core }))?;
+    subjects.push(Subject::Time(Condition::Holding { core }))?;
+    subjects.push(Subject::Steps(Event::SwitchedOn { core }))?;
+    subjects.push(Subject::Steps(Event::Interrupted { core }))?;
     Ok(())
 }
 
@@ -261,6 +349,7 @@ fn push_mutex(subjects: &mut Vec<Subject>, mutex: u32) -> Result<(), AllocError>
 {
     subjects.push(Subject::Time(Condition::Held { mutex }))?;
     subjects.push(Subject::Steps(Event::Awaited { mutex }))?;
+    subjects.push(Subject::Steps(Event::NotTaken { mutex }))?;
     Ok(())
 }
 
@@ -272,6 +361,16 @@ fn push_queues(subjects: &mut Vec<Subject>, queues: u32) -> Result<(), AllocErro
         push_all(subjects, &queue_subjects(queue))?;
     }
     Ok(())
+}
+
+fn run_subjects() -> [Subject; 3]
+    ensures { result ≡ run_subjects }
+{
+    [
+        Subject::Run(Whole::Time),
+        Subject::Run(Whole::Steps),
+        Subject::Run(Whole::NotMade),
+    ]
 }
 
 fn queue_subjects(queue: u32) -> [Subject; 4]

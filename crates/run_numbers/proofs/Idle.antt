@@ -16,18 +16,19 @@ use Rattle.bench_model.specs.Tally.{is_call_of, is_current, is_finish_of, says_r
 use Rattle.run_numbers.specs.declared.counter.Counter.{Counter}
 use Rattle.run_numbers.specs.declared.counter.Since.{Since}
 use Rattle.run_numbers.specs.declared.look.Look.{Look}
+use Rattle.run_numbers.specs.declared.subject.Cause.{Cause}
 use Rattle.run_numbers.specs.declared.subject.Condition.{Condition}
-use Rattle.run_numbers.specs.declared.subject.Condition.TheVariants.{Running, RunningOn, WantsCore, Inverted, Blocked, HeldUp, Suspended, Busy, Idle, Due, Held, Empty, Full}
+use Rattle.run_numbers.specs.declared.subject.Condition.TheVariants.{Running, RunningOn, WantsCore, Inverted, Blocked, HeldUp, Suspended, InCall, Raised, PreemptionOff, Busy, Idle, Due, Holding, Held, Empty, Full}
 use Rattle.run_numbers.specs.declared.subject.Event.{Event}
-use Rattle.run_numbers.specs.declared.subject.Event.TheVariants.{SwitchedIn, Inherits, TimesOut, Refused, Awaited, QueueAwaited}
+use Rattle.run_numbers.specs.declared.subject.Event.TheVariants.{SwitchedIn, Inherits, TimesOut, Refused, Late, Called, SwitchedOn, PutOff, Loses, Interrupted, NotTaken, Awaited, QueueAwaited}
 use Rattle.run_numbers.specs.declared.subject.Reading.{Reading}
 use Rattle.run_numbers.specs.declared.subject.Subject.{Subject}
-use Rattle.run_numbers.specs.declared.subject.Subject.TheVariants.{Time, Steps, TopPriority, MostMessages, NotMade}
-use Rattle.run_numbers.specs.AfterStep.{happens_after, inherited, known_before, left_by, risen, switched_in}
+use Rattle.run_numbers.specs.declared.subject.Subject.TheVariants.{Time, Steps, TopPriority, MostMessages, NotMade, Run}
+use Rattle.run_numbers.specs.AfterStep.{happens_after, has_left, inherited, is_it, is_left_ready, known_before, left_by, overrun_by, risen, switched_in}
 use Rattle.run_numbers.specs.Conditions.{holds, is_cause}
 use Rattle.run_numbers.specs.Counted.{holds_of}
 use Rattle.run_numbers.specs.Counters.{seen, took, with_total}
-use Rattle.run_numbers.specs.Events.{is_refusal}
+use Rattle.run_numbers.specs.Events.{is_call_for, is_refusal, is_refused, may_wait_for, note_of, says_late}
 use Rattle.run_numbers.specs.Looks.{look_of, IsApart, IsRow}
 use Rattle.run_numbers.specs.Past.{Past}
 use Rattle.run_numbers.specs.Readings.{IsConditionOf, IsSubjectOf}
@@ -91,6 +92,19 @@ module _ (before after : View) (row : List ℕ) (step : Step) (reply : Reply) (t
         let own : task ≡ other = cc is in
         subst (λ other. holds list_queues (Suspended other) after ≡ holds list_queues (Suspended other) before) own
         (ap (λ (look : Look). look.suspended) same)
+    holds_kept (InCall other cause) is low =
+        let own : task ≡ other = cc is in
+        subst (λ other. holds list_queues (InCall other cause) after ≡ holds list_queues (InCall other cause) before) own
+        (ap (λ (look : Look). option_map_or (is_cause cause) look.cause false) same)
+    holds_kept (Raised other) is low =
+        let own : task ≡ other = cc is in
+        subst (λ other. holds list_queues (Raised other) after ≡ holds list_queues (Raised other) before) own
+        (ap (λ (look : Look). look.raised) same)
+    holds_kept (PreemptionOff other) is low =
+        let own : task ≡ other = cc is in
+        subst (λ other. holds list_queues (PreemptionOff other) after ≡ holds list_queues (PreemptionOff other) before) own
+        (ap (λ (look : Look). not look.preempt) same)
+    holds_kept (Holding core) is low = absurd (cc is)
     holds_kept (Busy core) is low = absurd (cc is)
     holds_kept (Idle core) is low = absurd (cc is)
     holds_kept (Due core) is low = absurd (cc is)
@@ -110,6 +124,23 @@ module _ (before after : View) (row : List ℕ) (step : Step) (reply : Reply) (t
   not_switched (ResumeInterrupt core other) low = refl
   not_switched (Pass units) low = refl
   not_switched (steps.Call core caller call) low = refl
+
+  -- it is not taken from a core
+  not_left : (step : Step) → ForSome (left_by before.control step) (λ left. left.0 < before.settings.cores)
+      → has_left (left_by before.control step) after.control task ≡ false
+  not_left Tick low = refl
+  not_left (Switch core) low =
+      both_fail (current before.control core == task) (current after.control core == task)
+      (seat_kept core (low (core, current before.control core) refl))
+  not_left (Interrupt core note) low = refl
+  not_left (QueueInterrupt core queue direction) low = refl
+  not_left (ResumeInterrupt core other) low = refl
+  not_left (Pass units) low = refl
+  not_left (steps.Call core caller call) low = refl
+
+  not_overrun : (overrun : Option ℕ) → ForSome overrun (λ overrun. overrun ≢ task) → is_it overrun task ≡ false
+  not_overrun None away = refl
+  not_overrun (Some other) away = let not_it : other ≢ task = away other refl in grind (arith, nat_tests, not_it)
 
   not_raised : (raised : Option (ℕ × ℕ)) → ForSome raised (λ raised. raised.0 ≢ task) → inherited raised after.control task ≡ false
   not_raised None away = refl
@@ -149,6 +180,15 @@ module _ (before after : View) (row : List ℕ) (step : Step) (reply : Reply) (t
       by calls.HoldOpen = refl
       by calls.HoldClose = refl
 
+  not_called : (cause : Cause) (step : Step) → is_call_of task step ≡ false → is_call_for task cause step ≡ false
+  not_called cause Tick is = refl
+  not_called cause (Switch core) is = refl
+  not_called cause (Interrupt core note) is = refl
+  not_called cause (QueueInterrupt core queue direction) is = refl
+  not_called cause (ResumeInterrupt core other) is = refl
+  not_called cause (Pass units) is = refl
+  not_called cause (steps.Call core caller call) is = fails_first (caller == task) (may_wait_for cause call) is
+
   -- no event of the task happens
   nothing_happens : (event : Event) → task_by event ≡ Some task → ForSome (left_by before.control step) (λ left. left.0 < before.settings.cores)
       → happens_after event (known_before before step) step reply after.control ≡ false
@@ -167,6 +207,26 @@ module _ (before after : View) (row : List ℕ) (step : Step) (reply : Reply) (t
       let own : task ≡ other = cc is in
       subst (λ other. (is_call_of other step && is_refusal why reply) ≡ false) own
       (fails_first (is_call_of task step) (is_refusal why reply) apart.caller)
+  nothing_happens (Late other) is low =
+      let own : task ≡ other = cc is in
+      subst (λ other. (is_call_of other step && says_late reply) ≡ false) own
+      (fails_first (is_call_of task step) (says_late reply) apart.caller)
+  nothing_happens (Called other cause) is low =
+      let own : task ≡ other = cc is in
+      subst (λ other. (is_call_for other cause step && not (is_refused reply)) ≡ false) own
+      (fails_first (is_call_for task cause step) (not (is_refused reply)) (not_called cause step apart.caller))
+  nothing_happens (SwitchedOn core) is low = absurd (cc is)
+  nothing_happens (PutOff other) is low =
+      let own : task ≡ other = cc is in
+      subst (λ other. (has_left (left_by before.control step) after.control other && is_left_ready (left_by before.control step) before) ≡ false) own
+      (fails_first (has_left (left_by before.control step) after.control task) (is_left_ready (left_by before.control step) before) (not_left step low))
+  nothing_happens (Loses other) is low =
+      let own : task ≡ other = cc is in
+      let overrun = overrun_by (note_of step) before in
+      subst (λ other. (is_it (overrun_by (note_of step) before) other && not (is_refused reply)) ≡ false) own
+      (fails_first (is_it overrun task) (not (is_refused reply)) (not_overrun overrun apart.overrun))
+  nothing_happens (Interrupted core) is low = absurd (cc is)
+  nothing_happens (NotTaken mutex) is low = absurd (cc is)
   nothing_happens (Awaited mutex) is low = absurd (cc is)
   nothing_happens (QueueAwaited queue) is low = absurd (cc is)
 
@@ -185,3 +245,4 @@ module _ (before after : View) (row : List ℕ) (step : Step) (reply : Reply) (t
       total_same counter _ (ap (λ other. max counter.reading.total (task_at after.control other).in_use) own ∙ omega (arith, few))
   is_idle (MostMessages queue) so_far counter is known same low opened top = absurd (cc is)
   is_idle (NotMade other) so_far counter is known same low opened top = refl
+  is_idle (Run number) so_far counter is known same low opened top = absurd (cc is)

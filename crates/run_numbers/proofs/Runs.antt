@@ -24,7 +24,7 @@ use Rattle.bench_model.specs.Lists.{View, view_of, list_queues}
 use Rattle.bench_model.specs.Queues.{queue_at}
 use Rattle.bench_model.specs.Session.{state_at, step_of}
 use Rattle.bench_model.specs.Start.{start}
-use Rattle.bench_model.specs.Table.{Stamps, Table}
+use Rattle.bench_model.specs.Table.{Stamps, Table, stamp_queues}
 use Rattle.bench_model.specs.Tally.{Moment}
 use Rattle.step_times.specs.Times.{time_of}
 use Rattle.smp_kernel.specs.Raised.{raised_by}
@@ -35,7 +35,7 @@ use Rattle.run_numbers.specs.declared.subject.Condition.{Condition}
 use Rattle.run_numbers.specs.declared.look.Look.{Look}
 use Rattle.run_numbers.specs.declared.subject.Reading.{Reading}
 use Rattle.run_numbers.specs.declared.subject.Subject.{Subject}
-use Rattle.run_numbers.specs.declared.subject.Subject.TheVariants.{Time, Steps, TopPriority, MostMessages, NotMade}
+use Rattle.run_numbers.specs.declared.subject.Subject.TheVariants.{Time, Steps, TopPriority, MostMessages, NotMade, Run}
 use Rattle.run_numbers.specs.declared.taking.Plan.{Plan}
 use Rattle.run_numbers.specs.AfterStep.{known_before, left_by}
 use Rattle.run_numbers.specs.Conditions.{holds}
@@ -47,7 +47,7 @@ use Rattle.run_numbers.specs.Gauges.{found, spell_after}
 use Rattle.run_numbers.specs.Looks.{look_of, IsKnown, IsRow}
 use Rattle.run_numbers.specs.Past.{Past, past, past_after}
 use Rattle.run_numbers.specs.Progress.{counter_in, first, measured_at, measured_in, stepped, subject_in}
-use Rattle.run_numbers.specs.Readings.{measured, only, IsSubjectOf}
+use Rattle.run_numbers.specs.Readings.{measured, only, run_number, run_time, IsSubjectOf}
 use Rattle.run_numbers.specs.SoFar.{gauge_at, in_use_at, passed, passes_at}
 use Rattle.run_numbers.specs.Stretches.{found_at, holds_at, stretch_at, time_of_step}
 use Rattle.run_numbers.specs.Taking.{row_at, AreLooked, AreTaken, IsPlanOf}
@@ -146,6 +146,7 @@ first_tells header steps kernel (MostMessages queue) shows = record {
   since = for_none _;
 }
 first_tells header steps kernel (NotMade task) shows = record { numbers = refl; opened = refl; since = for_none _ }
+first_tells header steps kernel (Run number) shows = record { numbers = refl; opened = refl; since = for_none _ }
 
 pub start_counted : (session : Session) (kernel : View) (plan : Plan) (counters : List Counter) (looks : List (Option Look)) (row : List ℕ)
     (so_far : Past) → StandsFor kernel (start session.header) → kernel.settings ≡ settings_of session.header
@@ -224,10 +225,11 @@ module _ (session : Session) (place : ℕ) (kernel : View) (plan : Plan) (counte
       at false = omega (arith, found_little session.header session.steps condition place, counted.elapsed)
   room_for step timed (Steps event) counter it =
       let known = total_told (later_past step) counter _ it.tells.opened (ap (λ (reading : Reading). reading.total) it.tells.numbers) in
-      omega (arith, known, few_passed session.header session.steps (happens event) place, low, few)
+      omega (arith, known, few_passed session.header session.steps (happens stamp_queues event) place, low, few)
   room_for step timed (TopPriority task) counter it = tt
   room_for step timed (MostMessages queue) counter it = tt
   room_for step timed (NotMade task) counter it = tt
+  room_for step timed (Run number) counter it = tt
 
   pub have_room : (step : Step) → time_here step < 2 ^ 32 → HaveRoom (later_past step) plan.subjects.now counters
   have_room step timed k within = room_for step timed (subject_in plan.subjects.now k) (counter_in counters k) (found_here step k within)
@@ -364,6 +366,7 @@ pub all_told : (session : Session) (kernel : View) (plan : Plan) (counters : Lis
 all_told session kernel plan counters looks row so_far few counted = record {
   size = counted.size;
   each = λ k within. (counted.each k within).numbers;
+  elapsed = counted.elapsed;
   room = λ k within. at (subject_in plan.subjects.now k) (counter_in counters k) (counted.each k within);
 }
   where
@@ -385,29 +388,34 @@ all_told session kernel plan counters looks row so_far few counted = record {
     at (TopPriority task) counter tells = plain_room so_far counter places_few little tells.opened
     at (MostMessages queue) counter tells = plain_room so_far counter places_few little tells.opened
     at (NotMade task) counter tells = plain_room so_far counter places_few little tells.opened
+    at (Run number) counter tells = plain_room so_far counter places_few little tells.opened
 
 -- the numbers of a subject after the last step
 last_measured : (header : Header) (steps : List Step) (so_far : Past) (counter : Counter) (left : List WaitingCall) (subject : Subject)
-    → told so_far counter ≡ (gauge_at header steps (length steps) subject).reading → measured_in so_far counter left subject ≡ measured header steps left subject
-last_measured header steps so_far counter left (Time condition) is =
+    → told so_far counter ≡ (gauge_at header steps (length steps) subject).reading → so_far.elapsed ≡ run_time header steps
+    → measured_in (length steps) so_far counter left subject ≡ measured header steps left subject
+last_measured header steps so_far counter left (Time condition) is time =
     ap (λ (reading : Reading). record { subject = Time condition; reading = reading })
     (is ∙ rw (find_top (stretch_at header steps condition) (length steps)) refl)
-last_measured header steps so_far counter left (Steps event) is = ap (λ (reading : Reading). record { subject = Steps event; reading = reading }) is
-last_measured header steps so_far counter left (TopPriority task) is = ap (λ (reading : Reading). record { subject = TopPriority task; reading = reading }) is
-last_measured header steps so_far counter left (MostMessages queue) is = ap (λ (reading : Reading). record { subject = MostMessages queue; reading = reading }) is
-last_measured header steps so_far counter left (NotMade task) is = refl
+last_measured header steps so_far counter left (Steps event) is time = ap (λ (reading : Reading). record { subject = Steps event; reading = reading }) is
+last_measured header steps so_far counter left (TopPriority task) is time = ap (λ (reading : Reading). record { subject = TopPriority task; reading = reading }) is
+last_measured header steps so_far counter left (MostMessages queue) is time = ap (λ (reading : Reading). record { subject = MostMessages queue; reading = reading }) is
+last_measured header steps so_far counter left (NotMade task) is time = refl
+last_measured header steps so_far counter left (Run number) is time =
+    ap (λ (time : ℕ). record { subject = Run number; reading = only (run_number time (length steps) left number) }) time
 
 pub all_measured : (session : Session) (so_far : Past) (counters : List Counter) (left : List WaitingCall) (subjects : List Subject)
     → AreTold session subjects so_far counters
-    → map (measured_at so_far counters left subjects) (numbers (length subjects)) ≡ map (measured session.header session.steps left) subjects
+    → map (measured_at (length session.steps) so_far counters left subjects) (numbers (length subjects)) ≡ map (measured session.header session.steps left) subjects
 all_measured session so_far counters left subjects are =
     let n = length subjects in
     let of = measured session.header session.steps left in
     let d = of (NotMade 0) in
-    ext_get_or d (map (measured_at so_far counters left subjects) (numbers n)) (map of subjects)
-    (length-map-range_with_len (measured_at so_far counters left subjects) 0 n ∙ sym (length-map subjects of))
+    let at = measured_at (length session.steps) so_far counters left subjects in
+    ext_get_or d (map at (numbers n)) (map of subjects)
+    (length-map-range_with_len at 0 n ∙ sym (length-map subjects of))
     (λ k low.
-    let within : k < n = omega (arith, low, length-map-range_with_len (measured_at so_far counters left subjects) 0 n) in
-    get_or-map-range_with_len (measured_at so_far counters left subjects) 0 n k k d within (omega arith)
-    ∙ last_measured session.header session.steps so_far (counter_in counters k) left (subject_in subjects k) (are.each k within)
+    let within : k < n = omega (arith, low, length-map-range_with_len at 0 n) in
+    get_or-map-range_with_len at 0 n k k d within (omega arith)
+    ∙ last_measured session.header session.steps so_far (counter_in counters k) left (subject_in subjects k) (are.each k within) are.elapsed
     ∙ sym (get_or-map of subjects k (NotMade 0) d within))

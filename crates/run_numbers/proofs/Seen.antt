@@ -15,6 +15,13 @@ pub base_seen : (view : View) (task : ℕ) (look : TaskLook) → StandsForSome v
 unfolding task_look
 base_seen view task look some known = ap (λ (l : TaskLook). l.base) (known some.0 some.1) ∙ ap (λ (v : View). (task_at v.control task).base) some.1.shows
 
+-- and whether its preemption is on
+pub preempt_seen : (view : View) (task : ℕ) (look : TaskLook) → StandsForSome view → ((table : Table) → StandsFor view table → look ≡ task_look table task) →
+    look.preempt ≡ (task_at view.control task).preempt
+unfolding task_look
+preempt_seen view task look some known =
+    ap (λ (l : TaskLook). l.preempt) (known some.0 some.1) ∙ ap (λ (v : View). (task_at v.control task).preempt) some.1.shows
+
 -- the core as it is told
 pub core_seen : (view : View) (core : ℕ) (look : CoreLook) → StandsForSome view → ((table : Table) → StandsFor view table → look ≡ core_at table.control core) →
     look ≡ core_at view.control core

@@ -19,7 +19,7 @@ use Rattle.smp_kernel.proofs.Raises.{step_others}
 use Rattle.run_numbers.specs.Gauge.{Gauge}
 use Rattle.run_numbers.specs.declared.subject.Condition.{Condition}
 use Rattle.run_numbers.specs.declared.subject.Subject.{Subject}
-use Rattle.run_numbers.specs.declared.subject.Subject.TheVariants.{Time, Steps, TopPriority, MostMessages, NotMade}
+use Rattle.run_numbers.specs.declared.subject.Subject.TheVariants.{Time, Steps, TopPriority, MostMessages, NotMade, Run}
 use Rattle.run_numbers.specs.Events.{happens}
 use Rattle.run_numbers.specs.Gauges.{initial_gauge, spell_after}
 use Rattle.run_numbers.specs.Messages.{messages_at}
@@ -104,7 +104,9 @@ module _ (header : Header) (steps : List Step) (place : ℕ) (step : Step) (ther
   gauge_more (Time condition) known = rw (holds_seen here condition sound known)
       (spell_more condition (holds_at header steps condition place) (time_of here.settings.units step) refl time_here)
   gauge_more (Steps event) known = ap initial_gauge (sym
-      (passed_more (happens event) ∙ ap (λ b. passed header steps (happens event) place + one_if b) (sym (happens_seen event here later step reply kept))))
+      (passed_more (happens stamp_queues event) ∙ ap (λ b. passed header steps (happens stamp_queues event) place + one_if b)
+      (sym (happens_seen event here later step reply sound known kept))))
   gauge_more (TopPriority task) known = ap initial_gauge (sym (greatest_more (in_use_at header steps task) (suc place)))
   gauge_more (MostMessages queue) known = ap initial_gauge (sym (greatest_more (messages_at header steps queue) (suc place)))
   gauge_more (NotMade task) known = refl
+  gauge_more (Run number) known = refl

@@ -21,6 +21,7 @@ use Rattle.run_numbers.specs.Counters.{time_since, told, HasRoom, HasRoomFor}
 use Rattle.run_numbers.specs.Gauge.{Gauge}
 use Rattle.run_numbers.specs.Looks.{look_of, IsApart, IsKnown, IsRow}
 use Rattle.run_numbers.specs.Past.{Past}
+use Rattle.run_numbers.specs.Readings.{run_time}
 use Rattle.run_numbers.specs.Progress.{counter_in, subject_in}
 use Rattle.run_numbers.specs.SoFar.{gauge_at}
 use Rattle.run_numbers.specs.Stretches.{time_of_step}
@@ -85,4 +86,5 @@ pub record AreTold (session : Session) (subjects : List Subject) (so_far : Past)
       → told so_far (counter_in counters k)
       ≡ (gauge_at session.header session.steps (length session.steps)
       (subject_in subjects k)).reading
+  pub elapsed : so_far.elapsed ≡ run_time session.header session.steps
   pub room : (k : ℕ) → k < length subjects → HasRoom so_far (counter_in counters k)

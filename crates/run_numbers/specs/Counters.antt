@@ -13,7 +13,7 @@ use Rattle.run_numbers.specs.declared.counter.Made.{Made}
 use Rattle.run_numbers.specs.declared.event.BeforeStep.{BeforeStep}
 use Rattle.run_numbers.specs.declared.subject.Reading.{Reading}
 use Rattle.run_numbers.specs.declared.subject.Subject.{Subject}
-use Rattle.run_numbers.specs.declared.subject.Subject.TheVariants.{Time, Steps, TopPriority, MostMessages, NotMade}
+use Rattle.run_numbers.specs.declared.subject.Subject.TheVariants.{Time, Steps, TopPriority, MostMessages}
 use Rattle.run_numbers.specs.AfterStep.{happens_after}
 use Rattle.run_numbers.specs.Conditions.{holds}
 use Rattle.run_numbers.specs.Past.{Past, past}
@@ -70,7 +70,7 @@ took before step reply after so_far (TopPriority task) counter =
     with_total (max counter.reading.total (task_at after.control task).in_use) counter
 took before step reply after so_far (MostMessages queue) counter =
     with_total (max counter.reading.total (queue_at after.queues queue).messages) counter
-took before step reply after so_far (NotMade task) counter = counter
+took before step reply after so_far subject counter = counter
 
 -- the time so far, with that of the step
 abbrev pub past_of : Made → Past

@@ -3,7 +3,7 @@ use Rattle.std.specs.Prelude.{◌≡◌, ◌≢◌, ℕ, ◌<◌, ◌≤◌, ◌
 use Rattle.std.specs.Option.{ForSome}
 use Rattle.bench_types.specs.Cause.{cause_of}
 use Rattle.bench_types.specs.declared.step.Step.{Step}
-use Rattle.bench_model.specs.Control.{current}
+use Rattle.bench_model.specs.Control.{current, task_at}
 use Rattle.bench_model.specs.Lists.{View, list_queues}
 use Rattle.bench_model.specs.Seek.{effective}
 use Rattle.bench_model.specs.State.{call_at}
@@ -11,7 +11,7 @@ use Rattle.bench_model.specs.Suspending.{is_suspended}
 use Rattle.bench_model.specs.Tally.{is_call_of, is_current, outranks_some, wants_core}
 use Rattle.run_numbers.specs.declared.event.BeforeStep.{BeforeStep}
 use Rattle.run_numbers.specs.declared.look.Look.{Look}
-use Rattle.run_numbers.specs.Conditions.{is_held_up}
+use Rattle.run_numbers.specs.Conditions.{is_held_up, is_raised}
 
 -- no core has a task of lower effective priority
 abbrev pub IsLowest : View → ℕ → Type 0
@@ -27,6 +27,8 @@ look_of view task = record {
   inverted = wants_core list_queues task view && outranks_some view.control task;
   held_up = is_held_up list_queues task view;
   suspended = is_suspended list_queues task view;
+  raised = is_raised view.control task;
+  preempt = (task_at view.control task).preempt;
   cause = option_map cause_of (call_at view.calls task);
 }
 
@@ -41,10 +43,11 @@ pub record IsRow (row : List ℕ) (view : View) : Type 0 where
       → slice_index row core ≡ current view.control core
 
 -- the step does not concern the task: no core has it now and had not before, or the other way
--- round, its priority in use is not raised, and it makes no call
+-- round, its priority in use is not raised, it loses no value, and it makes no call
 pub record IsApart (row : List ℕ) (before : BeforeStep) (step : Step) (after : View) (task : ℕ) :
     Type 0 where
   pub seats : (core : ℕ) → core < after.settings.cores
       → (slice_index row core == task) ≡ (current after.control core == task)
   pub raised : ForSome before.raised (λ raised. raised.0 ≢ task)
+  pub overrun : ForSome before.overrun (λ overrun. overrun ≢ task)
   pub caller : is_call_of task step ≡ false

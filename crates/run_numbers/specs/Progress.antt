@@ -10,14 +10,14 @@ use Rattle.run_numbers.specs.declared.counter.Counter.{Counter}
 use Rattle.run_numbers.specs.declared.subject.Measured.{Measured}
 use Rattle.run_numbers.specs.declared.subject.Reading.{Reading}
 use Rattle.run_numbers.specs.declared.subject.Subject.{Subject}
-use Rattle.run_numbers.specs.declared.subject.Subject.TheVariants.{Time, TopPriority, MostMessages, NotMade}
+use Rattle.run_numbers.specs.declared.subject.Subject.TheVariants.{Time, TopPriority, MostMessages, NotMade, Run}
 use Rattle.run_numbers.specs.AfterStep.{known_before}
 use Rattle.run_numbers.specs.Conditions.{holds}
 use Rattle.run_numbers.specs.Counters.{first_counter, told}
 use Rattle.run_numbers.specs.Gauge.{Gauge}
 use Rattle.run_numbers.specs.Gauges.{found, left}
 use Rattle.run_numbers.specs.Past.{Past}
-use Rattle.run_numbers.specs.Readings.{calls_of, only}
+use Rattle.run_numbers.specs.Readings.{calls_of, only, run_number}
 
 abbrev pub counter_in : List Counter → ℕ → Counter
 counter_in counters k = slice_index_or counters k (first_counter 0 false)
@@ -39,15 +39,17 @@ stepped before step reply after place subject gauge =
     left (known_before before step) step reply after subject
     (found before step place subject gauge)
 
--- the numbers of a subject, by its counter and the calls that were not made
-abbrev pub reading_in : Past → Counter → List WaitingCall → Subject → Reading
-reading_in past counter left (NotMade task) = only (calls_of task left)
-reading_in past counter left subject = told past counter
+-- the numbers of a subject after so many steps, by its counter and the calls that were not made
+abbrev pub reading_in : ℕ → Past → Counter → List WaitingCall → Subject → Reading
+reading_in steps past counter left (NotMade task) = only (calls_of task left)
+reading_in steps past counter left (Run number) =
+    only (run_number past.elapsed steps left number)
+reading_in steps past counter left subject = told past counter
 
-abbrev pub measured_in : Past → Counter → List WaitingCall → Subject → Measured
-measured_in past counter left subject =
-    record { subject = subject; reading = reading_in past counter left subject }
+abbrev pub measured_in : ℕ → Past → Counter → List WaitingCall → Subject → Measured
+measured_in steps past counter left subject =
+    record { subject = subject; reading = reading_in steps past counter left subject }
 
-abbrev pub measured_at : Past → List Counter → List WaitingCall → List Subject → ℕ → Measured
-measured_at past counters left subjects k =
-    measured_in past (counter_in counters k) left (subject_in subjects k)
+abbrev pub measured_at : ℕ → Past → List Counter → List WaitingCall → List Subject → ℕ → Measured
+measured_at steps past counters left subjects k =
+    measured_in steps past (counter_in counters k) left (subject_in subjects k)

@@ -1,22 +1,27 @@
 -- The numbers of a run.
 use Rattle.std.specs.Prelude.{ℕ, ◌<◌, List, length, filter, ◌==◌, ⊤}
+use Rattle.std.specs.List.{sum_by}
+use Rattle.list_orders.specs.Search.{numbers}
 use Rattle.bench_types.specs.declared.header.Header.{Header}
 use Rattle.bench_types.specs.declared.kernel_data.Settings.{Settings}
 use Rattle.bench_types.specs.declared.step.Step.{Step}
 use Rattle.bench_types.specs.Step.{queue_total}
+use Rattle.bench_model.specs.Table.{stamp_queues}
 use Rattle.bench_model.specs.Tally.{steps_that, top_priority}
 use Rattle.settled_runs.specs.declared.waiting_call.WaitingCall.{WaitingCall}
 use Rattle.run_numbers.specs.declared.subject.Condition.{Condition}
-use Rattle.run_numbers.specs.declared.subject.Condition.TheVariants.{Running, RunningOn, WantsCore, Inverted, Blocked, HeldUp, Suspended, Busy, Idle, Due, Held, Empty, Full}
+use Rattle.run_numbers.specs.declared.subject.Condition.TheVariants.{Running, RunningOn, WantsCore, Inverted, Blocked, HeldUp, Suspended, InCall, Raised, PreemptionOff, Busy, Idle, Due, Holding, Held, Empty, Full}
 use Rattle.run_numbers.specs.declared.subject.Event.{Event}
-use Rattle.run_numbers.specs.declared.subject.Event.TheVariants.{Inherits}
+use Rattle.run_numbers.specs.declared.subject.Event.TheVariants.{Inherits, PutOff}
 use Rattle.run_numbers.specs.declared.subject.Measured.{Measured}
 use Rattle.run_numbers.specs.declared.subject.Reading.{Reading}
 use Rattle.run_numbers.specs.declared.subject.Subject.{Subject}
-use Rattle.run_numbers.specs.declared.subject.Subject.TheVariants.{Time, Steps, TopPriority, MostMessages, NotMade}
+use Rattle.run_numbers.specs.declared.subject.Subject.TheVariants.{Time, Steps, TopPriority, MostMessages, NotMade, Run}
+use Rattle.run_numbers.specs.declared.subject.Whole.{Whole}
+use Rattle.run_numbers.specs.declared.subject.Whole.TheVariants as whole
 use Rattle.run_numbers.specs.Events.{happens}
 use Rattle.run_numbers.specs.Messages.{most_messages}
-use Rattle.run_numbers.specs.Stretches.{longest_from, longest_stretch, time_found}
+use Rattle.run_numbers.specs.Stretches.{longest_from, longest_stretch, time_found, time_of_step}
 
 -- a number that has no stretch
 abbrev pub only : ℕ → Reading
@@ -26,6 +31,16 @@ only total = record { total = total; longest = 0; from = 0 }
 abbrev pub calls_of : ℕ → List WaitingCall → ℕ
 calls_of task left = length (filter (λ call. call.task == task) left)
 
+-- the time of a run
+abbrev pub run_time : Header → List Step → ℕ
+run_time header steps = sum_by (time_of_step header steps) (numbers (length steps))
+
+-- the number of a run that takes so much time and has so many steps
+abbrev pub run_number : ℕ → ℕ → List WaitingCall → Whole → ℕ
+run_number time steps left whole.Time = time
+run_number time steps left whole.Steps = steps
+run_number time steps left whole.NotMade = length left
+
 -- the numbers of a subject in a run, of which these calls were not made
 abbrev pub reading_of : Header → List Step → List WaitingCall → Subject → Reading
 reading_of header steps left (Time condition) = record {
@@ -33,10 +48,13 @@ reading_of header steps left (Time condition) = record {
   longest = longest_stretch header steps condition;
   from = longest_from header steps condition;
 }
-reading_of header steps left (Steps event) = only (steps_that header steps (happens event))
+reading_of header steps left (Steps event) =
+    only (steps_that header steps (happens stamp_queues event))
 reading_of header steps left (TopPriority task) = only (top_priority header steps task)
 reading_of header steps left (MostMessages queue) = only (most_messages header steps queue)
 reading_of header steps left (NotMade task) = only (calls_of task left)
+reading_of header steps left (Run number) =
+    only (run_number (run_time header steps) (length steps) left number)
 
 -- a subject with its numbers in a run
 abbrev pub measured : Header → List Step → List WaitingCall → Subject → Measured
@@ -52,15 +70,20 @@ IsConditionOf settings (Inverted task) = task < settings.tasks
 IsConditionOf settings (Blocked task cause) = task < settings.tasks
 IsConditionOf settings (HeldUp task) = task < settings.tasks
 IsConditionOf settings (Suspended task) = task < settings.tasks
+IsConditionOf settings (InCall task cause) = task < settings.tasks
+IsConditionOf settings (Raised task) = task < settings.tasks
+IsConditionOf settings (PreemptionOff task) = task < settings.tasks
 IsConditionOf settings (Busy core) = core < settings.cores
 IsConditionOf settings (Idle core) = core < settings.cores
 IsConditionOf settings (Due core) = core < settings.cores
+IsConditionOf settings (Holding core) = core < settings.cores
 IsConditionOf settings (Held mutex) = mutex < settings.mutexes
 IsConditionOf settings (Empty queue) = queue < queue_total settings
 IsConditionOf settings (Full queue) = queue < queue_total settings
 
 abbrev pub IsEventOf : Settings → Event → Type 0
 IsEventOf settings (Inherits task) = task < settings.tasks
+IsEventOf settings (PutOff task) = task < settings.tasks
 IsEventOf settings event = ⊤
 
 abbrev pub IsSubjectOf : Settings → Subject → Type 0
@@ -68,4 +91,4 @@ IsSubjectOf settings (Time condition) = IsConditionOf settings condition
 IsSubjectOf settings (Steps event) = IsEventOf settings event
 IsSubjectOf settings (TopPriority task) = task < settings.tasks
 IsSubjectOf settings (MostMessages queue) = queue < queue_total settings
-IsSubjectOf settings (NotMade task) = ⊤
+IsSubjectOf settings subject = ⊤

@@ -7,11 +7,11 @@ use Rattle.bench_types.specs.declared.step.Step.{Step}
 use Rattle.list_orders.specs.Search.{numbers}
 use Rattle.bench_model.specs.Control.{task_at}
 use Rattle.bench_model.specs.Session.{state_at}
-use Rattle.bench_model.specs.Table.{Stamps}
+use Rattle.bench_model.specs.Table.{Stamps, stamp_queues}
 use Rattle.bench_model.specs.Tally.{Moment, greatest, moment_at}
 use Rattle.run_numbers.specs.Gauge.{Gauge}
 use Rattle.run_numbers.specs.declared.subject.Subject.{Subject}
-use Rattle.run_numbers.specs.declared.subject.Subject.TheVariants.{Time, Steps, TopPriority, MostMessages, NotMade}
+use Rattle.run_numbers.specs.declared.subject.Subject.TheVariants.{Time, Steps, TopPriority, MostMessages}
 use Rattle.run_numbers.specs.Events.{happens}
 use Rattle.run_numbers.specs.Gauges.{initial_gauge}
 use Rattle.run_numbers.specs.Messages.{messages_at}
@@ -49,8 +49,8 @@ module _ (header : Header) (steps : List Step) where
     stretch = stretch place;
     start = start_at header steps condition place;
   }
-  gauge_at place (Steps event) = initial_gauge (passed (happens event) place)
+  gauge_at place (Steps event) = initial_gauge (passed (happens stamp_queues event) place)
   gauge_at place (TopPriority task) = initial_gauge (top (in_use_at task) place)
   gauge_at place (MostMessages queue) =
       initial_gauge (top (messages_at header steps queue) place)
-  gauge_at place (NotMade task) = initial_gauge 0
+  gauge_at place subject = initial_gauge 0

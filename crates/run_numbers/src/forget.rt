@@ -64,6 +64,16 @@ fn forget_raised(looks: &mut [Option<Look>], raised: Option<(u32, u32)>)
     }
 }
 
+// The one that may lose a value.
+fn forget_overrun(looks: &mut [Option<Look>], overrun: Option<u32>)
+    ensures { (task : ℕ) (look : Look) → IsKnown looks.new task look
+        → IsKnown looks.old task look × ForSome overrun (λ overrun. overrun ≢ task) }
+{
+    if let Some(task) = overrun {
+        forget(looks, task);
+    }
+}
+
 // The caller.
 fn forget_caller(looks: &mut [Option<Look>], step: &Step)
     ensures { (task : ℕ) (look : Look) → IsKnown looks.new task look
@@ -89,5 +99,6 @@ pub(crate) fn forget_concerned(
 {
     forget_all_moved(looks, row, after);
     forget_raised(looks, before.raised);
+    forget_overrun(looks, before.overrun);
     forget_caller(looks, step);
 }

@@ -15,4 +15,4 @@ mod taking;
 
 pub use laws::{law_of_stretches, law_of_tallies};
 pub use run::measure;
-pub use subject::{Cause, Condition, Event, Measured, Reading, Subject};
+pub use subject::{Cause, Condition, Event, Measured, Reading, Subject, Whole};

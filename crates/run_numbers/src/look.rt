@@ -9,7 +9,7 @@ ghost use Rattle.bench_model.specs.State.{call_at};
 ghost use Rattle.smp_kernel.specs.Kernel.{StandsForSome};
 ghost use Rattle.run_numbers.specs.Looks.{look_of, IsLowest};
 
-use crate::state::{is_held_up, outranks_some, wants_core};
+use crate::state::{is_held_up, is_preempted, is_raised, outranks_some, wants_core};
 use bench_types::Cause;
 use smp_kernel::Kernel;
 
@@ -24,6 +24,10 @@ pub(crate) struct Look {
     /// The task is blocked on a mutex whose holder has a lower base priority and is on no core.
     pub(crate) held_up: bool,
     pub(crate) suspended: bool,
+    /// Its priority in use is above its base priority.
+    pub(crate) raised: bool,
+    /// Its preemption is on.
+    pub(crate) preempt: bool,
     /// What the task's unfinished call waits for.
     pub(crate) cause: Option<Cause>,
 }
@@ -88,6 +92,8 @@ pub(crate) fn look_of(kernel: &Kernel, task: u32, lowest: u32) -> Look
         inverted: wants_core(kernel, task) && outranks_lowest(kernel, task, lowest),
         held_up: is_held_up(kernel, task),
         suspended: kernel.suspended(task),
+        raised: is_raised(kernel, task),
+        preempt: is_preempted(kernel, task),
         cause: cause_of(kernel, task),
     }
 }
@@ -113,6 +119,21 @@ fn are_same(one: Option<Cause>, other: Option<Cause>) -> bool
     }
 }
 
+// Whether both tell the same of where the task stands.
+fn stand_alike(one: Look, other: Look) -> bool
+    ensures ready { IsTrue result → one.ready ≡ other.ready }
+    ensures current { IsTrue result → one.current ≡ other.current }
+    ensures inverted { IsTrue result → one.inverted ≡ other.inverted }
+    ensures held_up { IsTrue result → one.held_up ≡ other.held_up }
+    ensures suspended { IsTrue result → one.suspended ≡ other.suspended }
+{
+    one.ready == other.ready
+        && one.current == other.current
+        && one.inverted == other.inverted
+        && one.held_up == other.held_up
+        && one.suspended == other.suspended
+}
+
 /// Whether this is what is known of the task.
 pub(crate) fn is_known(known: Option<Look>, look: Look) -> bool
     ensures { IsTrue result → known ≡ Some look }
@@ -120,11 +141,9 @@ pub(crate) fn is_known(known: Option<Look>, look: Look) -> bool
     match known {
         None => false,
         Some(known) => {
-            known.ready == look.ready
-                && known.current == look.current
-                && known.inverted == look.inverted
-                && known.held_up == look.held_up
-                && known.suspended == look.suspended
+            stand_alike(known, look)
+                && known.raised == look.raised
+                && known.preempt == look.preempt
                 && are_same(known.cause, look.cause)
         }
     }

@@ -16,7 +16,7 @@ ghost use Rattle.run_numbers.specs.Counters.{took, HasRoom};
 ghost use Rattle.run_numbers.specs.Looks.{IsRow};
 ghost use Rattle.run_numbers.specs.Past.{past, places_after};
 ghost use Rattle.run_numbers.specs.Progress.{counter_in, first, measured_at, measured_in, reading_in};
-ghost use Rattle.run_numbers.specs.Readings.{calls_of, measured, only, IsSubjectOf};
+ghost use Rattle.run_numbers.specs.Readings.{calls_of, measured, only, run_number, IsSubjectOf};
 ghost use Rattle.run_numbers.specs.Counted.{AreCounted, AreTold, HaveRoom, IsUntouched};
 ghost use Rattle.run_numbers.specs.Taking.{AreLooked, AreTaken, IsPlanOf};
 
@@ -27,7 +27,7 @@ use crate::look::Look;
 use crate::rows::spans_of;
 use crate::state::holds;
 use crate::taking::{Plan, take_all};
-use crate::{Measured, Reading, Subject};
+use crate::{Measured, Reading, Subject, Whole};
 use bench_types::{CheckedSession, Step};
 use settled_runs::WaitingCall;
 use smp_kernel::{Kernel, Meter};
@@ -247,24 +247,43 @@ fn calls_of(task: u32, left: &[WaitingCall]) -> u32
 }
 
 // A number that has no stretch.
-fn only(total: u32) -> Reading
+fn only(total: u64) -> Reading
     ensures { result ≡ only total }
 {
     Reading {
-        total: u64::from(total),
+        total,
         longest: 0,
         from: 0,
     }
 }
 
-fn reading(counter: &Counter, clock: &Clock, left: &[WaitingCall], subject: Subject) -> Reading
+// The number of a run that takes so much time and has so many steps.
+fn run_number(time: u64, steps: usize, left: &[WaitingCall], number: Whole) -> u64
+    ensures { result ≡ run_number time steps left.now number }
+{
+    match number {
+        Whole::Time => time,
+        Whole::Steps => steps as u64,
+        Whole::NotMade => left.len() as u64,
+    }
+}
+
+fn reading(
+    counter: &Counter,
+    clock: &Clock,
+    steps: usize,
+    left: &[WaitingCall],
+    subject: Subject,
+) -> Reading
     requires room { HasRoom (past clock.now.elapsed clock.now.places.items) counter.now }
     requires left { length left.now < 2 ^ 32 }
     ensures { result
-        ≡ reading_in (past clock.now.elapsed clock.now.places.items) counter.now left.now subject }
+        ≡ reading_in steps (past clock.now.elapsed clock.now.places.items) counter.now left.now
+        subject }
 {
     match subject {
-        Subject::NotMade { task } => only(calls_of(task, left)),
+        Subject::NotMade { task } => only(u64::from(calls_of(task, left))),
+        Subject::Run(number) => only(run_number(clock.elapsed, steps, left, number)),
         _ => counter.told(clock.elapsed, clock.places.as_slice()),
     }
 }
@@ -272,6 +291,7 @@ fn reading(counter: &Counter, clock: &Clock, left: &[WaitingCall], subject: Subj
 fn all_measured(
     alloc: Global,
     counted: &Counted,
+    steps: usize,
     left: &[WaitingCall],
     subjects: &[Subject],
 ) -> Result<Vec<Measured>, AllocError>
@@ -282,13 +302,13 @@ fn all_measured(
     requires left { length left.now < 2 ^ 32 }
     ensures { IfOk result
         (λ measured. measured.items
-        ≡ map (measured_at (past counted.now.clock.elapsed counted.now.clock.places.items)
+        ≡ map (measured_at steps (past counted.now.clock.elapsed counted.now.clock.places.items)
         counted.now.counters.items left.now subjects.now) (numbers (length subjects.now))) }
 {
     let mut all = Vec::with_capacity(alloc, subjects.len())?;
     for k in 0..subjects.len() {
         let subject = subjects[k];
-        let reading = reading(&counted.counters[k], &counted.clock, left, subject);
+        let reading = reading(&counted.counters[k], &counted.clock, steps, left, subject);
         all.push(Measured { subject, reading })?;
     }
     Ok(all)
@@ -313,5 +333,5 @@ pub fn measure(
         (CountsUpTo (length session.now.steps) meter.old meter.new) }
 {
     let counted = count_all(alloc, meter, session, subjects)?;
-    all_measured(alloc, &counted, left, subjects)
+    all_measured(alloc, &counted, session.steps().len(), left, subjects)
 }

@@ -9,7 +9,7 @@ ghost use Rattle.bench_model.specs.SameTest.{are_same_directions};
 ghost use Rattle.bench_model.specs.State.{holder_at};
 ghost use Rattle.bench_model.specs.Tally.{outranks_some, wants_core};
 ghost use Rattle.smp_kernel.specs.Kernel.{StandsForSome};
-ghost use Rattle.run_numbers.specs.Conditions.{holder_before, holds, holds_up, is_blocked, is_cause, is_empty, is_full, is_held_up, mutex_of, stands_blocked};
+ghost use Rattle.run_numbers.specs.Conditions.{holder_before, holds, holds_up, is_blocked, is_cause, is_empty, is_full, is_held_up, is_holding, is_in_call, is_raised, mutex_of, stands_blocked};
 ghost use Rattle.run_numbers.specs.Readings.{IsConditionOf};
 
 use crate::{Cause, Condition};
@@ -35,7 +35,7 @@ pub(crate) fn outranks_some(kernel: &Kernel, task: u32) -> bool
     })
 }
 
-fn is_same_direction(direction: Direction, other: Direction) -> bool
+pub(crate) fn is_same_direction(direction: Direction, other: Direction) -> bool
     ensures { result ≡ are_same_directions direction other }
 {
     direction == other
@@ -69,21 +69,26 @@ fn stands_blocked(kernel: &Kernel, task: u32) -> bool
     !kernel.ready(task) && !kernel.suspended(task)
 }
 
-fn is_blocked(kernel: &Kernel, task: u32, cause: Cause) -> bool
+// Whether the task has made a call that waits for the cause, and the call has not returned.
+fn is_in_call(kernel: &Kernel, task: u32, cause: Cause) -> bool
     requires { task < kernel.now.settings.tasks }
-    ensures { result ≡ is_blocked list_queues task cause kernel.now }
+    ensures { result ≡ is_in_call task cause kernel.now }
 {
-    if !stands_blocked(kernel, task) {
-        return false;
-    }
     match kernel.unfinished(task) {
         Some(call) => is_cause(cause, call.cause()),
         None => false,
     }
 }
 
-// The mutex that the unfinished call takes.
-fn mutex_of(call: Unfinished) -> Option<u32>
+fn is_blocked(kernel: &Kernel, task: u32, cause: Cause) -> bool
+    requires { task < kernel.now.settings.tasks }
+    ensures { result ≡ is_blocked list_queues task cause kernel.now }
+{
+    stands_blocked(kernel, task) && is_in_call(kernel, task, cause)
+}
+
+/// The mutex that the unfinished call takes.
+pub(crate) fn mutex_of(call: Unfinished) -> Option<u32>
     ensures { result ≡ mutex_of call }
 {
     match call {
@@ -151,6 +156,35 @@ pub(crate) fn is_held_up(kernel: &Kernel, task: u32) -> bool
     }
 }
 
+/// Whether the priority that the task has in use is above its base priority.
+pub(crate) fn is_raised(kernel: &Kernel, task: u32) -> bool
+    requires task { task < kernel.now.settings.tasks }
+    requires sound { StandsForSome kernel.now }
+    ensures { result ≡ is_raised kernel.now.control task }
+{
+    base(kernel, task) < kernel.in_use(task)
+}
+
+/// Whether the preemption of the task is on.
+pub(crate) fn is_preempted(kernel: &Kernel, task: u32) -> bool
+    requires task { task < kernel.now.settings.tasks }
+    requires sound { StandsForSome kernel.now }
+    ensures { result ≡ (task_at kernel.now.control task).preempt }
+{
+    kernel.look(task).preempt
+}
+
+// Whether the core holds the kernel.
+fn is_holding(kernel: &Kernel, core: u32) -> bool
+    requires { StandsForSome kernel.now }
+    ensures { result ≡ is_holding kernel.now.hold core }
+{
+    match kernel.hold() {
+        Some((holder, _)) => holder == core,
+        None => false,
+    }
+}
+
 fn is_due(kernel: &Kernel, core: u32) -> bool
     requires core { core < kernel.now.settings.cores }
     requires sound { StandsForSome kernel.now }
@@ -200,9 +234,13 @@ pub(crate) fn holds(kernel: &Kernel, condition: Condition) -> bool
         Condition::Blocked { task, cause } => is_blocked(kernel, task, cause),
         Condition::HeldUp { task } => is_held_up(kernel, task),
         Condition::Suspended { task } => kernel.suspended(task),
+        Condition::InCall { task, cause } => is_in_call(kernel, task, cause),
+        Condition::Raised { task } => is_raised(kernel, task),
+        Condition::PreemptionOff { task } => !is_preempted(kernel, task),
         Condition::Busy { core } => !is_idle(kernel, core),
         Condition::Idle { core } => is_idle(kernel, core),
         Condition::Due { core } => is_due(kernel, core),
+        Condition::Holding { core } => is_holding(kernel, core),
         Condition::Held { mutex } => holder(kernel, mutex).is_some(),
         Condition::Empty { queue } => is_empty(kernel, queue),
         Condition::Full { queue } => is_full(kernel, queue),

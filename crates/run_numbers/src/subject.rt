@@ -38,12 +38,20 @@ pub enum Condition {
     HeldUp { task: u32 },
     /// The task is suspended (`eSuspended`).
     Suspended { task: u32 },
+    /// The task has made a call that waits for this cause, and the call has not returned.
+    InCall { task: u32, cause: Cause },
+    /// The priority that the task has in use is above its base priority: it inherited it.
+    Raised { task: u32 },
+    /// The preemption of the task is off (`vTaskPreemptionDisable`).
+    PreemptionOff { task: u32 },
     /// The core has a user task.
     Busy { core: u32 },
     /// The core has an idle task.
     Idle { core: u32 },
     /// The core is due to switch.
     Due { core: u32 },
+    /// The core holds the kernel.
+    Holding { core: u32 },
     /// A task holds the mutex.
     Held { mutex: u32 },
     /// The queue has no message.
@@ -63,10 +71,35 @@ pub enum Event {
     TimesOut { task: u32 },
     /// A call of the task is refused, and this is why.
     Refused { task: u32, why: Refusal },
+    /// The task delays until a time that is gone (`xTaskDelayUntil`).
+    Late { task: u32 },
+    /// The task makes a call that may wait for this cause, and is not refused.
+    Called { task: u32, cause: Cause },
+    /// The core switches to another task than it had.
+    SwitchedOn { core: u32 },
+    /// A switch takes the task from its core, and the task is ready (`eReady` then).
+    PutOff { task: u32 },
+    /// A value that is sent to the task comes where another is unread: one of them is lost.
+    Loses { task: u32 },
+    /// An interrupt comes to the core; ticks are none of them.
+    Interrupted { core: u32 },
+    /// A call that takes the mutex ends without it.
+    NotTaken { mutex: u32 },
     /// A task begins to wait for the mutex.
     Awaited { mutex: u32 },
     /// A task begins to wait at the queue, whichever way.
     QueueAwaited { queue: u32 },
+}
+
+/// What a run as a whole has a number of.
+#[derive(Clone, Copy, Debug, PartialEq, Eq)]
+pub enum Whole {
+    /// The units of time that it takes.
+    Time,
+    /// Its steps.
+    Steps,
+    /// The calls that a settled run did not make.
+    NotMade,
 }
 
 /// What there is a number of.
@@ -83,6 +116,8 @@ pub enum Subject {
     MostMessages { queue: u32 },
     /// The calls of the task that a settled run did not make.
     NotMade { task: u32 },
+    /// A number of the run as a whole.
+    Run(Whole),
 }
 
 /// The numbers of a subject.
@@ -117,10 +152,14 @@ impl Condition {
             | Condition::Inverted { task }
             | Condition::Blocked { task, .. }
             | Condition::HeldUp { task }
-            | Condition::Suspended { task } => Some(task),
+            | Condition::Suspended { task }
+            | Condition::InCall { task, .. }
+            | Condition::Raised { task }
+            | Condition::PreemptionOff { task } => Some(task),
             Condition::Busy { .. }
             | Condition::Idle { .. }
             | Condition::Due { .. }
+            | Condition::Holding { .. }
             | Condition::Held { .. }
             | Condition::Empty { .. }
             | Condition::Full { .. } => None,
@@ -137,8 +176,16 @@ impl Event {
             Event::SwitchedIn { task }
             | Event::Inherits { task }
             | Event::TimesOut { task }
-            | Event::Refused { task, .. } => Some(task),
-            Event::Awaited { .. } | Event::QueueAwaited { .. } => None,
+            | Event::Refused { task, .. }
+            | Event::Late { task }
+            | Event::Called { task, .. }
+            | Event::PutOff { task }
+            | Event::Loses { task } => Some(task),
+            Event::SwitchedOn { .. }
+            | Event::Interrupted { .. }
+            | Event::NotTaken { .. }
+            | Event::Awaited { .. }
+            | Event::QueueAwaited { .. } => None,
         }
     }
 }
@@ -152,7 +199,7 @@ impl Subject {
             Subject::Time(condition) => condition.task(),
             Subject::Steps(event) => event.task(),
             Subject::TopPriority { task } | Subject::NotMade { task } => Some(task),
-            Subject::MostMessages { .. } => None,
+            Subject::MostMessages { .. } | Subject::Run(_) => None,
         }
     }
 }

@@ -11,7 +11,7 @@ use Rattle.list_orders.proofs.Filters.{All-append}
 use Rattle.settled_runs.specs.declared.waiting_call.WaitingCall.{WaitingCall}
 use Rattle.settled_runs.proofs.Pieces.{find_among}
 use Rattle.run_numbers.specs.declared.subject.Subject.{Subject}
-use Rattle.run_numbers.specs.declared.subject.Subject.TheVariants.{Time, Steps, TopPriority, MostMessages, NotMade}
+use Rattle.run_numbers.specs.declared.subject.Subject.TheVariants.{Time, Steps, TopPriority, MostMessages, NotMade, Run}
 use Rattle.run_numbers.specs.Readings.{measured, IsSubjectOf}
 use Rattle.report_figures.specs.declared.figures.Figure.{Figure}
 use Rattle.report_figures.specs.Figures.{figures_in}
@@ -29,6 +29,7 @@ module _ (header : Header) (run : List Step) (left : List WaitingCall) where
   figures_fit (TopPriority task) fits = (fits, tt)
   figures_fit (MostMessages queue) fits = (fits, tt)
   figures_fit (NotMade task) fits = (fits, tt)
+  figures_fit (Run number) fits = (fits, tt)
 
   each_fits : (subjects : List Subject) → AllByRecursion (IsSubjectOf (settings_of header)) subjects
       → AllByRecursion IsOf (flat_map figures_in (map (measured header run left) subjects))

@@ -1,5 +1,5 @@
--- What a change costs other tasks.
-use Rattle.std.specs.Prelude.{◌≡◌, ℕ, ◌==◌, ◌&&◌, not, Bool, true, false, List, [], ◌++◌, length, flat_map, codes, Option, Some, None, slice_get, if◌then◌else◌}
+-- What a change costs the tasks.
+use Rattle.std.specs.Prelude.{◌≡◌, ℕ, ◌==◌, ◌&&◌, not, Bool, true, false, is_some, List, [], ◌++◌, length, flat_map, codes, Option, Some, None, slice_get, if◌then◌else◌}
 use Rattle.std.specs.Option.{option_map_or}
 use Rattle.list_orders.specs.Search.{numbers}
 use Rattle.run_numbers.specs.declared.subject.Cause.TheVariants.{AnyMutex, AnyQueue}
@@ -7,7 +7,6 @@ use Rattle.run_numbers.specs.declared.subject.Condition.TheVariants.{Running, Wa
 use Rattle.run_numbers.specs.declared.subject.Event.TheVariants.{TimesOut}
 use Rattle.run_numbers.specs.declared.subject.Subject.{Subject}
 use Rattle.run_numbers.specs.declared.subject.Subject.TheVariants.{Time, Steps, NotMade}
-use Rattle.run_numbers.specs.Tasks.{task_of}
 use Rattle.ranked_changes.specs.declared.change.Change.{Change}
 use Rattle.ranked_changes.specs.declared.judge.Verdict.{Verdict}
 use Rattle.ranked_changes.specs.declared.judge.Verdict.TheVariants.{Number, TooLong}
@@ -19,6 +18,10 @@ use Rattle.report_figures.specs.Table.{name_at, value_at}
 use Rattle.session_reports.specs.Figures.{AreFigures}
 use Rattle.session_advice.specs.Basis.{Basis}
 use Rattle.session_advice.specs.Words.{number_words}
+
+abbrev pub is_total : Part → Bool
+is_total Total = true
+is_total Longest = false
 
 -- the task that bears what the subject tells: it runs, waits for a core, for a mutex or at a queue,
 -- its wait runs out, or its calls are not made
@@ -32,19 +35,28 @@ bearer (Steps (TimesOut task)) = Some task
 bearer (NotMade task) = Some task
 bearer subject = None
 
--- there is a task, and it is not the other one
-abbrev pub is_another : Option ℕ → Option ℕ → Bool
-is_another None judged = false
-is_another (Some task) None = true
-is_another (Some task) (Some judged) = not (task == judged)
+-- both tell the same of the same task
+abbrev pub are_same : Subject → Subject → Bool
+are_same (Time (Running task)) (Time (Running other)) = task == other
+are_same (Time (WantsCore task)) (Time (WantsCore other)) = task == other
+are_same (Time (Inverted task)) (Time (Inverted other)) = task == other
+are_same (Time (Blocked task AnyMutex)) (Time (Blocked other AnyMutex)) = task == other
+are_same (Time (Blocked task AnyQueue)) (Time (Blocked other AnyQueue)) = task == other
+are_same (Steps (TimesOut task)) (Steps (TimesOut other)) = task == other
+are_same (NotMade task) (NotMade other) = task == other
+are_same subject other = false
 
--- it is a total that another task bears than the judged subject is of
-abbrev pub is_cost : Subject → Subject → Part → Bool
-is_cost judged subject Total = is_another (bearer subject) (task_of judged)
-is_cost judged subject Longest = false
+-- it is the judged number
+abbrev pub is_judged : Figure → Subject → Bool
+is_judged judged subject = is_total judged.part && are_same judged.subject subject
+
+-- it is a total that a task bears, and not the judged number
+abbrev pub is_cost : Figure → Subject → Part → Bool
+is_cost judged subject part =
+    is_total part && is_some (bearer subject) && not (is_judged judged subject)
 
 -- so is the figure at an index
-abbrev pub is_cost_at : Subject → List Figure → ℕ → Bool
+abbrev pub is_cost_at : Figure → List Figure → ℕ → Bool
 is_cost_at judged figures index =
     option_map_or (λ figure. is_cost judged figure.subject figure.part) (slice_get figures index)
     false
@@ -56,7 +68,7 @@ is_changed_at before after index = not (value_at before index == value_at after 
 -- the line of a cost that is not as it was
 unfoldable pub cost_line : Basis → List Figure → ℕ → List ℕ
 cost_line basis after index =
-    if is_cost_at basis.judged.subject basis.figures index
+    if is_cost_at basis.judged basis.figures index
     && is_changed_at basis.figures after index
     then codes "   " ++ name_at basis.session.header basis.figures index ++ codes " "
     ++ number_words (value_at basis.figures index) (value_at after index) ++ codes "\n"

@@ -1,4 +1,4 @@
-//! What a change costs other tasks.
+//! What a change costs the tasks.
 ghost use Rattle.std.specs.Prelude.{◌≡◌, ◌++◌, IfOk, OnOk, string_bytes};
 ghost use Rattle.ranked_changes.specs.Changed.{changed, IsChangeOf};
 ghost use Rattle.ranked_changes.specs.Verdicts.{IsVerdict};
@@ -6,7 +6,7 @@ ghost use Rattle.session_reports.specs.Figures.{AreFigures};
 ghost use Rattle.settled_runs.specs.Runs.{IsTooLong};
 ghost use Rattle.session_advice.specs.Advice.{AddsCosts};
 ghost use Rattle.session_advice.specs.Basis.{basis_of, judge_of, IsBasis};
-ghost use Rattle.session_advice.specs.Costs.{bearer, cost_line, cost_lines, is_another, is_changed_at, is_cost, is_cost_at};
+ghost use Rattle.session_advice.specs.Costs.{are_same, bearer, cost_line, cost_lines, is_changed_at, is_cost, is_cost_at, is_judged, is_total};
 
 use crate::basis::Base;
 use crate::words::push_number;
@@ -39,27 +39,70 @@ fn bearer(subject: Subject) -> Option<u32>
     }
 }
 
-fn is_another(task: Option<u32>, judged: Option<u32>) -> bool
-    ensures { result ≡ is_another task judged }
+fn is_total(part: Part) -> bool
+    ensures { result ≡ is_total part }
 {
-    match (task, judged) {
-        (None, _) => false,
-        (Some(_), None) => true,
-        (Some(task), Some(judged)) => task != judged,
+    matches!(part, Part::Total)
+}
+
+// Whether both tell the same of the same task.
+fn are_same(subject: Subject, other: Subject) -> bool
+    ensures { result ≡ are_same subject other }
+{
+    match (subject, other) {
+        (Subject::Time(condition), Subject::Time(other)) => are_same_times(condition, other),
+        (Subject::Steps(Event::TimesOut { task }), Subject::Steps(Event::TimesOut { task: other }))
+        | (Subject::NotMade { task }, Subject::NotMade { task: other }) => task == other,
+        _ => false,
     }
 }
 
-fn is_cost(judged: Subject, subject: Subject, part: Part) -> bool
-    ensures { result ≡ is_cost judged subject part }
+// The same of two conditions.
+fn are_same_times(condition: Condition, other: Condition) -> bool
+    ensures { result ≡ are_same (Subject.Time condition) (Subject.Time other) }
 {
-    match part {
-        Part::Total => is_another(bearer(subject), judged.task()),
-        Part::Longest => false,
+    match (condition, other) {
+        (Condition::Running { task }, Condition::Running { task: other })
+        | (Condition::WantsCore { task }, Condition::WantsCore { task: other })
+        | (Condition::Inverted { task }, Condition::Inverted { task: other }) => task == other,
+        (
+            Condition::Blocked {
+                task,
+                cause: Cause::AnyMutex,
+            },
+            Condition::Blocked {
+                task: other,
+                cause: Cause::AnyMutex,
+            },
+        )
+        | (
+            Condition::Blocked {
+                task,
+                cause: Cause::AnyQueue,
+            },
+            Condition::Blocked {
+                task: other,
+                cause: Cause::AnyQueue,
+            },
+        ) => task == other,
+        _ => false,
     }
 }
 
-fn is_cost_at(judged: Subject, figures: &[Figure], index: usize) -> bool
-    ensures { result ≡ is_cost_at judged figures.now index }
+fn is_judged(judged: &Figure, subject: Subject) -> bool
+    ensures { result ≡ is_judged judged.now subject }
+{
+    is_total(judged.part) && are_same(judged.subject, subject)
+}
+
+fn is_cost(judged: &Figure, subject: Subject, part: Part) -> bool
+    ensures { result ≡ is_cost judged.now subject part }
+{
+    is_total(part) && bearer(subject).is_some() && !is_judged(judged, subject)
+}
+
+fn is_cost_at(judged: &Figure, figures: &[Figure], index: usize) -> bool
+    ensures { result ≡ is_cost_at judged.now figures.now index }
 {
     match figures.get(index) {
         Some(figure) => is_cost(judged, figure.subject, figure.part),
@@ -86,7 +129,7 @@ fn push_cost_line(
         ≡ string_bytes text.old ++ cost_line (basis_of base.now) after.now index) }
 {
     let before = base.figures;
-    if !is_cost_at(base.judged.subject, before, index) || !is_changed_at(before, after, index) {
+    if !is_cost_at(&base.judged, before, index) || !is_changed_at(before, after, index) {
         return Ok(());
     }
     text.push_str("   ")?;
@@ -129,7 +172,7 @@ fn figures_after(
     }
 }
 
-/// Writes after the text what the change costs other tasks, of which the verdict was said.
+/// Writes after the text what the change costs the tasks, of which the verdict was said.
 pub(crate) fn push_costs(
     alloc: Global,
     meter: &mut Meter,

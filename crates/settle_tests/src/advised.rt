@@ -45,7 +45,9 @@ const BEST: &str = "B.ready is 2; 12 changes tried
 1. priority of A 1, was 2: 0 (-2)
    A.run 0 (-2)
    A.ready 2 (+2)
+   B.run 4 (+2)
 2. priority of B 2, was 1: 0 (-2)
+   B.run 4 (+2)
    C.run 2 (-2)
    C.ready 2 (+2)
 ";

@@ -1,7 +1,9 @@
 //! The numbers of runs, and limits of them. Each was counted by hand.
 use crate::settled::{TICK, call, session_of, switch};
-use bench_samples::three_tasks;
-use bench_types::{Call, CheckedSession, Direction, Header, Items, QueueArgs, Step};
+use bench_samples::{low_and_high, three_tasks};
+use bench_types::{
+    Call, CheckedSession, Direction, Header, Items, Note, NotifyAction, QueueArgs, Step,
+};
 use report_figures::{Bound, figure_called, figures_of, subjects_of};
 use run_numbers::{Condition, Subject};
 use session_reports::{CheckStatus, Checked, Wanted, check, figures_of_session};
@@ -135,13 +137,23 @@ fn numbers_of_queues(rt: HostRuntime) -> Result<(), Fail> {
         ("queue.1.full", 6),
         ("queue.1.full.longest", 3),
         ("queue.1.waits", 1),
+        ("A.calls.queue.0.receive", 1),
+        ("A.calls.queue.0.receive.total", 5),
+        ("B.calls.queue.1.send", 1),
+        ("B.calls.queue.1.send.longest", 5),
+        ("C.preempted", 1),
+        ("core.0.interrupts", 3),
+        ("core.0.switches", 2),
+        ("core.1.switches", 3),
+        ("run.time", 7),
+        ("run.steps", 19),
     ];
     for (name, number) in &wanted {
         let found = value(&rt, &session, false, name)?;
         assert_eq!(&rt; found, Some(*number), "{name}");
     }
     let subjects = subjects_of(rt.alloc(), session.header())?;
-    assert_eq!(&rt; subjects.len(), 3 * (24 + 5) + 2 * 3 + 2 * 4);
+    assert_eq!(&rt; subjects.len(), 3 * (33 + 5 + 8) + 2 * 6 + 2 * 4 + 3);
     Ok(())
 }
 
@@ -158,7 +170,7 @@ fn numbers_without_queues(rt: HostRuntime) -> Result<(), Fail> {
     let header = without_queues(rt.alloc())?;
     header.check()?;
     let subjects = subjects_of(rt.alloc(), &header)?;
-    assert_eq!(&rt; subjects.len(), 3 * 24 + 2 * 3);
+    assert_eq!(&rt; subjects.len(), 3 * 33 + 2 * 6 + 3);
     let suspended = Subject::Time(Condition::Suspended { task: 2 });
     assert_eq!(&rt; subjects.as_slice().get(9).copied(), Some(suspended));
     Ok(())
@@ -283,6 +295,78 @@ fn numbers_of_a_driver(rt: HostRuntime) -> Result<(), Fail> {
     Ok(())
 }
 
+/// L has the mutex, for which H waits three ticks: two until L gives it, and one until core 0 has
+/// switched to H. Meanwhile H loses the second of two notifications. Then its preemption is off for
+/// two ticks, at the second of which core 0 holds the kernel, and L doesn't get the mutex.
+fn session_of_calls(rt: &impl Abort, host: &HostRuntime) -> Result<CheckedSession, Fail> {
+    let steps = [
+        call(1, 2, Call::MutexTake { mutex: 0, ticks: 0 }),
+        TICK,
+        call(0, 3, Call::MutexTake { mutex: 0, ticks: 5 }),
+        TICK,
+        switch(0),
+        TICK,
+        notifies(3, NotifyAction::Set(7)),
+        notifies(3, NotifyAction::SetNew(9)),
+        call(1, 2, Call::MutexGive(0)),
+        TICK,
+        switch(0),
+        switch(1),
+        call(0, 3, Call::Finish),
+        TICK,
+        call(0, 3, Call::PreemptOff(3)),
+        TICK,
+        call(0, 3, Call::HoldOpen),
+        TICK,
+        call(0, 3, Call::HoldClose),
+        call(0, 3, Call::PreemptOn(3)),
+        call(1, 2, Call::MutexTake { mutex: 0, ticks: 0 }),
+    ];
+    let header = low_and_high(host.alloc())?;
+    session_of(rt, header, Vec::from_slice(host.alloc(), &steps)?)
+}
+
+const fn notifies(task: u32, action: NotifyAction) -> Step {
+    let note = Note {
+        task,
+        index: 0,
+        action,
+    };
+    Step::Interrupt { core: 1, note }
+}
+
+#[test]
+fn numbers_of_calls(rt: HostRuntime) -> Result<(), Fail> {
+    let session = session_of_calls(&rt, &rt)?;
+    let wanted = [
+        ("H.blocked.mutex.0", 2),
+        ("H.calls.mutex.0", 1),
+        ("H.calls.mutex.0.total", 3),
+        ("H.calls.mutex.0.longest", 3),
+        ("H.calls.delay", 0),
+        ("H.notifications.lost", 1),
+        ("H.preemption_off", 2),
+        ("H.preempted", 0),
+        ("L.calls.mutex.0", 2),
+        ("L.calls.mutex.0.total", 0),
+        ("L.inherited", 2),
+        ("core.0.held", 1),
+        ("core.0.switches", 2),
+        ("core.1.switches", 0),
+        ("core.1.interrupts", 2),
+        ("mutex.0.waits", 1),
+        ("mutex.0.refused", 1),
+        ("run.time", 7),
+        ("run.steps", 21),
+        ("run.not_made", 0),
+    ];
+    for (name, number) in &wanted {
+        let found = value(&rt, &session, false, name)?;
+        assert_eq!(&rt; found, Some(*number), "{name}");
+    }
+    Ok(())
+}
+
 fn checked(rt: &impl Abort, host: &HostRuntime, name: &str, bound: Bound) -> Result<Checked, Fail> {
     let alloc = host.alloc();
     let session = session(rt, host)?;
@@ -318,6 +402,6 @@ fn figures_of_all_subjects(rt: HostRuntime) -> Result<(), Fail> {
     let subjects = subjects_of(rt.alloc(), &header)?;
     let none = figures_of(rt.alloc(), &[])?;
     assert_eq!(&rt; none.len(), 0);
-    assert_eq!(&rt; subjects.len(), 3 * 23 + 2 * 3);
+    assert_eq!(&rt; subjects.len(), 3 * 32 + 2 * 6 + 3);
     Ok(())
 }

@@ -103,6 +103,7 @@ const TOLD: &str = "C.run is 0; 9 changes tried
 3. priority of C 3, was 0: 500001 (+500001)
    B.run 0 (-500001)
    B.ready 500001 (+500001)
+   C.ready 0 (-500001)
 4. priority of A 1, was 2: more than 1000000 steps
 5. priority of B 0, was 1: more than 1000000 steps
 6. priority of B 2, was 1: more than 1000000 steps

@@ -28,14 +28,15 @@ loop-k-preserved c =
     let k = c.loop-k.k in
     let left = c.args.left.now in
     let subjects = c.args.subjects.now in
+    let steps = c.args.steps in
     let so_far = past counted.clock.elapsed counted.clock.places.items in
     let within : k < length counters = omega (arith, c.loop-k-test.true, c.requires.size) in
     let own : c.index.result.now ≡ counter_in counters k = c.index.ensures ∙ get_or_default counters k _ (first_counter 0 false) within in
     let same = get_or_default subjects k _ (NotMade 0) c.loop-k-test.true in
     let reading =
-    c.reading-reading.ensures ∙ ap (λ (subject : Subject). reading_in so_far c.index.result.now left subject) same
-    ∙ ap (λ (counter : Counter). reading_in so_far counter left (subject_in subjects k)) own in
+    c.reading-reading.ensures ∙ ap (λ (subject : Subject). reading_in steps so_far c.index.result.now left subject) same
+    ∙ ap (λ (counter : Counter). reading_in steps so_far counter left (subject_in subjects k)) own in
     let one = ap₂ (λ (subject : Subject) (reading : Reading). record { subject = subject; reading = reading }) same reading in
     c.in_ok-push.ensures.items ∙ ap (λ (m : Measured). c.loop-k.all.items ++ m ∷ []) one
-    ∙ ap (λ (ms : List Measured). ms ++ measured_at so_far counters left subjects k ∷ []) c.loop-k.invariant
-    ∙ sym (map-range_with_len_more (measured_at so_far counters left subjects) 0 k k (omega arith))
+    ∙ ap (λ (ms : List Measured). ms ++ measured_at steps so_far counters left subjects k ∷ []) c.loop-k.invariant
+    ∙ sym (map-range_with_len_more (measured_at steps so_far counters left subjects) 0 k k (omega arith))

@@ -100,7 +100,7 @@ def names_of(session):
             yield from (f"{name}.{one}", f"{name}.{one}.longest")
         for one in report.call_names(session):
             yield from (f"{name}.{one}", f"{name}.{one}.total", f"{name}.{one}.longest")
-        yield f"{name}.not_made"
+        yield from (f"{name}.{one}" for one in (*report.JOB_NUMBERS, "not_made"))
     for core in range(session["cores"]):
         for one in ("user", "idle", "due", "held"):
             yield from (f"core.{core}.{one}", f"core.{core}.{one}.longest")
@@ -123,7 +123,8 @@ def condition_of(session, name):
 
 def unit(session, name):
     """What stands behind a number of time, where a tick has more than one unit."""
-    of_time = name == "run.time" or condition_of(session, name) is not None
+    of_jobs = any(name.endswith(f".{one}") for one in report.JOB_NUMBERS if one != "jobs")
+    of_time = name == "run.time" or of_jobs or condition_of(session, name) is not None
     return " units" if of_time and report.units_of(session) else ""
 
 

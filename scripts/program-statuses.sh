@@ -740,17 +740,24 @@ run 'a report of a file' 0 '     value number
          1 A.calls.delay
          1 A.calls.delay.total
          1 A.calls.delay.longest from place 2
+         1 A.jobs
          1 B.run
          1 B.run.longest from place 2
          1 B.run.1
          1 B.run.1.longest from place 2
          1 B.top_priority
+         1 B.jobs
+         1 B.response.total
+         1 B.response.longest from place 0
          1 C.run
          1 C.run.longest from place 2
          1 C.run.0
          1 C.run.0.longest from place 2
          1 C.switches
          1 C.top_priority
+         1 C.jobs
+         1 C.response.total
+         1 C.response.longest from place 0
          1 core.0.user
          1 core.0.user.longest from place 2
          1 core.0.switches

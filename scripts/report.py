@@ -12,6 +12,7 @@ formed. With the word `--settle` the settled runs are measured. Standard output 
 """
 
 import copy
+import dataclasses
 import json
 import sys
 
@@ -24,6 +25,8 @@ BLOCKED_BY = {
 }
 # How a wait at a queue is called after the queue.
 WAYS = {"queue_send": "send", "queue_receive": "receive"}
+# The calls by which a task asks for work.
+WORK = ("delay", "delay_until", "notify_wait", "notify_take", "queue_receive")
 CODES = [f"E{number}" for number in range(1, 10)]
 
 
@@ -199,6 +202,100 @@ def event_name(event, names):
     return ".".join([names[of], kind, *code]) if of in names else None
 
 
+# Jobs: what a task does between two waits for work.
+
+
+@dataclasses.dataclass
+class Job:
+    """A job of a task: where it begins, and when; when it was asked for, and had a core first."""
+
+    begins: int
+    begun: int
+    asked: int
+    started: int | None = None
+    ends: int | None = None
+
+
+def rests(table, task):
+    """Whether a task waits for work."""
+    call = table.unfinished[task]
+    waits = call is not None and call["do"] in WORK and not table.ready[task]
+    return table.suspended[task] or waits
+
+
+def asks(table, task, step, code):
+    """Whether a task asks for work by a step that is not refused."""
+    return code is None and step.get("by") is not None and table.number[step["by"]] == task and step["do"] in WORK
+
+
+def asked_time(table, task, step, ticks, now):
+    """When the job was asked for that a task begins now: of a delay until a count, its tick."""
+    own = step.get("by") is not None and table.number[step["by"]] == task
+    call = step if own else table.unfinished[task]
+    if call is None or call["do"] != "delay_until" or settle.ticks_until(table, call) > 0:
+        return now
+    ago = (table.tick - call["prev"] - call["inc"]) % settle.WORD
+    return ticks[-1 - ago] if ago < len(ticks) else 0
+
+
+class Jobs:
+    """The jobs of one task so far."""
+
+    def __init__(self, table, task):
+        self.task, self.done, self.wakes = task, [], []
+        self.open = None if rests(table, task) else Job(0, 0, 0)
+        self.see_core(table, 0)
+
+    def see_core(self, table, now):
+        """Note the first time with a core."""
+        if self.open and self.open.started is None and self.task in table.current:
+            self.open.started = now
+
+    def note(self, table, step, code, place, before, ticks, now):
+        """Note the step at a place, which was made."""
+        idle, more = rests(table, self.task), asks(table, self.task, step, code)
+        was = self.open
+        if was and (idle or more):
+            mine = step["do"] == "finish" and table.number[step["by"]] == self.task
+            if not (mine and idle and code is None and table.unfinished[self.task] is not None):
+                was.ends = before
+                self.done.append(was)
+            self.open = None
+        if not idle and (was is None or more):
+            asked = asked_time(table, self.task, step, ticks, now)
+            self.open = Job(place + 1, now, asked)
+            self.wakes.append((place + 1, now))
+        self.see_core(table, now)
+
+    def numbers(self, end):
+        """The name, value and place of each number of the jobs of a run that ends then."""
+        jobs = self.done + [self.open] * (self.open is not None)
+        answers = [(max(0, (end if j.ends is None else j.ends) - j.asked), j.begins) for j in jobs]
+        waits = [
+            ((end if j.ends is None else j.ends) if j.started is None else j.started, j.begun, j.begins)
+            for j in jobs
+        ]
+        latencies = [(started - begun, begins) for started, begun, begins in waits]
+        pairs = zip(self.wakes, self.wakes[1:])
+        periods = [(later - first, begins) for (begins, first), (_, later) in pairs]
+        yield "jobs", len(jobs), None
+        yield "response.total", sum(time for time, _ in answers), None
+        yield ("response.longest", *longest(answers))
+        yield "response.shortest", min((max(0, j.ends - j.asked) for j in self.done), default=0), None
+        yield ("latency.longest", *longest(latencies))
+        yield ("period.longest", *longest(periods))
+        yield "period.shortest", min((time for time, _ in periods), default=0), None
+
+
+def longest(times):
+    """The greatest of times, and the place of the first that is as great."""
+    best = max((time for time, _ in times), default=0)
+    return best, next((place for time, place in times if time == best and best > 0), None)
+
+
+JOB_NUMBERS = ("jobs", "response.total", "response.longest", "response.shortest", "latency.longest")
+JOB_NUMBERS += ("period.longest", "period.shortest")
+
 # Numbers.
 
 
@@ -252,7 +349,7 @@ def all_counts(session):
     """The names of all that is counted in steps or calls."""
     for task in session["tasks"]:
         rest = ["switches", "preempted", "inheritances", "top_priority", "timeouts", "not_made"]
-        rest += ["late", "notifications.lost"]
+        rest += ["late", "notifications.lost", *JOB_NUMBERS]
         rest += [f"refused.{code}" for code in CODES] + list(call_names(session))
         yield from (f"{task['name']}.{one}" for one in rest)
     for core in range(session["cores"]):
@@ -273,6 +370,7 @@ def measured(session, steps, left):
     for name, total in totals.items():
         values[total] = values[f"{name}.longest"] = 0
     places, stretches = {}, {}
+    ticks, now, jobs = [], 0, [Jobs(table, task) for task in names]
     tops = {task: table.in_use[task] for task in names}
     most = list(table.messages)
     for place, step in enumerate(steps):
@@ -285,14 +383,27 @@ def measured(session, steps, left):
             stretches[name] = (before + time, began)
             if before + time > values[f"{name}.longest"]:
                 values[f"{name}.longest"], places[f"{name}.longest"] = before + time, began
-        for event in made(table, step):
+        events = made(table, step)
+        for event in events:
             if event_name(event, names):
                 values[event_name(event, names)] += 1
+        before, now = now, now + time
+        if step["do"] == "tick":
+            ticks.append(now)
+        code = next((rest[0] for kind, _, *rest in events if kind == "refused" and rest), None)
+        for one in jobs:
+            one.note(table, step, code, place, before, ticks, now)
         tops = {task: max(top, table.in_use[task]) for task, top in tops.items()}
         most = [max(pair) for pair in zip(most, table.messages)]
     for task, name in names.items():
         values[f"{name}.top_priority"] = tops[task]
         values[f"{name}.not_made"] = sum(call["by"] == name for call in left)
+    for one in jobs:
+        for number, value, begins in one.numbers(now):
+            name = f"{names[one.task]}.{number}"
+            values[name] = value
+            if begins is not None:
+                places[name] = begins
     values["run.time"] = sum(time_of(session, step) for step in steps)
     values["run.steps"], values["run.not_made"] = len(steps), len(left)
     for queue, messages in enumerate(most):

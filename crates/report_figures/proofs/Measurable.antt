@@ -11,9 +11,9 @@ use Rattle.bench_types.specs.Step.{settings_of}
 use Rattle.run_numbers.specs.declared.subject.Cause.TheVariants.{Delay, Notification, Mutex, AnyQueue}
 use Rattle.run_numbers.specs.declared.subject.Condition.TheVariants.{RunningOn, Blocked, Suspended}
 use Rattle.run_numbers.specs.declared.subject.Subject.{Subject}
-use Rattle.run_numbers.specs.declared.subject.Subject.TheVariants.{Time, NotMade}
+use Rattle.run_numbers.specs.declared.subject.Subject.TheVariants.{Time}
 use Rattle.run_numbers.specs.Readings.{IsSubjectOf}
-use Rattle.report_figures.specs.Subjects.{on_core, off_core, blocked_at, blocked_on, blocked_ways, calls_by, calls_for, state_of, takes_of, transfers_at, transfers_of, steps_of, refusals_of, task_subjects, user_subjects, core_subjects, mutex_subjects, queue_subjects, queues_of, run_subjects, waits_of}
+use Rattle.report_figures.specs.Subjects.{on_core, off_core, blocked_at, blocked_on, blocked_ways, calls_by, calls_for, jobs_of, state_of, takes_of, transfers_at, transfers_of, steps_of, refusals_of, task_subjects, user_subjects, core_subjects, mutex_subjects, queue_subjects, queues_of, run_subjects, waits_of}
 use Rattle.report_figures.specs.Subjects.{can_suspend, subjects_of, suspended_in}
 
 all_map : {X : Type 0} (P : X → Type 0) (f : ℕ → X) (ns : List ℕ) → AllByRecursion (λ n. P (f n)) ns → AllByRecursion P (map f ns)
@@ -83,7 +83,6 @@ module _ (header : Header) where
       let steps : AllByRecursion Fits (steps_of task) = (tt, (below, (below, (below, (tt, (tt, (tt, tt))))))) in
       let refused : AllByRecursion Fits (refusals_of task) = (tt, (tt, (tt, (tt, (tt, (tt, (tt, (tt, (tt, tt))))))))) in
       let stands : AllByRecursion Fits (state_of task) = (below, (below, tt)) in
-      let last : AllByRecursion Fits (NotMade task ∷ []) = (tt, tt) in
       let on_cores = on_core header.config.cores task in
       let waits = waits_of header.config.mutexes (queues_of header) (can_suspend header) task in
       let two = on_cores ++ off_core task in
@@ -92,13 +91,13 @@ module _ (header : Header) where
       let five = four ++ refusals_of task in
       let six = five ++ state_of task in
       let calls = calls_by header.config.mutexes (queues_of header) task in
+      let jobs : AllByRecursion Fits (jobs_of task) = (below, (below, (below, (below, (below, (below, (tt, tt))))))) in
       let fits_five : AllByRecursion Fits five =
       All-append Fits four (refusals_of task)
       (All-append Fits three (steps_of task) (All-append Fits two waits (All-append Fits on_cores (off_core task) on off) (waits_fit task below)) steps)
       refused in
-      All-append Fits (six ++ calls) (NotMade task ∷ [])
-      (All-append Fits six calls (All-append Fits five (state_of task) fits_five stands) (calls_fit task below))
-      last
+      let fits_six = All-append Fits five (state_of task) fits_five stands in
+      All-append Fits (six ++ calls) (jobs_of task) (All-append Fits six calls fits_six (calls_fit task below)) jobs
 
   users_fit : AllByRecursion Fits (user_subjects header.config (queues_of header) (can_suspend header) (length header.tasks))
   users_fit =

@@ -1,17 +1,31 @@
 -- The figures that numbers of a run are told by.
-use Rattle.std.specs.Prelude.{ℕ, ◌==◌, List, [], ◌∷◌, Option, Some, None, if◌then◌else◌}
+use Rattle.std.specs.Prelude.{ℕ, ◌==◌, ◌&&◌, not, Bool, true, false, List, [], ◌∷◌, ◌++◌, Option, Some, None, if◌then◌else◌}
 use Rattle.run_numbers.specs.declared.subject.Measured.{Measured}
 use Rattle.run_numbers.specs.declared.subject.Reading.{Reading}
 use Rattle.run_numbers.specs.declared.subject.Subject.{Subject}
-use Rattle.run_numbers.specs.declared.subject.Subject.TheVariants.{Time}
+use Rattle.run_numbers.specs.declared.subject.Subject.TheVariants.{Time, Job}
+use Rattle.run_numbers.specs.declared.subject.JobNumber.TheVariants as job
 use Rattle.report_figures.specs.declared.figures.Figure.{Figure}
 use Rattle.report_figures.specs.declared.figures.Part.TheVariants.{Total, Longest}
 
--- where the longest stretch begins: of a condition that some time found
+-- a subject that has a longest stretch or time
+abbrev pub has_longest : Subject → Bool
+has_longest (Time condition) = true
+has_longest (Job task job.Response) = true
+has_longest (Job task job.Latency) = true
+has_longest (Job task job.Period) = true
+has_longest subject = false
+
+-- a subject that is told by that alone
+abbrev pub has_total : Subject → Bool
+has_total (Job task job.Latency) = false
+has_total (Job task job.Period) = false
+has_total subject = true
+
+-- where the longest stretch begins, if it takes some time
 abbrev pub place_in : Subject → Reading → Option ℕ
-place_in (Time condition) reading =
-    if reading.longest == 0 then None else Some reading.from
-place_in subject reading = None
+place_in subject reading =
+    if has_longest subject && not (reading.longest == 0) then Some reading.from else None
 
 -- the total of a subject
 abbrev pub total_in : Measured → Figure
@@ -31,11 +45,8 @@ stretch_in measured = record {
   from = place_in measured.subject measured.reading;
 }
 
--- the longest stretch, which only a condition has
-abbrev pub stretches_in : Subject → Measured → List Figure
-stretches_in (Time condition) measured = stretch_in measured ∷ []
-stretches_in subject measured = []
-
--- the figures of a subject: its total, and the longest stretch of a condition
+-- the figures of a subject: its total, and its longest stretch
 abbrev pub figures_in : Measured → List Figure
-figures_in measured = total_in measured ∷ stretches_in measured.subject measured
+figures_in measured =
+    (if has_total measured.subject then total_in measured ∷ [] else [])
+    ++ (if has_longest measured.subject then stretch_in measured ∷ [] else [])

@@ -12,7 +12,9 @@ use Rattle.run_numbers.specs.declared.subject.Condition.TheVariants.{Running, Ru
 use Rattle.run_numbers.specs.declared.subject.Event.{Event}
 use Rattle.run_numbers.specs.declared.subject.Event.TheVariants.{SwitchedIn, Inherits, TimesOut, Refused, Late, Called, SwitchedOn, PutOff, Loses, Interrupted, NotTaken, Awaited, QueueAwaited}
 use Rattle.run_numbers.specs.declared.subject.Subject.{Subject}
-use Rattle.run_numbers.specs.declared.subject.Subject.TheVariants.{Time, Steps, TopPriority, MostMessages, NotMade, Run}
+use Rattle.run_numbers.specs.declared.subject.Subject.TheVariants.{Time, Steps, TopPriority, MostMessages, NotMade, Job, Run}
+use Rattle.run_numbers.specs.declared.subject.JobNumber.{JobNumber}
+use Rattle.run_numbers.specs.declared.subject.JobNumber.TheVariants as job
 use Rattle.run_numbers.specs.declared.subject.Whole.{Whole}
 use Rattle.run_numbers.specs.declared.subject.Whole.TheVariants as whole
 use Rattle.report_figures.specs.declared.figures.Part.{Part}
@@ -74,6 +76,14 @@ event_name header (NotTaken mutex) = codes "mutex." ++ decimal mutex ++ codes ".
 event_name header (Awaited mutex) = codes "mutex." ++ decimal mutex ++ codes ".waits"
 event_name header (QueueAwaited queue) = codes "queue." ++ decimal queue ++ codes ".waits"
 
+abbrev pub job_name : JobNumber → List ℕ
+job_name job.Count = codes ".jobs"
+job_name job.Response = codes ".response"
+job_name job.ShortestResponse = codes ".response.shortest"
+job_name job.Latency = codes ".latency"
+job_name job.Period = codes ".period"
+job_name job.ShortestPeriod = codes ".period.shortest"
+
 abbrev pub whole_name : Whole → List ℕ
 whole_name whole.Time = codes "run.time"
 whole_name whole.Steps = codes "run.steps"
@@ -87,18 +97,22 @@ subject_name header (TopPriority task) = name_of header task ++ codes ".top_prio
 subject_name header (MostMessages queue) =
     codes "queue." ++ decimal queue ++ codes ".messages"
 subject_name header (NotMade task) = name_of header task ++ codes ".not_made"
+subject_name header (Job task number) = name_of header task ++ job_name number
 subject_name header (Run number) = whole_name number
 
 -- what a total and a longest stretch add to the name of their subject; the time in calls has the
--- name of their number before it
+-- name of their number before it, and that of all answers has a word of its own
 abbrev pub part_name : Subject → Part → List ℕ
 part_name (Time (InCall task cause)) Total = codes ".total"
+part_name (Job task job.Response) Total = codes ".total"
 part_name subject Total = []
 part_name subject Longest = codes ".longest"
 
 -- a number of time
 abbrev pub is_time : Subject → Bool
 is_time (Time condition) = true
+is_time (Job task job.Count) = false
+is_time (Job task number) = true
 is_time (Run whole.Time) = true
 is_time subject = false
 

@@ -12,7 +12,8 @@ use Rattle.run_numbers.specs.declared.subject.Cause.TheVariants.{Delay, Notifica
 use Rattle.run_numbers.specs.declared.subject.Condition.TheVariants as condition
 use Rattle.run_numbers.specs.declared.subject.Event.TheVariants as event
 use Rattle.run_numbers.specs.declared.subject.Subject.{Subject}
-use Rattle.run_numbers.specs.declared.subject.Subject.TheVariants.{Time, Steps, TopPriority, MostMessages, NotMade, Run}
+use Rattle.run_numbers.specs.declared.subject.Subject.TheVariants.{Time, Steps, TopPriority, MostMessages, NotMade, Job, Run}
+use Rattle.run_numbers.specs.declared.subject.JobNumber.TheVariants as job
 use Rattle.run_numbers.specs.declared.subject.Whole.TheVariants as whole
 
 -- the task is on a core, whichever, and on each
@@ -98,12 +99,19 @@ refusals =
 abbrev pub refusals_of : ℕ → List Subject
 refusals_of task = map (λ why. Steps (event.Refused task why)) refusals
 
+-- what the jobs of the task have numbers of, and its calls that are not made
+abbrev pub jobs_of : ℕ → List Subject
+jobs_of task =
+    Job task job.Count ∷ Job task job.Response ∷ Job task job.ShortestResponse
+    ∷ Job task job.Latency ∷ Job task job.Period ∷ Job task job.ShortestPeriod
+    ∷ NotMade task ∷ []
+
 -- all that is measured of a task
 unfoldable pub task_subjects : Config → ℕ → Bool → ℕ → List Subject
 task_subjects config queues suspends task =
     on_core config.cores task ++ off_core task ++ waits_of config.mutexes queues suspends task
     ++ steps_of task ++ refusals_of task ++ state_of task ++ calls_by config.mutexes queues task
-    ++ NotMade task ∷ []
+    ++ jobs_of task
 
 -- of so many user tasks, whose numbers follow those of the idle tasks
 abbrev pub user_subjects : Config → ℕ → Bool → ℕ → List Subject

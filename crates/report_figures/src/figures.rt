@@ -1,8 +1,8 @@
 //! The figures that numbers of a run are told by.
-ghost use Rattle.std.specs.Prelude.{◌≡◌, ◌++◌, IfOk, OnOk, flat_map};
-ghost use Rattle.report_figures.specs.Figures.{figures_in, place_in, stretch_in, total_in};
+ghost use Rattle.std.specs.Prelude.{◌≡◌, ◌++◌, ◌∷◌, [], IfOk, OnOk, flat_map, if◌then◌else◌};
+ghost use Rattle.report_figures.specs.Figures.{figures_in, has_longest, has_total, place_in, stretch_in, total_in};
 
-use run_numbers::{Measured, Reading, Subject};
+use run_numbers::{JobNumber, Measured, Reading, Subject};
 use std::alloc::{AllocError, Global};
 
 /// Which number of a subject is meant.
@@ -25,7 +25,8 @@ pub struct Figure {
 }
 
 /// The figures of what was measured, in its order. A condition has two of them, its total and its
-/// longest stretch. Another subject has one, its total.
+/// longest stretch, and so have the answers of jobs. Waits for a core and periods have the longest
+/// alone. Each other subject has its total.
 pub fn figures_of(alloc: Global, measured: &[Measured]) -> Result<Vec<Figure>, AllocError>
     ensures { IfOk result (λ figures. figures.items ≡ flat_map figures_in measured.now) }
 {
@@ -39,13 +40,45 @@ pub fn figures_of(alloc: Global, measured: &[Measured]) -> Result<Vec<Figure>, A
 fn push_figures(figures: &mut Vec<Figure>, measured: Measured) -> Result<(), AllocError>
     ensures { OnOk result (figures.new.items ≡ figures.old.items ++ figures_in measured) }
 {
-    figures.push(total_in(measured))?;
-    match measured.subject {
-        Subject::Time(_) => {
-            figures.push(stretch_in(measured))?;
-            Ok(())
-        }
-        _ => Ok(()),
+    if has_total(measured.subject) {
+        figures.push(total_in(measured))?;
+    }
+    push_longest(figures, measured)
+}
+
+fn push_longest(figures: &mut Vec<Figure>, measured: Measured) -> Result<(), AllocError>
+    ensures { OnOk result
+        (figures.new.items
+        ≡ figures.old.items
+        ++ (if has_longest measured.subject then stretch_in measured ∷ [] else [])) }
+{
+    if has_longest(measured.subject) {
+        figures.push(stretch_in(measured))?;
+    }
+    Ok(())
+}
+
+// Whether the subject has a longest stretch or time.
+fn has_longest(subject: Subject) -> bool
+    ensures { result ≡ has_longest subject }
+{
+    match subject {
+        Subject::Time(_) => true,
+        Subject::Job { number, .. } => matches!(
+            number,
+            JobNumber::Response | JobNumber::Latency | JobNumber::Period
+        ),
+        _ => false,
+    }
+}
+
+// Whether it is told by more than that.
+fn has_total(subject: Subject) -> bool
+    ensures { result ≡ has_total subject }
+{
+    match subject {
+        Subject::Job { number, .. } => !matches!(number, JobNumber::Latency | JobNumber::Period),
+        _ => true,
     }
 }
 
@@ -74,14 +107,9 @@ fn stretch_in(measured: Measured) -> Figure
 fn place_in(subject: Subject, reading: Reading) -> Option<u32>
     ensures { result ≡ place_in subject reading }
 {
-    match subject {
-        Subject::Time(_) => {
-            if reading.longest == 0 {
-                None
-            } else {
-                Some(reading.from)
-            }
-        }
-        _ => None,
+    if has_longest(subject) && reading.longest != 0 {
+        Some(reading.from)
+    } else {
+        None
     }
 }

@@ -1,11 +1,11 @@
 //! The names of figures.
 ghost use Rattle.std.specs.Prelude.{◌≡◌, ◌++◌, OnOk, codes, decimal, string_bytes};
 ghost use Rattle.bench_types.specs.Header.{name_of};
-ghost use Rattle.report_figures.specs.Names.{cause_name, condition_name, direction_name, event_name, figure_name, is_time, part_name, subject_name, unit_text, units_line, whole_name};
+ghost use Rattle.report_figures.specs.Names.{cause_name, condition_name, direction_name, event_name, figure_name, is_time, job_name, part_name, subject_name, unit_text, units_line, whole_name};
 
 use crate::figures::Part;
 use bench_types::{Direction, Header};
-use run_numbers::{Cause, Condition, Event, Subject, Whole};
+use run_numbers::{Cause, Condition, Event, JobNumber, Subject, Whole};
 use std::alloc::AllocError;
 
 /// Writes the name of a figure after the text: the name of its subject, and of the longest stretch
@@ -42,7 +42,11 @@ pub(crate) fn push_unit(
 fn is_time(subject: Subject) -> bool
     ensures { result ≡ is_time subject }
 {
-    matches!(subject, Subject::Time(_) | Subject::Run(Whole::Time))
+    match subject {
+        Subject::Time(_) | Subject::Run(Whole::Time) => true,
+        Subject::Job { number, .. } => !matches!(number, JobNumber::Count),
+        _ => false,
+    }
 }
 
 /// Writes after the text how many units of time a tick has, where it has more than one.
@@ -53,6 +57,19 @@ pub(crate) fn push_units(text: &mut String, header: &Header) -> Result<(), Alloc
     match header.config.units {
         1 => Ok(()),
         units => write!(text, "time in units, {units} a tick\n"),
+    }
+}
+
+fn job_name(number: JobNumber) -> &'static str
+    ensures { result.now ≡ job_name number }
+{
+    match number {
+        JobNumber::Count => ".jobs",
+        JobNumber::Response => ".response",
+        JobNumber::ShortestResponse => ".response.shortest",
+        JobNumber::Latency => ".latency",
+        JobNumber::Period => ".period",
+        JobNumber::ShortestPeriod => ".period.shortest",
     }
 }
 
@@ -71,6 +88,13 @@ fn part_name(subject: Subject, part: Part) -> &'static str
 {
     match (subject, part) {
         (Subject::Time(Condition::InCall { .. }), Part::Total) => ".total",
+        (
+            Subject::Job {
+                number: JobNumber::Response,
+                ..
+            },
+            Part::Total,
+        ) => ".total",
         (_, Part::Total) => "",
         (_, Part::Longest) => ".longest",
     }
@@ -87,6 +111,7 @@ fn push_subject(text: &mut String, header: &Header, subject: Subject) -> Result<
         Subject::TopPriority { task } => push_of_task(text, header, task, ".top_priority"),
         Subject::MostMessages { queue } => push_numbered(text, "queue.", queue, ".messages"),
         Subject::NotMade { task } => push_of_task(text, header, task, ".not_made"),
+        Subject::Job { task, number } => push_of_task(text, header, task, job_name(number)),
         Subject::Run(number) => text.push_str(whole_name(number)),
     }
 }

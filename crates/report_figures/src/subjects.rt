@@ -4,10 +4,10 @@ ghost use Rattle.list_orders.specs.Search.{numbers};
 ghost use Rattle.bench_types.specs.Header.{header_check};
 ghost use Rattle.bench_types.specs.Step.{settings_of};
 ghost use Rattle.run_numbers.specs.Readings.{IsSubjectOf};
-ghost use Rattle.report_figures.specs.Subjects.{blocked_at, blocked_on, blocked_ways, calls_by, calls_for, core_subjects, mutex_subjects, off_core, on_core, queue_subjects, queues_of, refusals_of, run_subjects, steps_of, state_of, subjects_of, suspended_in, takes_of, task_subjects, transfers_at, transfers_of, user_subjects, waits_of};
+ghost use Rattle.report_figures.specs.Subjects.{blocked_at, blocked_on, blocked_ways, calls_by, calls_for, core_subjects, jobs_of, mutex_subjects, off_core, on_core, queue_subjects, queues_of, refusals_of, run_subjects, steps_of, state_of, subjects_of, suspended_in, takes_of, task_subjects, transfers_at, transfers_of, user_subjects, waits_of};
 
 use bench_types::{Config, Direction, Header, Refusal};
-use run_numbers::{Cause, Condition, Event, Subject, Whole};
+use run_numbers::{Cause, Condition, Event, JobNumber, Subject, Whole};
 use std::alloc::{AllocError, Global};
 
 /// All that a run of a session with this header is measured by: task by task, then core by core,
@@ -87,8 +87,7 @@ fn push_task(
     push_refusals(subjects, task)?;
     push_all(subjects, &state_of(task))?;
     push_calls(subjects, config.mutexes, queues, task)?;
-    subjects.push(Subject::NotMade { task })?;
-    Ok(())
+    push_all(subjects, &jobs_of(task))
 }
 
 fn push_all(subjects: &mut Vec<Subject>, all: &[Subject]) -> Result<(), AllocError>
@@ -239,6 +238,27 @@ fn state_of(task: u32) -> [Subject; 2]
     [
         Subject::Time(Condition::Raised { task }),
         Subject::Time(Condition::PreemptionOff { task }),
+    ]
+}
+
+fn job(task: u32, number: JobNumber) -> Subject
+    ensures { result ≡ Subject.Job task number }
+{
+    Subject::Job { task, number }
+}
+
+// What the jobs of the task have numbers of, and its calls that are not made.
+fn jobs_of(task: u32) -> [Subject; 7]
+    ensures { result ≡ jobs_of task }
+{
+    [
+        job(task, JobNumber::Count),
+        job(task, JobNumber::Response),
+        job(task, JobNumber::ShortestResponse),
+        job(task, JobNumber::Latency),
+        job(task, JobNumber::Period),
+        job(task, JobNumber::ShortestPeriod),
+        Subject::NotMade { task },
     ]
 }
 

@@ -15,7 +15,7 @@ use Rattle.run_numbers.specs.declared.counter.Since.{Since}
 use Rattle.run_numbers.specs.declared.event.BeforeStep.{BeforeStep}
 use Rattle.run_numbers.specs.declared.subject.Reading.{Reading}
 use Rattle.run_numbers.specs.declared.subject.Subject.{Subject}
-use Rattle.run_numbers.specs.declared.subject.Subject.TheVariants.{Time, Steps, TopPriority, MostMessages, NotMade, Run}
+use Rattle.run_numbers.specs.declared.subject.Subject.TheVariants.{Time, Steps, TopPriority, MostMessages, NotMade, Job, Run}
 use Rattle.run_numbers.specs.Conditions.{holds}
 use Rattle.run_numbers.specs.Counted.{holds_of, IsOpen, Tells}
 use Rattle.run_numbers.specs.Counters.{seen, since_now, time_since, took, with_stretch}
@@ -221,6 +221,8 @@ module _ (view : View) (step : Step) (place : ℕ) (so_far : Past) where
       other_found counter.reading counter.since (gauge_at header steps place (MostMessages queue)) (MostMessages queue) refl refl tells
   is_found header steps (NotMade task) counter tells =
       other_found counter.reading counter.since (gauge_at header steps place (NotMade task)) (NotMade task) refl refl tells
+  is_found header steps (Job task number) counter tells =
+      other_found counter.reading counter.since (gauge_at header steps place (Job task number)) (Job task number) refl refl tells
   is_found header steps (Run number) counter tells =
       other_found counter.reading counter.since (gauge_at header steps place (Run number)) (Run number) refl refl tells
 
@@ -275,5 +277,7 @@ module _ (before : BeforeStep) (step : Step) (reply : Reply) (view after : View)
       total_at view after so_far (MostMessages queue) gauge refl _ _ counter.reading counter.since it.tells.opened it.tells.numbers (λ same. cc same)
   is_taken (NotMade task) gauge counter it =
       total_at view after so_far (NotMade task) gauge refl _ _ counter.reading counter.since it.tells.opened it.tells.numbers (λ same. same)
+  is_taken (Job task number) gauge counter it =
+      total_at view after so_far (Job task number) gauge refl _ _ counter.reading counter.since it.tells.opened it.tells.numbers (λ same. same)
   is_taken (Run number) gauge counter it =
       total_at view after so_far (Run number) gauge refl _ _ counter.reading counter.since it.tells.opened it.tells.numbers (λ same. same)

@@ -23,7 +23,7 @@ use Rattle.run_numbers.specs.declared.subject.Event.{Event}
 use Rattle.run_numbers.specs.declared.subject.Event.TheVariants.{SwitchedIn, Inherits, TimesOut, Refused, Late, Called, SwitchedOn, PutOff, Loses, Interrupted, NotTaken, Awaited, QueueAwaited}
 use Rattle.run_numbers.specs.declared.subject.Reading.{Reading}
 use Rattle.run_numbers.specs.declared.subject.Subject.{Subject}
-use Rattle.run_numbers.specs.declared.subject.Subject.TheVariants.{Time, Steps, TopPriority, MostMessages, NotMade, Run}
+use Rattle.run_numbers.specs.declared.subject.Subject.TheVariants.{Time, Steps, TopPriority, MostMessages, NotMade, Job, Run}
 use Rattle.run_numbers.specs.AfterStep.{happens_after, has_left, inherited, is_it, is_left_ready, known_before, left_by, overrun_by, risen, switched_in}
 use Rattle.run_numbers.specs.Conditions.{holds, is_cause}
 use Rattle.run_numbers.specs.Counted.{holds_of}
@@ -245,4 +245,5 @@ module _ (before after : View) (row : List ℕ) (step : Step) (reply : Reply) (t
       total_same counter _ (ap (λ other. max counter.reading.total (task_at after.control other).in_use) own ∙ omega (arith, few))
   is_idle (MostMessages queue) so_far counter is known same low opened top = absurd (cc is)
   is_idle (NotMade other) so_far counter is known same low opened top = refl
+  is_idle (Job other number) so_far counter is known same low opened top = refl
   is_idle (Run number) so_far counter is known same low opened top = absurd (cc is)

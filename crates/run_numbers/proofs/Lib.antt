@@ -10,3 +10,4 @@ mod Counting
 mod Idle
 mod Visits
 mod Runs
+pub mod Working

@@ -6,6 +6,7 @@ use Rattle.std.specs.Prelude.{◌≢◌, if◌then◌else◌, is_some, min, opti
 use Rattle.std.specs.List.{sum_by}
 use Rattle.std.specs.Option.{option_map_or, ForSome}
 use Rattle.std.proofs.lemmas.List.{ext_get_or, length-map, get_or-map}
+use Rattle.std.specs.Prelude.{All}
 use Rattle.std.proofs.lemmas.List.Elements.{All-get_or}
 use Rattle.std.proofs.lemmas.List.FromFn.{length-range_with_len, length-map-range_with_len, get_or-map-range_with_len}
 use Rattle.std.proofs.lemmas.List.Sums.{count_by-le-length}
@@ -35,20 +36,24 @@ use Rattle.run_numbers.specs.declared.subject.Condition.{Condition}
 use Rattle.run_numbers.specs.declared.look.Look.{Look}
 use Rattle.run_numbers.specs.declared.subject.Reading.{Reading}
 use Rattle.run_numbers.specs.declared.subject.Subject.{Subject}
-use Rattle.run_numbers.specs.declared.subject.Subject.TheVariants.{Time, Steps, TopPriority, MostMessages, NotMade, Run}
+use Rattle.run_numbers.specs.declared.subject.Subject.TheVariants.{Time, Steps, TopPriority, MostMessages, NotMade, Job, Run}
 use Rattle.run_numbers.specs.declared.taking.Plan.{Plan}
 use Rattle.run_numbers.specs.AfterStep.{known_before, left_by}
 use Rattle.run_numbers.specs.Conditions.{holds}
-use Rattle.run_numbers.specs.Counted.{AreCounted, AreTold, HaveRoom, IsOpen, IsUntouched, Tells}
+use Rattle.run_numbers.specs.Counted.{AreCounted, AreTold, AreWorked, HaveRoom, IsOpen, IsUntouched, Tells}
 use Rattle.run_numbers.specs.Counters.{first_counter, told, took, with_stretch, HasRoom, HasRoomFor}
 use Rattle.run_numbers.specs.Gauge.{Gauge}
 use Rattle.run_numbers.specs.Events.{happens}
 use Rattle.run_numbers.specs.Gauges.{found, spell_after}
 use Rattle.run_numbers.specs.Looks.{look_of, IsKnown, IsRow}
 use Rattle.run_numbers.specs.Past.{Past, past, past_after}
-use Rattle.run_numbers.specs.Progress.{counter_in, first, measured_at, measured_in, stepped, subject_in}
+use Rattle.task_jobs.specs.declared.work.Work.{Work}
+use Rattle.run_numbers.specs.Progress.{counter_in, first, measured_at, measured_in, stepped, subject_in, work_in}
 use Rattle.run_numbers.specs.Readings.{measured, only, run_number, run_time, IsSubjectOf}
-use Rattle.run_numbers.specs.SoFar.{gauge_at, in_use_at, passed, passes_at}
+use Rattle.run_numbers.specs.TaskCourse.{course_of}
+use Rattle.run_numbers.proofs.Working.{job_told}
+use Rattle.run_numbers.specs.SoFar.{gauge_at, in_use_at, passed}
+use Rattle.run_numbers.specs.Moments.{passes_at}
 use Rattle.run_numbers.specs.Stretches.{found_at, holds_at, stretch_at, time_of_step}
 use Rattle.run_numbers.specs.Taking.{row_at, AreLooked, AreTaken, IsPlanOf}
 use Rattle.run_numbers.specs.Tasks.{task_of}
@@ -146,6 +151,7 @@ first_tells header steps kernel (MostMessages queue) shows = record {
   since = for_none _;
 }
 first_tells header steps kernel (NotMade task) shows = record { numbers = refl; opened = refl; since = for_none _ }
+first_tells header steps kernel (Job task number) shows = record { numbers = refl; opened = refl; since = for_none _ }
 first_tells header steps kernel (Run number) shows = record { numbers = refl; opened = refl; since = for_none _ }
 
 pub start_counted : (session : Session) (kernel : View) (plan : Plan) (counters : List Counter) (looks : List (Option Look)) (row : List ℕ)
@@ -229,6 +235,7 @@ module _ (session : Session) (place : ℕ) (kernel : View) (plan : Plan) (counte
   room_for step timed (TopPriority task) counter it = tt
   room_for step timed (MostMessages queue) counter it = tt
   room_for step timed (NotMade task) counter it = tt
+  room_for step timed (Job task number) counter it = tt
   room_for step timed (Run number) counter it = tt
 
   pub have_room : (step : Step) → time_here step < 2 ^ 32 → HaveRoom (later_past step) plan.subjects.now counters
@@ -388,34 +395,42 @@ all_told session kernel plan counters looks row so_far few counted = record {
     at (TopPriority task) counter tells = plain_room so_far counter places_few little tells.opened
     at (MostMessages queue) counter tells = plain_room so_far counter places_few little tells.opened
     at (NotMade task) counter tells = plain_room so_far counter places_few little tells.opened
+    at (Job task number) counter tells = plain_room so_far counter places_few little tells.opened
     at (Run number) counter tells = plain_room so_far counter places_few little tells.opened
 
 -- the numbers of a subject after the last step
-last_measured : (header : Header) (steps : List Step) (so_far : Past) (counter : Counter) (left : List WaitingCall) (subject : Subject)
-    → told so_far counter ≡ (gauge_at header steps (length steps) subject).reading → so_far.elapsed ≡ run_time header steps
-    → measured_in (length steps) so_far counter left subject ≡ measured header steps left subject
-last_measured header steps so_far counter left (Time condition) is time =
-    ap (λ (reading : Reading). record { subject = Time condition; reading = reading })
-    (is ∙ rw (find_top (stretch_at header steps condition) (length steps)) refl)
-last_measured header steps so_far counter left (Steps event) is time = ap (λ (reading : Reading). record { subject = Steps event; reading = reading }) is
-last_measured header steps so_far counter left (TopPriority task) is time = ap (λ (reading : Reading). record { subject = TopPriority task; reading = reading }) is
-last_measured header steps so_far counter left (MostMessages queue) is time = ap (λ (reading : Reading). record { subject = MostMessages queue; reading = reading }) is
-last_measured header steps so_far counter left (NotMade task) is time = refl
-last_measured header steps so_far counter left (Run number) is time =
-    ap (λ (time : ℕ). record { subject = Run number; reading = only (run_number time (length steps) left number) }) time
+module _ (session : Session) (so_far : Past) (works : List Work) (ticks : List ℕ) (worked : AreWorked session (length session.steps) works ticks)
+    (time : so_far.elapsed ≡ run_time session.header session.steps) (left : List WaitingCall) where
+  last_measured : (counter : Counter) (subject : Subject) → IsSubjectOf (settings_of session.header) subject
+      → told so_far counter ≡ (gauge_at session.header session.steps (length session.steps) subject).reading
+      → measured_in (length session.steps) so_far works counter left subject ≡ measured session.header session.steps left subject
+  last_measured counter (Time condition) known is =
+      ap (λ (reading : Reading). record { subject = Time condition; reading = reading })
+      (is ∙ rw (find_top (stretch_at session.header session.steps condition) (length session.steps)) refl)
+  last_measured counter (Steps event) known is = ap (λ (reading : Reading). record { subject = Steps event; reading = reading }) is
+  last_measured counter (TopPriority task) known is = ap (λ (reading : Reading). record { subject = TopPriority task; reading = reading }) is
+  last_measured counter (MostMessages queue) known is = ap (λ (reading : Reading). record { subject = MostMessages queue; reading = reading }) is
+  last_measured counter (NotMade task) known is = refl
+  last_measured counter (Job task number) known is =
+      ap (λ (reading : Reading). record { subject = Job task number; reading = reading })
+      (job_told (course_of session.header session.steps task) (length session.steps) so_far.elapsed (work_in works task)
+      (worked.each task (omega (arith, known, worked.size))) time number)
+  last_measured counter (Run number) known is =
+      ap (λ (time : ℕ). record { subject = Run number; reading = only (run_number time (length session.steps) left number) }) time
 
-pub all_measured : (session : Session) (so_far : Past) (counters : List Counter) (left : List WaitingCall) (subjects : List Subject)
-    → AreTold session subjects so_far counters
-    → map (measured_at (length session.steps) so_far counters left subjects) (numbers (length subjects)) ≡ map (measured session.header session.steps left) subjects
-all_measured session so_far counters left subjects are =
+pub all_measured : (session : Session) (so_far : Past) (works : List Work) (ticks : List ℕ) (counters : List Counter) (left : List WaitingCall) (subjects : List Subject)
+    → AreTold session subjects so_far counters → AreWorked session (length session.steps) works ticks → All (IsSubjectOf (settings_of session.header)) subjects
+    → map (measured_at (length session.steps) so_far works counters left subjects) (numbers (length subjects)) ≡ map (measured session.header session.steps left) subjects
+all_measured session so_far works ticks counters left subjects are worked known =
     let n = length subjects in
     let of = measured session.header session.steps left in
     let d = of (NotMade 0) in
-    let at = measured_at (length session.steps) so_far counters left subjects in
+    let at = measured_at (length session.steps) so_far works counters left subjects in
     ext_get_or d (map at (numbers n)) (map of subjects)
     (length-map-range_with_len at 0 n ∙ sym (length-map subjects of))
     (λ k low.
     let within : k < n = omega (arith, low, length-map-range_with_len at 0 n) in
     get_or-map-range_with_len at 0 n k k d within (omega arith)
-    ∙ last_measured session.header session.steps so_far (counter_in counters k) left (subject_in subjects k) (are.each k within) are.elapsed
+    ∙ last_measured session so_far works ticks worked are.elapsed left (counter_in counters k) (subject_in subjects k)
+    (All-get_or (IsSubjectOf (settings_of session.header)) subjects k (NotMade 0) within known) (are.each k within)
     ∙ sym (get_or-map of subjects k (NotMade 0) d within))

@@ -27,7 +27,7 @@ use Rattle.run_numbers.specs.Conditions.{holds}
 use Rattle.run_numbers.specs.Events.{happens, inherits, is_refused, is_unread, note_of, overruns, sets_value}
 use Rattle.run_numbers.specs.Readings.{IsConditionOf, IsEventOf}
 
-ready_seen : (table : Table) (task : ℕ) → IsConsistent table → task < table.settings.tasks → list_queues.is_ready task (view_of table).orders ≡
+pub ready_seen : (table : Table) (task : ℕ) → IsConsistent table → task < table.settings.tasks → list_queues.is_ready task (view_of table).orders ≡
     stamp_queues.is_ready task table.orders
 ready_seen table task sound low = is_ready_seen table.control table.orders task sound.stamped.given (omega (arith, low, sound.sized.rows))
 

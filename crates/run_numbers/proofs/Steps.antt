@@ -19,14 +19,15 @@ use Rattle.smp_kernel.proofs.Raises.{step_others}
 use Rattle.run_numbers.specs.Gauge.{Gauge}
 use Rattle.run_numbers.specs.declared.subject.Condition.{Condition}
 use Rattle.run_numbers.specs.declared.subject.Subject.{Subject}
-use Rattle.run_numbers.specs.declared.subject.Subject.TheVariants.{Time, Steps, TopPriority, MostMessages, NotMade, Run}
+use Rattle.run_numbers.specs.declared.subject.Subject.TheVariants.{Time, Steps, TopPriority, MostMessages, NotMade, Job, Run}
 use Rattle.run_numbers.specs.Events.{happens}
 use Rattle.run_numbers.specs.Gauges.{initial_gauge, spell_after}
 use Rattle.run_numbers.specs.Messages.{messages_at}
+use Rattle.run_numbers.specs.Moments.{passes_at}
 use Rattle.run_numbers.specs.Progress.{stepped}
 use Rattle.run_numbers.specs.Readings.{IsSubjectOf}
 use Rattle.run_numbers.specs.Stretches.{found_at, holds_at, start_at, stretch_at, time_of_step}
-use Rattle.run_numbers.specs.SoFar.{first_top, gauge_at, in_use_at, passed, passes_at, top}
+use Rattle.run_numbers.specs.SoFar.{first_top, gauge_at, in_use_at, passed, top}
 use Rattle.run_numbers.proofs.Places.{count_more, greatest_more, sum_more}
 use Rattle.run_numbers.proofs.Seeing.{happens_seen, holds_seen}
 
@@ -109,4 +110,5 @@ module _ (header : Header) (steps : List Step) (place : ℕ) (step : Step) (ther
   gauge_more (TopPriority task) known = ap initial_gauge (sym (greatest_more (in_use_at header steps task) (suc place)))
   gauge_more (MostMessages queue) known = ap initial_gauge (sym (greatest_more (messages_at header steps queue) (suc place)))
   gauge_more (NotMade task) known = refl
+  gauge_more (Job task number) known = refl
   gauge_more (Run number) known = refl

@@ -1,5 +1,5 @@
 -- How far the subjects of a session are counted.
-use Rattle.std.specs.Prelude.{◌≡◌, ℕ, ◌-◌, ◌*◌, ◌^◌, ◌<◌, ◌≤◌, Bool, false, is_some, List, length, Option, slice_index}
+use Rattle.std.specs.Prelude.{◌≡◌, ℕ, ◌-◌, ◌*◌, ◌^◌, ◌<◌, ◌≤◌, ⊤, Bool, false, is_some, List, length, Option, slice_index}
 use Rattle.std.specs.List.{sum_by}
 use Rattle.std.specs.Option.{ForSome}
 use Rattle.list_orders.specs.Search.{numbers}
@@ -14,7 +14,7 @@ use Rattle.run_numbers.specs.declared.counter.Since.{Since}
 use Rattle.run_numbers.specs.declared.event.BeforeStep.{BeforeStep}
 use Rattle.run_numbers.specs.declared.look.Look.{Look}
 use Rattle.run_numbers.specs.declared.subject.Subject.{Subject}
-use Rattle.run_numbers.specs.declared.subject.Subject.TheVariants.{Time}
+use Rattle.run_numbers.specs.declared.subject.Subject.TheVariants.{Time, Job}
 use Rattle.run_numbers.specs.declared.taking.Plan.{Plan}
 use Rattle.run_numbers.specs.Conditions.{holds}
 use Rattle.run_numbers.specs.Counters.{time_since, told, HasRoom, HasRoomFor}
@@ -22,7 +22,10 @@ use Rattle.run_numbers.specs.Gauge.{Gauge}
 use Rattle.run_numbers.specs.Looks.{look_of, IsApart, IsKnown, IsRow}
 use Rattle.run_numbers.specs.Past.{Past}
 use Rattle.run_numbers.specs.Readings.{run_time}
-use Rattle.run_numbers.specs.Progress.{counter_in, subject_in}
+use Rattle.task_jobs.specs.declared.work.Work.{Work}
+use Rattle.task_jobs.specs.Works.{work_at, HasRoom as HasRoomForWork}
+use Rattle.run_numbers.specs.Progress.{counter_in, subject_in, work_in}
+use Rattle.run_numbers.specs.TaskCourse.{course_of, tick_times}
 use Rattle.run_numbers.specs.SoFar.{gauge_at}
 use Rattle.run_numbers.specs.Stretches.{time_of_step}
 use Rattle.run_numbers.specs.Taking.{AreLooked}
@@ -77,6 +80,19 @@ pub record IsUntouched (looks : List (Option Look)) (row : List ℕ) (before : B
     (step : Step) (after : View) (task : ℕ) : Type 0 where
   pub known : IsKnown looks task (look_of after task)
   pub apart : IsApart row before step after task
+
+-- the work of each task is that of so many steps, and so are the times of ticks
+pub record AreWorked (session : Session) (place : ℕ) (works : List Work) (times : List ℕ) :
+    Type 0 where
+  pub size : length works ≡ (settings_of session.header).tasks
+  pub each : (task : ℕ) → task < length works
+      → work_in works task ≡ work_at (course_of session.header session.steps task) place
+  pub ticks : times ≡ tick_times session.header session.steps place
+
+-- the subject is of no job, or of those of a task whose work is known
+abbrev pub IsWorkOf : List Work → Subject → Type 0
+IsWorkOf works (Job task number) = (task < length works) × HasRoomForWork (work_in works task)
+IsWorkOf works subject = ⊤
 
 -- after the last step the counters tell the numbers of the subjects
 pub record AreTold (session : Session) (subjects : List Subject) (so_far : Past)

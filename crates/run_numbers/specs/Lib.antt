@@ -7,6 +7,7 @@ pub mod Gauge
 pub mod Gauges
 pub mod Looks
 pub mod Messages
+pub mod Moments
 pub mod NumberLaws
 pub mod Past
 pub mod Progress
@@ -15,4 +16,7 @@ pub mod Rows
 pub mod SoFar
 pub mod Stretches
 pub mod Taking
+pub mod TaskCourse
 pub mod Tasks
+pub mod Turns
+pub mod Work

@@ -7,17 +7,21 @@ use Rattle.bench_model.specs.Lists.{View, list_queues}
 use Rattle.bench_model.specs.Queues.{queue_at}
 use Rattle.settled_runs.specs.declared.waiting_call.WaitingCall.{WaitingCall}
 use Rattle.run_numbers.specs.declared.counter.Counter.{Counter}
+use Rattle.task_jobs.specs.declared.work.Work.{Work}
+use Rattle.task_jobs.specs.Works.{first_work, latencies_now, responses_now}
+use Rattle.run_numbers.specs.declared.subject.JobNumber.{JobNumber}
+use Rattle.run_numbers.specs.declared.subject.JobNumber.TheVariants as job
 use Rattle.run_numbers.specs.declared.subject.Measured.{Measured}
 use Rattle.run_numbers.specs.declared.subject.Reading.{Reading}
 use Rattle.run_numbers.specs.declared.subject.Subject.{Subject}
-use Rattle.run_numbers.specs.declared.subject.Subject.TheVariants.{Time, TopPriority, MostMessages, NotMade, Run}
+use Rattle.run_numbers.specs.declared.subject.Subject.TheVariants.{Time, TopPriority, MostMessages, NotMade, Job, Run}
 use Rattle.run_numbers.specs.AfterStep.{known_before}
 use Rattle.run_numbers.specs.Conditions.{holds}
 use Rattle.run_numbers.specs.Counters.{first_counter, told}
 use Rattle.run_numbers.specs.Gauge.{Gauge}
 use Rattle.run_numbers.specs.Gauges.{found, left}
 use Rattle.run_numbers.specs.Past.{Past}
-use Rattle.run_numbers.specs.Readings.{calls_of, only, run_number}
+use Rattle.run_numbers.specs.Readings.{calls_of, only, reading_in_all, run_number}
 
 abbrev pub counter_in : List Counter → ℕ → Counter
 counter_in counters k = slice_index_or counters k (first_counter 0 false)
@@ -39,17 +43,33 @@ stepped before step reply after place subject gauge =
     left (known_before before step) step reply after subject
     (found before step place subject gauge)
 
--- the numbers of a subject after so many steps, by its counter and the calls that were not made
-abbrev pub reading_in : ℕ → Past → Counter → List WaitingCall → Subject → Reading
-reading_in steps past counter left (NotMade task) = only (calls_of task left)
-reading_in steps past counter left (Run number) =
+abbrev pub work_in : List Work → ℕ → Work
+work_in works task = slice_index_or works task (first_work false false)
+
+-- a number of the jobs of a task, by its work
+abbrev pub job_number : ℕ → Work → JobNumber → Reading
+job_number now work job.Count = only (responses_now now work).count
+job_number now work job.Response = reading_in_all (responses_now now work)
+job_number now work job.ShortestResponse = only work.responses.shortest
+job_number now work job.Latency = reading_in_all (latencies_now now work)
+job_number now work job.Period = reading_in_all work.periods
+job_number now work job.ShortestPeriod = only work.periods.shortest
+
+-- the numbers of a subject after so many steps, by its counter, the work of the tasks and the calls
+-- that were not made
+abbrev pub reading_in : ℕ → Past → List Work → Counter → List WaitingCall → Subject → Reading
+reading_in steps past works counter left (NotMade task) = only (calls_of task left)
+reading_in steps past works counter left (Job task number) =
+    job_number past.elapsed (work_in works task) number
+reading_in steps past works counter left (Run number) =
     only (run_number past.elapsed steps left number)
-reading_in steps past counter left subject = told past counter
+reading_in steps past works counter left subject = told past counter
 
-abbrev pub measured_in : ℕ → Past → Counter → List WaitingCall → Subject → Measured
-measured_in steps past counter left subject =
-    record { subject = subject; reading = reading_in steps past counter left subject }
+abbrev pub measured_in : ℕ → Past → List Work → Counter → List WaitingCall → Subject → Measured
+measured_in steps past works counter left subject =
+    record { subject = subject; reading = reading_in steps past works counter left subject }
 
-abbrev pub measured_at : ℕ → Past → List Counter → List WaitingCall → List Subject → ℕ → Measured
-measured_at steps past counters left subjects k =
-    measured_in steps past (counter_in counters k) left (subject_in subjects k)
+abbrev pub measured_at :
+    ℕ → Past → List Work → List Counter → List WaitingCall → List Subject → ℕ → Measured
+measured_at steps past works counters left subjects k =
+    measured_in steps past works (counter_in counters k) left (subject_in subjects k)

@@ -16,11 +16,18 @@ use Rattle.run_numbers.specs.declared.subject.Event.TheVariants.{Inherits, PutOf
 use Rattle.run_numbers.specs.declared.subject.Measured.{Measured}
 use Rattle.run_numbers.specs.declared.subject.Reading.{Reading}
 use Rattle.run_numbers.specs.declared.subject.Subject.{Subject}
-use Rattle.run_numbers.specs.declared.subject.Subject.TheVariants.{Time, Steps, TopPriority, MostMessages, NotMade, Run}
+use Rattle.run_numbers.specs.declared.subject.Subject.TheVariants.{Time, Steps, TopPriority, MostMessages, NotMade, Job, Run}
+use Rattle.run_numbers.specs.declared.subject.JobNumber.{JobNumber}
+use Rattle.run_numbers.specs.declared.subject.JobNumber.TheVariants as job
 use Rattle.run_numbers.specs.declared.subject.Whole.{Whole}
 use Rattle.run_numbers.specs.declared.subject.Whole.TheVariants as whole
+use Rattle.task_jobs.specs.declared.durations.Durations.{Durations}
+use Rattle.task_jobs.specs.Course.{Course}
+use Rattle.task_jobs.specs.Durations.{durations_of}
+use Rattle.task_jobs.specs.Jobs.{all_latencies, all_responses, periods, responses}
 use Rattle.run_numbers.specs.Events.{happens}
 use Rattle.run_numbers.specs.Messages.{most_messages}
+use Rattle.run_numbers.specs.TaskCourse.{course_of}
 use Rattle.run_numbers.specs.Stretches.{longest_from, longest_stretch, time_found, time_of_step}
 
 -- a number that has no stretch
@@ -41,6 +48,21 @@ run_number time steps left whole.Time = time
 run_number time steps left whole.Steps = steps
 run_number time steps left whole.NotMade = length left
 
+abbrev pub reading_in_all : Durations → Reading
+reading_in_all all = record { total = all.total; longest = all.longest; from = all.from }
+
+-- a number of the jobs up to a place
+abbrev pub job_reading : Course → ℕ → JobNumber → Reading
+job_reading course place job.Count = only (durations_of (all_responses course place)).count
+job_reading course place job.Response =
+    reading_in_all (durations_of (all_responses course place))
+job_reading course place job.ShortestResponse =
+    only (durations_of (responses course place)).shortest
+job_reading course place job.Latency = reading_in_all (durations_of (all_latencies course place))
+job_reading course place job.Period = reading_in_all (durations_of (periods course place))
+job_reading course place job.ShortestPeriod =
+    only (durations_of (periods course place)).shortest
+
 -- the numbers of a subject in a run, of which these calls were not made
 abbrev pub reading_of : Header → List Step → List WaitingCall → Subject → Reading
 reading_of header steps left (Time condition) = record {
@@ -53,6 +75,8 @@ reading_of header steps left (Steps event) =
 reading_of header steps left (TopPriority task) = only (top_priority header steps task)
 reading_of header steps left (MostMessages queue) = only (most_messages header steps queue)
 reading_of header steps left (NotMade task) = only (calls_of task left)
+reading_of header steps left (Job task number) =
+    job_reading (course_of header steps task) (length steps) number
 reading_of header steps left (Run number) =
     only (run_number (run_time header steps) (length steps) left number)
 
@@ -90,5 +114,6 @@ abbrev pub IsSubjectOf : Settings → Subject → Type 0
 IsSubjectOf settings (Time condition) = IsConditionOf settings condition
 IsSubjectOf settings (Steps event) = IsEventOf settings event
 IsSubjectOf settings (TopPriority task) = task < settings.tasks
+IsSubjectOf settings (Job task number) = task < settings.tasks
 IsSubjectOf settings (MostMessages queue) = queue < queue_total settings
 IsSubjectOf settings subject = ⊤

@@ -1,20 +1,20 @@
 -- The numbers of a subject at a place.
-use Rattle.std.specs.Prelude.{ℕ, zero, suc, Bool, false, List, map, count_by, nat_lt, if◌then◌else◌}
+use Rattle.std.specs.Prelude.{ℕ, zero, suc, Bool, List, map, count_by, nat_lt, if◌then◌else◌}
 use Rattle.std.specs.List.{sum_by}
-use Rattle.std.specs.Option.{option_map_or}
 use Rattle.bench_types.specs.declared.header.Header.{Header}
 use Rattle.bench_types.specs.declared.step.Step.{Step}
 use Rattle.list_orders.specs.Search.{numbers}
 use Rattle.bench_model.specs.Control.{task_at}
 use Rattle.bench_model.specs.Session.{state_at}
 use Rattle.bench_model.specs.Table.{Stamps, stamp_queues}
-use Rattle.bench_model.specs.Tally.{Moment, greatest, moment_at}
+use Rattle.bench_model.specs.Tally.{Moment, greatest}
 use Rattle.run_numbers.specs.Gauge.{Gauge}
 use Rattle.run_numbers.specs.declared.subject.Subject.{Subject}
 use Rattle.run_numbers.specs.declared.subject.Subject.TheVariants.{Time, Steps, TopPriority, MostMessages}
 use Rattle.run_numbers.specs.Events.{happens}
 use Rattle.run_numbers.specs.Gauges.{initial_gauge}
 use Rattle.run_numbers.specs.Messages.{messages_at}
+use Rattle.run_numbers.specs.Moments.{passes_at}
 use Rattle.run_numbers.specs.Stretches.{found_at, start_at, stretch_at}
 
 -- the greatest number at the places up to this one
@@ -28,12 +28,9 @@ first_top f (suc place) =
     if nat_lt (top f place) (f (suc place)) then suc place else first_top f place
 
 module _ (header : Header) (steps : List Step) where
-  abbrev pub passes_at : (Moment Stamps → Bool) → ℕ → Bool
-  passes_at passes place = option_map_or passes (moment_at header steps place) false
-
   -- how many of the first steps pass
   abbrev pub passed : (Moment Stamps → Bool) → ℕ → ℕ
-  passed passes place = count_by (passes_at passes) (numbers place)
+  passed passes place = count_by (passes_at header steps passes) (numbers place)
 
   abbrev pub in_use_at : ℕ → ℕ → ℕ
   in_use_at task place = (task_at (state_at header steps place).control task).in_use

@@ -5,7 +5,7 @@ use Rattle.run_numbers.specs.declared.subject.Condition.TheVariants.{Running, Ru
 use Rattle.run_numbers.specs.declared.subject.Event.{Event}
 use Rattle.run_numbers.specs.declared.subject.Event.TheVariants.{SwitchedIn, Inherits, TimesOut, Refused, Late, Called, PutOff, Loses}
 use Rattle.run_numbers.specs.declared.subject.Subject.{Subject}
-use Rattle.run_numbers.specs.declared.subject.Subject.TheVariants.{Time, Steps, TopPriority, NotMade}
+use Rattle.run_numbers.specs.declared.subject.Subject.TheVariants.{Time, Steps, TopPriority, NotMade, Job}
 
 -- the task that a condition is of, if it is of a task
 abbrev pub task_in : Condition → Option ℕ
@@ -39,4 +39,5 @@ task_of (Time condition) = task_in condition
 task_of (Steps event) = task_at event
 task_of (TopPriority task) = Some task
 task_of (NotMade task) = Some task
+task_of (Job task number) = Some task
 task_of subject = None

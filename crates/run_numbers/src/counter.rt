@@ -132,7 +132,7 @@ impl Counter {
                 let messages = u64::from(made.after.queue(queue).messages);
                 self.reading.total = self.reading.total.max(messages);
             }
-            Subject::NotMade { .. } | Subject::Run(_) => {}
+            Subject::NotMade { .. } | Subject::Job { .. } | Subject::Run(_) => {}
         }
     }
 }

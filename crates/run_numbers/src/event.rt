@@ -175,7 +175,8 @@ fn is_call_of(task: u32, step: &Step) -> bool
     }
 }
 
-fn is_finish_of(task: u32, step: &Step) -> bool
+/// Whether the step finishes a call of the task.
+pub(crate) fn is_finish_of(task: u32, step: &Step) -> bool
     ensures { result ≡ is_finish_of task step.now }
 {
     match *step {
@@ -287,7 +288,8 @@ fn says_late(reply: Reply) -> bool
     }
 }
 
-fn is_refused(reply: Reply) -> bool
+/// Whether the reply refuses the step.
+pub(crate) fn is_refused(reply: Reply) -> bool
     ensures { result ≡ is_refused reply }
 {
     matches!(reply, Reply::Refused(_))
@@ -366,7 +368,8 @@ fn is_refusal(why: Refusal, reply: Reply) -> bool
     }
 }
 
-fn is_wait(reply: Reply) -> bool
+/// Whether the reply is to a call whose task waits.
+pub(crate) fn is_wait(reply: Reply) -> bool
     ensures { result ≡ is_wait reply }
 {
     matches!(reply, Reply::Blocked)

@@ -12,7 +12,8 @@ mod run;
 mod state;
 mod subject;
 mod taking;
+mod work;
 
 pub use laws::{law_of_stretches, law_of_tallies};
 pub use run::measure;
-pub use subject::{Cause, Condition, Event, Measured, Reading, Subject, Whole};
+pub use subject::{Cause, Condition, Event, JobNumber, Measured, Reading, Subject, Whole};

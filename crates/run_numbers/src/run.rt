@@ -14,10 +14,10 @@ ghost use Rattle.smp_kernel.specs.Kernel.{StandsForSome};
 ghost use Rattle.run_numbers.specs.AfterStep.{known_before, left_by};
 ghost use Rattle.run_numbers.specs.Counters.{took, HasRoom};
 ghost use Rattle.run_numbers.specs.Looks.{IsRow};
-ghost use Rattle.run_numbers.specs.Past.{past, places_after};
+ghost use Rattle.run_numbers.specs.Past.{past, places_after, ticks_after};
 ghost use Rattle.run_numbers.specs.Progress.{counter_in, first, measured_at, measured_in, reading_in};
 ghost use Rattle.run_numbers.specs.Readings.{calls_of, measured, only, run_number, IsSubjectOf};
-ghost use Rattle.run_numbers.specs.Counted.{AreCounted, AreTold, HaveRoom, IsUntouched};
+ghost use Rattle.run_numbers.specs.Counted.{AreCounted, AreTold, AreWorked, HaveRoom, IsUntouched, IsWorkOf};
 ghost use Rattle.run_numbers.specs.Taking.{AreLooked, AreTaken, IsPlanOf};
 
 use crate::counter::{Counter, Made};
@@ -27,12 +27,14 @@ use crate::look::Look;
 use crate::rows::spans_of;
 use crate::state::holds;
 use crate::taking::{Plan, take_all};
+use crate::work::{Done, first_works, job_number, work_all};
 use crate::{Measured, Reading, Subject, Whole};
-use bench_types::{CheckedSession, Step};
+use bench_types::{CheckedSession, Reply, Step};
 use settled_runs::WaitingCall;
 use smp_kernel::{Kernel, Meter};
 use std::alloc::{AllocError, Global};
 use step_times::time_of;
+use task_jobs::Work;
 
 // Before any step.
 fn initial_counter(kernel: &Kernel, subject: Subject) -> Counter
@@ -83,6 +85,8 @@ struct Clock {
     elapsed: u64,
     /// The places of the steps that took some of it.
     places: Vec<u32>,
+    /// The time after each tick.
+    ticks: Vec<u64>,
 }
 
 // The step at the place takes this time.
@@ -92,10 +96,27 @@ fn note_time(clock: &mut Clock, time: u32, place: u32)
     ensures elapsed { clock.new.elapsed ≡ clock.old.elapsed + time }
     ensures places { clock.new.places.items ≡ places_after time place clock.old.places.items }
     ensures room { vec_capacity clock.new.places ≡ vec_capacity clock.old.places }
+    ensures ticks { clock.new.ticks.items ≡ clock.old.ticks.items }
+    ensures ticks_room { vec_capacity clock.new.ticks ≡ vec_capacity clock.old.ticks }
 {
     clock.elapsed += u64::from(time);
     if time != 0 {
         clock.places.push_reserved(place);
+    }
+}
+
+// The step is made, and is a tick or none.
+fn note_tick(clock: &mut Clock, step: &Step)
+    requires { vec_len clock.old.ticks < vec_capacity clock.old.ticks }
+    ensures elapsed { clock.new.elapsed ≡ clock.old.elapsed }
+    ensures places { clock.new.places.items ≡ clock.old.places.items }
+    ensures places_room { vec_capacity clock.new.places ≡ vec_capacity clock.old.places }
+    ensures ticks { clock.new.ticks.items
+        ≡ ticks_after step.now clock.old.elapsed clock.old.ticks.items }
+    ensures room { vec_capacity clock.new.ticks ≡ vec_capacity clock.old.ticks }
+{
+    if matches!(*step, Step::Tick) {
+        clock.ticks.push_reserved(clock.elapsed);
     }
 }
 
@@ -110,7 +131,7 @@ fn step_all(
     kernel: &mut Kernel,
     meter: &mut Meter,
     step: &Step,
-)
+) -> Reply
     requires checked { step_check kernel.old.settings step.now ≡ Ok tt }
     requires plan { IsPlanOf kernel.old.settings plan.now }
     requires sound { StandsForSome kernel.old }
@@ -118,6 +139,8 @@ fn step_all(
     requires looks { length looks.old ≡ plan.now.tasks }
     requires row { IsRow row.old kernel.old }
     requires room { HaveRoom (past elapsed places.now) plan.now.subjects.now counters.old }
+    ensures reply { (table : Table) → StandsFor kernel.old table
+        → result ≡ (step_of step.now table).0 }
     ensures state { (table : Table) → StandsFor kernel.old table
         → StandsFor kernel.new (step_of step.now table).1 }
     ensures shape { kernel.new.settings ≡ kernel.old.settings }
@@ -145,6 +168,7 @@ fn step_all(
         places,
     };
     take_all(counters, looks, plan, &made);
+    reply
 }
 
 // Makes the steps of the session, and counts them. There is room for the place of each.
@@ -152,6 +176,7 @@ fn run_all(
     counters: &mut [Counter],
     looks: &mut [Option<Look>],
     row: &mut [u32],
+    works: &mut [Work],
     clock: &mut Clock,
     plan: &Plan<'_>,
     kernel: &mut Kernel,
@@ -161,7 +186,11 @@ fn run_all(
     requires plan { IsPlanOf (settings_of session.now.header) plan.now }
     requires begun { AreCounted session.now 0 kernel.old plan.now counters.old looks.old row.old
         (past clock.old.elapsed clock.old.places.items) }
+    requires worked { AreWorked session.now 0 works.old clock.old.ticks.items }
     requires room { length session.now.steps ≤ vec_capacity clock.old.places }
+    requires ticks { length session.now.steps ≤ vec_capacity clock.old.ticks }
+    ensures worked { AreWorked session.now (length session.now.steps) works.new
+        clock.new.ticks.items }
     ensures counted { AreTold session.now plan.now.subjects.now
         (past clock.new.elapsed clock.new.places.items) counters.new }
     ensures meter { meter.new ≡ meter_after (length session.now.steps) meter.old }
@@ -170,9 +199,10 @@ fn run_all(
     let steps = session.steps();
     for place in 0..steps.len() {
         let step = &steps[place];
+        let before = clock.elapsed;
         note_time(clock, time_of(units, step), place as u32);
         let places = clock.places.as_slice();
-        step_all(
+        let reply = step_all(
             counters,
             looks,
             row,
@@ -183,13 +213,24 @@ fn run_all(
             meter,
             step,
         );
+        note_tick(clock, step);
+        let done = Done {
+            step,
+            reply,
+            place: place as u32 + 1,
+            before,
+            after: clock.elapsed,
+            ticks: clock.ticks.as_slice(),
+        };
+        work_all(works, kernel, &done);
     }
 }
 
-// The counters after the last step, and the time of the run.
+// The counters and the work of the tasks after the last step, and the time of the run.
 #[derive(Drop)]
 struct Counted {
     counters: Vec<Counter>,
+    works: Vec<Work>,
     clock: Clock,
 }
 
@@ -204,6 +245,9 @@ fn count_all(
     ensures told { IfOk result
         (λ counted. AreTold session.now subjects.now
         (past counted.clock.elapsed counted.clock.places.items) counted.counters.items) }
+    ensures worked { IfOk result
+        (λ counted. AreWorked session.now (length session.now.steps) counted.works.items
+        counted.clock.ticks.items) }
     ensures meter { OnOk result (meter.new ≡ meter_after (length session.now.steps) meter.old) }
     ensures uncounted { OnErr result (meter.new ≡ meter.old) }
 {
@@ -216,9 +260,11 @@ fn count_all(
     let mut counters = all_initial(alloc, &kernel, subjects)?;
     let mut looks = vec![in alloc; None; tasks as usize]?;
     let mut row = first_row(alloc, &kernel)?;
+    let mut works = first_works(alloc, &kernel)?;
     let mut clock = Clock {
         elapsed: 0,
         places: Vec::with_capacity(alloc, session.steps().len())?,
+        ticks: Vec::with_capacity(alloc, session.steps().len())?,
     };
     let plan = Plan {
         tasks,
@@ -229,13 +275,18 @@ fn count_all(
         &mut counters,
         &mut looks,
         &mut row,
+        &mut works,
         &mut clock,
         &plan,
         &mut kernel,
         meter,
         session,
     );
-    Ok(Counted { counters, clock })
+    Ok(Counted {
+        counters,
+        works,
+        clock,
+    })
 }
 
 // The calls of the task among those that were not made.
@@ -270,19 +321,24 @@ fn run_number(time: u64, steps: usize, left: &[WaitingCall], number: Whole) -> u
 
 fn reading(
     counter: &Counter,
+    works: &[Work],
     clock: &Clock,
     steps: usize,
     left: &[WaitingCall],
     subject: Subject,
 ) -> Reading
     requires room { HasRoom (past clock.now.elapsed clock.now.places.items) counter.now }
+    requires work { IsWorkOf works.now subject }
     requires left { length left.now < 2 ^ 32 }
     ensures { result
-        ≡ reading_in steps (past clock.now.elapsed clock.now.places.items) counter.now left.now
-        subject }
+        ≡ reading_in steps (past clock.now.elapsed clock.now.places.items) works.now counter.now
+        left.now subject }
 {
     match subject {
         Subject::NotMade { task } => only(u64::from(calls_of(task, left))),
+        Subject::Job { task, number } => {
+            job_number(clock.elapsed, &works[task as usize], number)
+        }
         Subject::Run(number) => only(run_number(clock.elapsed, steps, left, number)),
         _ => counter.told(clock.elapsed, clock.places.as_slice()),
     }
@@ -299,16 +355,20 @@ fn all_measured(
     requires room { (k : ℕ) → k < length subjects.now
         → HasRoom (past counted.now.clock.elapsed counted.now.clock.places.items)
         (counter_in counted.now.counters.items k) }
+    requires works { All (IsWorkOf counted.now.works.items) subjects.now }
     requires left { length left.now < 2 ^ 32 }
     ensures { IfOk result
         (λ measured. measured.items
         ≡ map (measured_at steps (past counted.now.clock.elapsed counted.now.clock.places.items)
-        counted.now.counters.items left.now subjects.now) (numbers (length subjects.now))) }
+        counted.now.works.items counted.now.counters.items left.now subjects.now)
+        (numbers (length subjects.now))) }
 {
     let mut all = Vec::with_capacity(alloc, subjects.len())?;
     for k in 0..subjects.len() {
         let subject = subjects[k];
-        let reading = reading(&counted.counters[k], &counted.clock, steps, left, subject);
+        let works = counted.works.as_slice();
+        let counter = &counted.counters[k];
+        let reading = reading(counter, works, &counted.clock, steps, left, subject);
         all.push(Measured { subject, reading })?;
     }
     Ok(all)

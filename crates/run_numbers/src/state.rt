@@ -62,7 +62,7 @@ fn is_cause(cause: Cause, waits: WaitCause) -> bool
 }
 
 // Whether the task waits: it is neither ready nor suspended.
-fn stands_blocked(kernel: &Kernel, task: u32) -> bool
+pub(crate) fn stands_blocked(kernel: &Kernel, task: u32) -> bool
     requires { task < kernel.now.settings.tasks }
     ensures { result ≡ stands_blocked list_queues task kernel.now }
 {

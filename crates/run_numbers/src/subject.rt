@@ -102,6 +102,23 @@ pub enum Whole {
     NotMade,
 }
 
+/// What the jobs of a task have numbers of. A job is what the task does between two waits for work.
+#[derive(Clone, Copy, Debug, PartialEq, Eq)]
+pub enum JobNumber {
+    /// How many jobs begin.
+    Count,
+    /// How long answers take, from the time at which the job was asked for to its end.
+    Response,
+    /// How long the shortest takes, of the jobs that end.
+    ShortestResponse,
+    /// How long jobs wait for a core, from the wake of the task on.
+    Latency,
+    /// The time from one wake of the task to the next.
+    Period,
+    /// The shortest such time.
+    ShortestPeriod,
+}
+
 /// What there is a number of.
 #[derive(Clone, Copy, Debug, PartialEq, Eq)]
 pub enum Subject {
@@ -116,6 +133,8 @@ pub enum Subject {
     MostMessages { queue: u32 },
     /// The calls of the task that a settled run did not make.
     NotMade { task: u32 },
+    /// A number of the jobs of the task.
+    Job { task: u32, number: JobNumber },
     /// A number of the run as a whole.
     Run(Whole),
 }
@@ -198,7 +217,8 @@ impl Subject {
         match self {
             Subject::Time(condition) => condition.task(),
             Subject::Steps(event) => event.task(),
-            Subject::TopPriority { task } | Subject::NotMade { task } => Some(task),
+            Subject::TopPriority { task } | Subject::NotMade { task } | Subject::Job { task, .. } =>
+                Some(task),
             Subject::MostMessages { .. } | Subject::Run(_) => None,
         }
     }

@@ -11,7 +11,8 @@ use Rattle.list_orders.proofs.Filters.{All-append}
 use Rattle.settled_runs.specs.declared.waiting_call.WaitingCall.{WaitingCall}
 use Rattle.settled_runs.proofs.Pieces.{find_among}
 use Rattle.run_numbers.specs.declared.subject.Subject.{Subject}
-use Rattle.run_numbers.specs.declared.subject.Subject.TheVariants.{Time, Steps, TopPriority, MostMessages, NotMade, Run}
+use Rattle.run_numbers.specs.declared.subject.Subject.TheVariants.{Time, Steps, TopPriority, MostMessages, NotMade, Job, Run}
+use Rattle.run_numbers.specs.declared.subject.JobNumber.TheVariants as job
 use Rattle.run_numbers.specs.Readings.{measured, IsSubjectOf}
 use Rattle.report_figures.specs.declared.figures.Figure.{Figure}
 use Rattle.report_figures.specs.Figures.{figures_in}
@@ -29,6 +30,12 @@ module _ (header : Header) (run : List Step) (left : List WaitingCall) where
   figures_fit (TopPriority task) fits = (fits, tt)
   figures_fit (MostMessages queue) fits = (fits, tt)
   figures_fit (NotMade task) fits = (fits, tt)
+  figures_fit (Job task job.Count) fits = (fits, tt)
+  figures_fit (Job task job.Response) fits = (fits, (fits, tt))
+  figures_fit (Job task job.ShortestResponse) fits = (fits, tt)
+  figures_fit (Job task job.Latency) fits = (fits, tt)
+  figures_fit (Job task job.Period) fits = (fits, tt)
+  figures_fit (Job task job.ShortestPeriod) fits = (fits, tt)
   figures_fit (Run number) fits = (fits, tt)
 
   each_fits : (subjects : List Subject) → AllByRecursion (IsSubjectOf (settings_of header)) subjects

@@ -153,7 +153,7 @@ fn numbers_of_queues(rt: HostRuntime) -> Result<(), Fail> {
         assert_eq!(&rt; found, Some(*number), "{name}");
     }
     let subjects = subjects_of(rt.alloc(), session.header())?;
-    assert_eq!(&rt; subjects.len(), 3 * (33 + 5 + 8) + 2 * 6 + 2 * 4 + 3);
+    assert_eq!(&rt; subjects.len(), 3 * (39 + 5 + 8) + 2 * 6 + 2 * 4 + 3);
     Ok(())
 }
 
@@ -170,7 +170,7 @@ fn numbers_without_queues(rt: HostRuntime) -> Result<(), Fail> {
     let header = without_queues(rt.alloc())?;
     header.check()?;
     let subjects = subjects_of(rt.alloc(), &header)?;
-    assert_eq!(&rt; subjects.len(), 3 * 33 + 2 * 6 + 3);
+    assert_eq!(&rt; subjects.len(), 3 * 39 + 2 * 6 + 3);
     let suspended = Subject::Time(Condition::Suspended { task: 2 });
     assert_eq!(&rt; subjects.as_slice().get(9).copied(), Some(suspended));
     Ok(())
@@ -367,6 +367,58 @@ fn numbers_of_calls(rt: HostRuntime) -> Result<(), Fail> {
     Ok(())
 }
 
+const fn until(core: u32, prev: u32, inc: u32) -> Step {
+    call(core, 2, Call::DelayUntil { prev, inc })
+}
+
+/// A delays until tick 3, and has a core one tick later; then until tick 6, at tick 7, which is
+/// late; then until tick 12. So it has three jobs, of which the third was asked for at tick 6.
+fn session_of_jobs(rt: &impl Abort, host: &HostRuntime) -> Result<CheckedSession, Fail> {
+    let steps = [
+        TICK,
+        until(0, 0, 3),
+        switch(0),
+        TICK,
+        TICK,
+        TICK,
+        switch(1),
+        call(1, 2, Call::Finish),
+        TICK,
+        TICK,
+        TICK,
+        until(1, 3, 3),
+        switch(1),
+        TICK,
+        until(1, 6, 6),
+    ];
+    let header = three_tasks(host.alloc(), false)?;
+    session_of(rt, header, Vec::from_slice(host.alloc(), &steps)?)
+}
+
+#[test]
+fn numbers_of_jobs(rt: HostRuntime) -> Result<(), Fail> {
+    let session = session_of_jobs(&rt, &rt)?;
+    let wanted = [
+        ("A.jobs", 3),
+        ("A.response.total", 7),
+        ("A.response.longest", 4),
+        ("A.response.shortest", 1),
+        ("A.latency.longest", 1),
+        ("A.period.longest", 4),
+        ("A.period.shortest", 4),
+        ("A.late", 1),
+        ("B.jobs", 1),
+        ("B.response.longest", 8),
+        ("B.response.shortest", 0),
+        ("C.latency.longest", 1),
+    ];
+    for (name, number) in &wanted {
+        let found = value(&rt, &session, false, name)?;
+        assert_eq!(&rt; found, Some(*number), "{name}");
+    }
+    Ok(())
+}
+
 fn checked(rt: &impl Abort, host: &HostRuntime, name: &str, bound: Bound) -> Result<Checked, Fail> {
     let alloc = host.alloc();
     let session = session(rt, host)?;
@@ -402,6 +454,6 @@ fn figures_of_all_subjects(rt: HostRuntime) -> Result<(), Fail> {
     let subjects = subjects_of(rt.alloc(), &header)?;
     let none = figures_of(rt.alloc(), &[])?;
     assert_eq!(&rt; none.len(), 0);
-    assert_eq!(&rt; subjects.len(), 3 * 32 + 2 * 6 + 3);
+    assert_eq!(&rt; subjects.len(), 3 * 38 + 2 * 6 + 3);
     Ok(())
 }

@@ -15,17 +15,24 @@ const ONE_RUN: &str = "     value number
          1 A.calls.delay
          1 A.calls.delay.total
          1 A.calls.delay.longest from place 2
+         1 A.jobs
          1 B.run
          1 B.run.longest from place 2
          1 B.run.1
          1 B.run.1.longest from place 2
          1 B.top_priority
+         1 B.jobs
+         1 B.response.total
+         1 B.response.longest from place 0
          1 C.run
          1 C.run.longest from place 2
          1 C.run.0
          1 C.run.0.longest from place 2
          1 C.switches
          1 C.top_priority
+         1 C.jobs
+         1 C.response.total
+         1 C.response.longest from place 0
          1 core.0.user
          1 core.0.user.longest from place 2
          1 core.0.switches
@@ -50,6 +57,9 @@ const TWO_RUNS: &str = "    before      after     change number
          1          1          0 control.calls.mutex.0
          1          0         -1 control.calls.mutex.0.total
          1          0         -1 control.calls.mutex.0.longest
+         1          1          0 control.jobs
+         1          1          0 control.response.total
+         1          1          0 control.response.longest
          1          1          0 logger.run
          1          1          0 logger.run.longest
          1          1          0 logger.run.1
@@ -59,6 +69,9 @@ const TWO_RUNS: &str = "    before      after     change number
          1          0         -1 logger.inherited
          1          0         -1 logger.inherited.longest
          1          1          0 logger.calls.mutex.0
+         1          1          0 logger.jobs
+         1          1          0 logger.response.total
+         1          1          0 logger.response.longest
          0          1         +1 core.0.user
          0          1         +1 core.0.user.longest
          1          0         -1 core.0.idle
@@ -81,27 +94,29 @@ const ONE_TICK: &str = "\
 
 /// All numbers of its settled run.
 const OBJECT: &str = "\
-    {\"places\":{\"A.run.0.longest\":0,\"A.run.longest\":0,\"core.0.user.longest\":0,\
-    \"core.1.idle.longest\":0},\"settled\":true,\"values\":{\"A.blocked.delay\":0,\"A.\
-    blocked.delay.longest\":0,\"A.blocked.mutex\":0,\"A.blocked.mutex.held_up\":0,\"A.\
-    blocked.mutex.held_up.longest\":0,\"A.blocked.mutex.longest\":0,\"A.blocked.notifi\
-    cation\":0,\"A.blocked.notification.longest\":0,\"A.calls.delay\":0,\"A.calls.dela\
-    y.longest\":0,\"A.calls.delay.total\":0,\"A.calls.notification\":0,\"A.calls.notif\
-    ication.longest\":0,\"A.calls.notification.total\":0,\"A.inheritances\":0,\"A.inhe\
-    rited\":0,\"A.inherited.longest\":0,\"A.late\":0,\"A.not_made\":0,\"A.notification\
-    s.lost\":0,\"A.preempted\":0,\"A.preemption_off\":0,\"A.preemption_off.longest\":0\
-    ,\"A.ready\":0,\"A.ready.inverted\":0,\"A.ready.inverted.longest\":0,\"A.ready.lon\
-    gest\":0,\"A.refused.E1\":0,\"A.refused.E2\":0,\"A.refused.E3\":0,\"A.refused.E4\"\
-    :0,\"A.refused.E5\":0,\"A.refused.E6\":0,\"A.refused.E7\":0,\"A.refused.E8\":0,\"A\
-    .refused.E9\":0,\"A.run\":1,\"A.run.0\":1,\"A.run.0.longest\":1,\"A.run.1\":0,\"A.\
-    run.1.longest\":0,\"A.run.longest\":1,\"A.switches\":0,\"A.timeouts\":0,\"A.top_pr\
-    iority\":1,\"core.0.due\":0,\"core.0.due.longest\":0,\"core.0.held\":0,\"core.0.he\
-    ld.longest\":0,\"core.0.idle\":0,\"core.0.idle.longest\":0,\"core.0.interrupts\":0\
-    ,\"core.0.switches\":0,\"core.0.user\":1,\"core.0.user.longest\":1,\"core.1.due\":\
-    0,\"core.1.due.longest\":0,\"core.1.held\":0,\"core.1.held.longest\":0,\"core.1.id\
-    le\":1,\"core.1.idle.longest\":1,\"core.1.interrupts\":0,\"core.1.switches\":0,\"c\
-    ore.1.user\":0,\"core.1.user.longest\":0,\"run.not_made\":0,\"run.steps\":1,\"run.\
-    time\":1}}\n";
+    {\"places\":{\"A.response.longest\":0,\"A.run.0.longest\":0,\"A.run.longest\":0,\"\
+    core.0.user.longest\":0,\"core.1.idle.longest\":0},\"settled\":true,\"values\":{\"\
+    A.blocked.delay\":0,\"A.blocked.delay.longest\":0,\"A.blocked.mutex\":0,\"A.blocke\
+    d.mutex.held_up\":0,\"A.blocked.mutex.held_up.longest\":0,\"A.blocked.mutex.longes\
+    t\":0,\"A.blocked.notification\":0,\"A.blocked.notification.longest\":0,\"A.calls.\
+    delay\":0,\"A.calls.delay.longest\":0,\"A.calls.delay.total\":0,\"A.calls.notifica\
+    tion\":0,\"A.calls.notification.longest\":0,\"A.calls.notification.total\":0,\"A.i\
+    nheritances\":0,\"A.inherited\":0,\"A.inherited.longest\":0,\"A.jobs\":1,\"A.late\
+    \":0,\"A.latency.longest\":0,\"A.not_made\":0,\"A.notifications.lost\":0,\"A.perio\
+    d.longest\":0,\"A.period.shortest\":0,\"A.preempted\":0,\"A.preemption_off\":0,\"A\
+    .preemption_off.longest\":0,\"A.ready\":0,\"A.ready.inverted\":0,\"A.ready.inverte\
+    d.longest\":0,\"A.ready.longest\":0,\"A.refused.E1\":0,\"A.refused.E2\":0,\"A.refu\
+    sed.E3\":0,\"A.refused.E4\":0,\"A.refused.E5\":0,\"A.refused.E6\":0,\"A.refused.E7\
+    \":0,\"A.refused.E8\":0,\"A.refused.E9\":0,\"A.response.longest\":1,\"A.response.s\
+    hortest\":0,\"A.response.total\":1,\"A.run\":1,\"A.run.0\":1,\"A.run.0.longest\":1\
+    ,\"A.run.1\":0,\"A.run.1.longest\":0,\"A.run.longest\":1,\"A.switches\":0,\"A.time\
+    outs\":0,\"A.top_priority\":1,\"core.0.due\":0,\"core.0.due.longest\":0,\"core.0.h\
+    eld\":0,\"core.0.held.longest\":0,\"core.0.idle\":0,\"core.0.idle.longest\":0,\"co\
+    re.0.interrupts\":0,\"core.0.switches\":0,\"core.0.user\":1,\"core.0.user.longest\
+    \":1,\"core.1.due\":0,\"core.1.due.longest\":0,\"core.1.held\":0,\"core.1.held.lon\
+    gest\":0,\"core.1.idle\":1,\"core.1.idle.longest\":1,\"core.1.interrupts\":0,\"cor\
+    e.1.switches\":0,\"core.1.user\":0,\"core.1.user.longest\":0,\"run.not_made\":0,\"\
+    run.steps\":1,\"run.time\":1}}\n";
 
 #[test]
 fn reports(rt: HostRuntime) -> Result<(), Fail> {

@@ -7,11 +7,13 @@ use Rattle.bench_model.specs.Equal.{StandsFor}
 use Rattle.bench_model.specs.Start.{start}
 use Rattle.run_numbers.specs.declared.counter.Counter.{Counter}
 use Rattle.run_numbers.specs.declared.look.Look.{Look}
-use Rattle.run_numbers.specs.Counted.{AreTold}
+use Rattle.run_numbers.specs.Counted.{AreTold, AreWorked}
 use Rattle.run_numbers.specs.Looks.{IsKnown, IsRow}
 use Rattle.run_numbers.specs.Past.{past}
 use Rattle.run_numbers.proofs.Known.{never_yet}
+use Rattle.task_jobs.specs.declared.work.Work.{Work}
 use Rattle.run_numbers.proofs.Runs.{start_counted}
+use Rattle.run_numbers.proofs.Working.{first_worked}
 use Rattle.run_numbers.proofs.run.count_all.Goals as goal
 
 pub run_all-requires-clause-begun : goal.run_all-requires-clause-begun
@@ -39,3 +41,23 @@ returns-clause-told c =
     take-append-le n made _ (omega (arith, size)) ∙ take_all n made (omega (arith, size)) in
     subst (λ (counters : List Counter). AreTold c.args.session.now c.args.subjects.now
     (past c.run_all.new.clock.elapsed c.run_all.new.clock.places.items) counters) (sym all) c.run_all.ensures.counted
+
+pub run_all-requires-clause-worked : goal.run_all-requires-clause-worked
+run_all-requires-clause-worked c =
+    let session = c.args.session.now in
+    let kernel = c.in-Ok.kernel in
+    subst (λ ticks. AreWorked session 0 c.deref_mut-4.result.now ticks) (sym c.in_ok-with_capacity-2.ensures.items)
+    (first_worked session kernel c.deref_mut-4.result.now
+    (subst (λ (header : Header). StandsFor kernel (start header)) c.header.ensures.header c.in-Ok.ensures.started)
+    (c.in-Ok.ensures.shape ∙ ap settings_of c.header.ensures.header)
+    (c.deref_mut-4.ensures.value ∙ c.in_ok-works.ensures))
+
+pub returns-clause-worked : goal.returns-clause-worked
+returns-clause-worked c =
+    let made = c.run_all.new.works in
+    let n = c.in_ok-works.works.len in
+    let size : length made ≡ n = omega (arith, c.run_all.auto.works, c.deref_mut-4.ensures.len) in
+    let all : take n (made ++ drop (length made) c.in_ok-works.works.items) ≡ made =
+    take-append-le n made _ (omega (arith, size)) ∙ take_all n made (omega (arith, size)) in
+    subst (λ (works : List Work). AreWorked c.args.session.now (length c.args.session.now.steps) works c.run_all.new.clock.ticks.items) (sym all)
+    c.run_all.ensures.worked

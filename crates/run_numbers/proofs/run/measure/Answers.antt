@@ -1,10 +1,15 @@
 use Rattle.std.proofs.Common.{◌∙◌, List, ap, length, map}
+use Rattle.std.proofs.lemmas.List.Elements.{All-weaker}
 use Rattle.std.proofs.lemmas.Result.{IfOk-weaker}
 use Rattle.list_orders.specs.Search.{numbers}
 use Rattle.bench_types.specs.declared.step.Step.{Step}
 use Rattle.run_numbers.specs.Past.{past}
 use Rattle.run_numbers.specs.Progress.{measured_at}
+use Rattle.bench_types.specs.Step.{settings_of}
+use Rattle.run_numbers.specs.Counted.{IsWorkOf}
+use Rattle.run_numbers.specs.Readings.{IsSubjectOf}
 use Rattle.run_numbers.proofs.Runs.{all_measured}
+use Rattle.run_numbers.proofs.Working.{is_work_of}
 use Rattle.run_numbers.proofs.run.measure.Goals as goal
 
 pub returns-clause-numbers : goal.returns-clause-numbers
@@ -15,8 +20,16 @@ returns-clause-numbers c =
     let left = c.args.left.now in
     let subjects = c.args.subjects.now in
     let counters = counted.counters.items in
+    let works = counted.works.items in
     IfOk-weaker c.all_measured.result _ _
     (λ found known. known
-    ∙ ap (λ (steps : List Step). map (measured_at (length steps) so_far counters left subjects) (numbers (length subjects))) c.steps.ensures.steps
-    ∙ all_measured session so_far counters left subjects
-    c.in_ok-counted.ensures.told) c.all_measured.ensures
+    ∙ ap (λ (steps : List Step). map (measured_at (length steps) so_far works counters left subjects) (numbers (length subjects))) c.steps.ensures.steps
+    ∙ all_measured session so_far works counted.clock.ticks.items counters left subjects c.in_ok-counted.ensures.told c.in_ok-counted.ensures.worked
+    c.requires.known) c.all_measured.ensures
+
+pub all_measured-requires-clause-works : goal.all_measured-requires-clause-works
+all_measured-requires-clause-works c =
+    let session = c.args.session.now in
+    let counted = c.in_ok-counted.counted in
+    All-weaker (IsSubjectOf (settings_of session.header)) (IsWorkOf counted.works.items)
+    (is_work_of session counted.works.items counted.clock.ticks.items c.in_ok-counted.ensures.worked c.steps.ensures.checked.few) c.args.subjects.now c.requires.known

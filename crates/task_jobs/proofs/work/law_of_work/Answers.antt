@@ -1,0 +1,14 @@
+use Rattle.task_jobs.proofs.Worked.{work_begins, work_goes_on, work_is_counted, work_is_told}
+use Rattle.task_jobs.proofs.work.law_of_work.Goals as goal
+
+pub returns-clause-first : goal.returns-clause-first
+returns-clause-first c = work_begins
+
+pub returns-clause-next : goal.returns-clause-next
+returns-clause-next c = work_goes_on
+
+pub returns-clause-told : goal.returns-clause-told
+returns-clause-told c = work_is_told
+
+pub returns-clause-few : goal.returns-clause-few
+returns-clause-few c = work_is_counted

@@ -1,0 +1,4 @@
+pub mod Course
+pub mod Durations
+pub mod Jobs
+pub mod Works

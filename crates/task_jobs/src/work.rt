@@ -1,0 +1,180 @@
+//! The work of a task so far.
+ghost use Rattle.std.specs.Prelude.{◌≡◌, ◌<◌, ◌-◌, ◌≤◌, ◌^◌};
+ghost use Rattle.task_jobs.specs.Durations.{durations_of};
+ghost use Rattle.task_jobs.specs.Works.{begins_job, ends_job, first_work, latencies_now, latency_now, now_on_core, period_now, response_now, responses_now, with_turn, HasRoom, WorkBegins, WorkGoesOn, WorkIsCounted, WorkIsTold};
+
+use crate::Durations;
+
+/// What a step is to a task. Times are in units, from the start of the run on.
+#[derive(Clone, Copy, Debug, PartialEq, Eq)]
+pub struct Turn {
+    /// The task waits for work after the step.
+    pub rests: bool,
+    /// It asks for work by the step.
+    pub asks: bool,
+    /// It goes on by the step with a wait that a wake has not ended.
+    pub retakes: bool,
+    /// It has a core after the step.
+    pub on_core: bool,
+    /// The place after the step.
+    pub place: u32,
+    /// The time before the step.
+    pub before: u64,
+    /// The time after the step.
+    pub after: u64,
+    /// When a job that begins after the step was asked for.
+    pub release: u64,
+}
+
+/// What a task did so far. Times are in units, from the start of the run on.
+#[derive(Clone, Copy, Debug, PartialEq, Eq)]
+pub struct Work {
+    /// It waits for work.
+    pub rests: bool,
+    /// The place at which its last job began.
+    pub begins: u32,
+    /// When that job was asked for.
+    pub release: u64,
+    /// When it began.
+    pub begun: u64,
+    /// When the task had a core first since then, if it had one.
+    pub started: Option<u64>,
+    /// The answers of the jobs that have ended, from their release on.
+    pub responses: Durations,
+    /// Their waits for a core, from their begin on.
+    pub latencies: Durations,
+    /// The times from one wake to the next.
+    pub periods: Durations,
+}
+
+fn now_on_core(turn: &Turn) -> Option<u64>
+    ensures { result ≡ now_on_core turn.now }
+{
+    if turn.on_core { Some(turn.after) } else { None }
+}
+
+impl Work {
+    // The step ends a job that was one.
+    fn ends_job(&self, turn: &Turn) -> bool
+        ensures { result ≡ ends_job turn.now self.now }
+    {
+        !self.rests && (turn.rests || turn.asks) && !turn.retakes
+    }
+
+    // The step begins a job.
+    fn begins_job(&self, turn: &Turn) -> bool
+        ensures { result ≡ begins_job turn.now self.now }
+    {
+        !turn.rests && (self.rests || turn.asks)
+    }
+
+    /// Before any step: whether the task waits for work, and whether it has a core.
+    pub fn start(rests: bool, on_core: bool) -> Self
+        ensures { result ≡ first_work rests on_core }
+    {
+        Work {
+            rests,
+            begins: 0,
+            release: 0,
+            begun: 0,
+            started: if on_core { Some(0) } else { None },
+            responses: Durations::none(),
+            latencies: Durations::none(),
+            periods: Durations::none(),
+        }
+    }
+
+    // The answers with that of the job that ends.
+    fn responses_with(&self, turn: &Turn) -> Durations
+        requires { HasRoom self.now }
+        ensures { result ≡ response_now turn.now self.now }
+    {
+        if !self.ends_job(turn) {
+            return self.responses;
+        }
+        let time = turn.before.saturating_sub(self.release);
+        self.responses.with(time, self.begins)
+    }
+
+    // The waits for a core with that of the job that ends.
+    fn latencies_with(&self, turn: &Turn) -> Durations
+        requires { HasRoom self.now }
+        ensures { result ≡ latency_now turn.now self.now }
+    {
+        if !self.ends_job(turn) {
+            return self.latencies;
+        }
+        let time = self
+            .started
+            .unwrap_or(turn.before)
+            .saturating_sub(self.begun);
+        self.latencies.with(time, self.begins)
+    }
+
+    // The times between wakes with the one that the step ends.
+    fn periods_with(&self, turn: &Turn) -> Durations
+        requires { HasRoom self.now }
+        ensures { result ≡ period_now turn.now self.now }
+    {
+        if !self.begins_job(turn) || self.begins == 0 {
+            return self.periods;
+        }
+        let time = turn.after.saturating_sub(self.begun);
+        self.periods.with(time, self.begins)
+    }
+
+    /// The answers of all jobs, with that of one that has not ended by now.
+    pub fn responses_now(&self, now: u64) -> Durations
+        requires { HasRoom self.now }
+        ensures { result ≡ responses_now now self.now }
+    {
+        if self.rests {
+            return self.responses;
+        }
+        self.responses
+            .with(now.saturating_sub(self.release), self.begins)
+    }
+
+    /// The waits of all jobs for a core, with that of one that has not ended by now.
+    pub fn latencies_now(&self, now: u64) -> Durations
+        requires { HasRoom self.now }
+        ensures { result ≡ latencies_now now self.now }
+    {
+        if self.rests {
+            return self.latencies;
+        }
+        let time = self.started.unwrap_or(now).saturating_sub(self.begun);
+        self.latencies.with(time, self.begins)
+    }
+
+    /// With what a step is to the task.
+    pub fn with_turn(&self, turn: &Turn) -> Self
+        requires { HasRoom self.now }
+        ensures { result ≡ with_turn turn.now self.now }
+    {
+        let responses = self.responses_with(turn);
+        let latencies = self.latencies_with(turn);
+        let periods = self.periods_with(turn);
+        let begins = self.begins_job(turn);
+        let now = now_on_core(turn);
+        Work {
+            rests: turn.rests,
+            begins: if begins { turn.place } else { self.begins },
+            release: if begins { turn.release } else { self.release },
+            begun: if begins { turn.after } else { self.begun },
+            started: if begins { now } else { self.started.or(now) },
+            responses,
+            latencies,
+            periods,
+        }
+    }
+}
+
+/// What a step is to a task makes the work up to the next place of that up to this one.
+pub fn law_of_work()
+    ensures first { WorkBegins }
+    ensures next { WorkGoesOn }
+    ensures told { WorkIsTold }
+    // At each place there are no more jobs than places before it.
+    ensures few { WorkIsCounted }
+{}

@@ -86,15 +86,16 @@ def difference(before, after):
 def names_of(session):
     """The names of all numbers, in the order of the bench."""
     for task in session["tasks"]:
-        name, cores = task["name"], range(session["cores"])
+        name, cores = report.told(task["name"]), range(session["cores"])
         found = ["run", *(f"run.{core}" for core in cores), "ready", "ready.inverted"]
         found += ["blocked.delay", "blocked.notification", "blocked.mutex", "blocked.mutex.held_up"]
         found += [f"blocked.mutex.{mutex}" for mutex in range(session["mutexes"])]
         found += report.queue_waits(session) + report.suspensions(session)
         for one in found:
             yield from (f"{name}.{one}", f"{name}.{one}.longest")
-        counts = ["switches", "preempted", "inheritances", "top_priority", "timeouts"]
-        counts += ["late", "notifications.lost", *(f"refused.{code}" for code in report.CODES)]
+        counts = ["switches", "preempted", "migrations", "inheritances", "top_priority", "timeouts"]
+        counts += ["ran_out", "late", "notifications.lost", "unfinished"]
+        counts += [f"refused.{code}" for code in report.CODES]
         yield from (f"{name}.{one}" for one in counts)
         for one in ("inherited", "preemption_off"):
             yield from (f"{name}.{one}", f"{name}.{one}.longest")
@@ -106,7 +107,7 @@ def names_of(session):
             yield from (f"core.{core}.{one}", f"core.{core}.{one}.longest")
         yield from (f"core.{core}.{one}" for one in ("switches", "interrupts"))
     for mutex in range(session["mutexes"]):
-        rest = ["held", "held.longest", "waits", "refused"]
+        rest = ["held", "held.longest", "wait", "waits", "refused"]
         yield from (f"mutex.{mutex}.{one}" for one in rest)
     for queue in report.queues_of(session):
         rest = ["messages", "empty", "empty.longest", "full", "full.longest", "waits"]
@@ -121,10 +122,18 @@ def condition_of(session, name):
     return condition if name not in counts and condition in report.all_conditions(session) else None
 
 
+def job_times_of(name):
+    """The times of jobs of which a number is the longest or all of them, if it is of some."""
+    times = name.removesuffix(".longest").removesuffix(".total")
+    of_jobs = times != name and times.endswith((".response", ".latency", ".period"))
+    return times if of_jobs else None
+
+
 def unit(session, name):
     """What stands behind a number of time, where a tick has more than one unit."""
     of_jobs = any(name.endswith(f".{one}") for one in report.JOB_NUMBERS if one != "jobs")
-    of_time = name == "run.time" or of_jobs or condition_of(session, name) is not None
+    of_mutex = name in (f"mutex.{mutex}.wait" for mutex in range(session["mutexes"]))
+    of_time = name == "run.time" or of_jobs or of_mutex or condition_of(session, name) is not None
     return " units" if of_time and report.units_of(session) else ""
 
 
@@ -146,7 +155,7 @@ def check(document, settled, limits):
         value = values[name]
         if value <= bound if kind == "most" else value >= bound:
             continue
-        longest = f"{condition_of(session, name)}.longest"
+        longest = f"{condition_of(session, name) or job_times_of(name)}.longest"
         begins = f"; the longest stretch begins at place {places[longest]}" if longest in places else ""
         lines.append(f"{name} is {value}{unit(session, name)}, at {kind} {bound}{begins}\n")
     return (1 if lines else 0), "".join(lines), ""
@@ -156,14 +165,14 @@ def costs(session, judged, before, after):
     """What the numbers of tasks have become, but for the judged one, where they differ."""
     for task in session["tasks"]:
         for one in COSTS:
-            name = f"{task['name']}.{one}"
+            name = f"{report.told(task['name'])}.{one}"
             if name != judged and before.get(name) != after.get(name):
                 yield f"   {name} {difference(before[name], after[name])}\n"
 
 
 def advise(document, settled, task, number, families, count):
     """The best changes: status, output and error."""
-    session, name = settle.edited_session(document), f"{task}.{number}"
+    session, name = settle.edited_session(document), f"{report.told(task)}.{number}"
     before = report.measure(session, settled)["values"]
     if name not in before:
         return unknown(session, name)

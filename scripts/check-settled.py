@@ -32,6 +32,9 @@ TARGETED = (
     *("state_clear", "value_clear", "suspend", "resume"),
 )
 
+# Names of the first tasks, which begin as names of other numbers do.
+NAMES = ("core.0", "run", "queue.1")
+
 
 def header(rng):
     """A session without steps."""
@@ -42,7 +45,7 @@ def header(rng):
     form, several = rng.choice(((1, {}), (2, {"notes": 3}), third, third))
     tasks = [
         {
-            "name": f"t{number}",
+            "name": dict(enumerate(NAMES)).get(number, f"t{number}"),
             "priority": rng.randrange(priorities),
             "mask": rng.choice(((1 << cores) - 1, rng.randint(1, (1 << cores) - 1))),
         }

@@ -737,6 +737,7 @@ run 'a report of a file' 0 '     value number
          1 A.blocked.delay
          1 A.blocked.delay.longest from place 2
          2 A.top_priority
+         1 A.unfinished
          1 A.calls.delay
          1 A.calls.delay.total
          1 A.calls.delay.longest from place 2
@@ -765,6 +766,12 @@ run 'a report of a file' 0 '     value number
          1 core.1.user.longest from place 2
          1 run.time
          5 run.steps
+
+    core 0     core 1        all load
+      0.0%       0.0%       0.0% A
+      0.0%     100.0%     100.0% B
+    100.0%       0.0%     100.0% C
+      0.0%       0.0%       0.0% idle
 ' '' report "$first"
 run 'limits that are kept' 0 '' '' check --at-most A.run=0 --at-least=C.run=1 "$first"
 run 'limits that are not kept' 1 'A.blocked.delay is 1, at most 0; the longest stretch begins at place 2

@@ -28,6 +28,8 @@ WAYS = {"queue_send": "send", "queue_receive": "receive"}
 # The calls by which a task asks for work.
 WORK = ("delay", "delay_until", "notify_wait", "notify_take", "queue_receive")
 CODES = [f"E{number}" for number in range(1, 10)]
+# What names of numbers of no task begin with, and those of tasks that are told behind `task.`.
+OWNERS = ("core.", "mutex.", "queue.", "task.")
 
 
 # Steps as they stand.
@@ -58,6 +60,11 @@ def runs_out(table, task):
     if call["do"] in ("notify_wait", "notify_take"):
         return not settle.has_notification(table, task, call)
     return False
+
+
+def told(name):
+    """What the names of the numbers of a task of this name begin with."""
+    return f"task.{name}" if name == "run" or name.startswith(OWNERS) else name
 
 
 def cause_of(call):
@@ -287,6 +294,32 @@ class Jobs:
         yield "period.shortest", min((time for time, _ in periods), default=0), None
 
 
+class Trail:
+    """On which cores one task was, and what woke it, so far."""
+
+    def __init__(self, table, task):
+        self.task, self.ready, self.by_tick = task, table.ready[task], False
+        self.core = table.current.index(task) if task in table.current else None
+        self.moves = self.run_outs = 0
+
+    def note(self, table, step, events):
+        """Note a step, which was made."""
+        self.run_outs += self.by_tick and ("timeouts", self.task) in events
+        if not self.ready and table.ready[self.task]:
+            self.by_tick = step["do"] == "tick"
+        self.ready = table.ready[self.task]
+        if self.task in table.current:
+            core = table.current.index(self.task)
+            self.moves += self.core not in (None, core)
+            self.core = core
+
+
+def takers(table, names, mutex):
+    """How many tasks are in a call that takes the mutex."""
+    calls = (table.unfinished[task] for task in names)
+    return sum(call is not None and call["do"] == "mutex_take" and call["mutex"] == mutex for call in calls)
+
+
 def longest(times):
     """The greatest of times, and the place of the first that is as great."""
     best = max((time for time, _ in times), default=0)
@@ -338,7 +371,7 @@ def all_conditions(session):
         rest += [f"blocked.mutex.{mutex}" for mutex in mutexes]
         rest += queue_waits(session) + suspensions(session)
         rest += ["inherited", "preemption_off", *call_names(session)]
-        yield from (f"{task['name']}.{one}" for one in rest)
+        yield from (f"{told(task['name'])}.{one}" for one in rest)
     for core in cores:
         yield from (f"core.{core}.{one}" for one in ("user", "idle", "due", "held"))
     yield from (f"mutex.{mutex}.held" for mutex in mutexes)
@@ -349,13 +382,13 @@ def all_counts(session):
     """The names of all that is counted in steps or calls."""
     for task in session["tasks"]:
         rest = ["switches", "preempted", "inheritances", "top_priority", "timeouts", "not_made"]
-        rest += ["late", "notifications.lost", *JOB_NUMBERS]
+        rest += ["late", "notifications.lost", "migrations", "ran_out", "unfinished", *JOB_NUMBERS]
         rest += [f"refused.{code}" for code in CODES] + list(call_names(session))
-        yield from (f"{task['name']}.{one}" for one in rest)
+        yield from (f"{told(task['name'])}.{one}" for one in rest)
     for core in range(session["cores"]):
         yield from (f"core.{core}.{one}" for one in ("switches", "interrupts"))
     for mutex in range(session["mutexes"]):
-        yield from (f"mutex.{mutex}.{one}" for one in ("waits", "refused"))
+        yield from (f"mutex.{mutex}.{one}" for one in ("wait", "waits", "refused"))
     for queue in queues_of(session):
         yield from (f"queue.{queue}.{one}" for one in ("messages", "waits"))
 
@@ -363,7 +396,7 @@ def all_counts(session):
 def measured(session, steps, left):
     """The numbers of a run, and the places where the longest stretches begin."""
     table = settle.start(session)
-    names = {number: name for name, number in table.number.items()}
+    names = {number: told(name) for name, number in table.number.items()}
     values = dict.fromkeys(all_counts(session), 0)
     # The time in calls has a longer name than their count.
     totals = {name: f"{name}.total" if name in values else name for name in all_conditions(session)}
@@ -371,6 +404,7 @@ def measured(session, steps, left):
         values[total] = values[f"{name}.longest"] = 0
     places, stretches = {}, {}
     ticks, now, jobs = [], 0, [Jobs(table, task) for task in names]
+    trails = [Trail(table, task) for task in names]
     tops = {task: table.in_use[task] for task in names}
     most = list(table.messages)
     for place, step in enumerate(steps):
@@ -383,6 +417,8 @@ def measured(session, steps, left):
             stretches[name] = (before + time, began)
             if before + time > values[f"{name}.longest"]:
                 values[f"{name}.longest"], places[f"{name}.longest"] = before + time, began
+        for mutex in range(session["mutexes"]):
+            values[f"mutex.{mutex}.wait"] += time * takers(table, names, mutex)
         events = made(table, step)
         for event in events:
             if event_name(event, names):
@@ -391,13 +427,19 @@ def measured(session, steps, left):
         if step["do"] == "tick":
             ticks.append(now)
         code = next((rest[0] for kind, _, *rest in events if kind == "refused" and rest), None)
+        for one in trails:
+            one.note(table, step, events)
         for one in jobs:
             one.note(table, step, code, place, before, ticks, now)
         tops = {task: max(top, table.in_use[task]) for task, top in tops.items()}
         most = [max(pair) for pair in zip(most, table.messages)]
     for task, name in names.items():
         values[f"{name}.top_priority"] = tops[task]
-        values[f"{name}.not_made"] = sum(call["by"] == name for call in left)
+        values[f"{name}.not_made"] = sum(told(call["by"]) == name for call in left)
+    for one in trails:
+        name = names[one.task]
+        values[f"{name}.migrations"], values[f"{name}.ran_out"] = one.moves, one.run_outs
+        values[f"{name}.unfinished"] = int(table.unfinished[one.task] is not None)
     for one in jobs:
         for number, value, begins in one.numbers(now):
             name = f"{names[one.task]}.{number}"

@@ -15,14 +15,7 @@ use Rattle.run_numbers.specs.declared.subject.Subject.TheVariants.{Time}
 use Rattle.run_numbers.specs.Readings.{IsSubjectOf}
 use Rattle.report_figures.specs.Subjects.{on_core, off_core, blocked_at, blocked_on, blocked_ways, calls_by, calls_for, jobs_of, state_of, takes_of, transfers_at, transfers_of, steps_of, refusals_of, task_subjects, user_subjects, core_subjects, mutex_subjects, queue_subjects, queues_of, run_subjects, waits_of}
 use Rattle.report_figures.specs.Subjects.{can_suspend, subjects_of, suspended_in}
-
-all_map : {X : Type 0} (P : X → Type 0) (f : ℕ → X) (ns : List ℕ) → AllByRecursion (λ n. P (f n)) ns → AllByRecursion P (map f ns)
-all_map P f [] each = tt
-all_map P f (n ∷ ns) each = (each.0, all_map P f ns each.1)
-
-all_flat_map : {X : Type 0} (P : X → Type 0) (f : ℕ → List X) (ns : List ℕ) → AllByRecursion (λ n. AllByRecursion P (f n)) ns → AllByRecursion P (flat_map f ns)
-all_flat_map P f [] each = tt
-all_flat_map P f (n ∷ ns) each = All-append P (f n) (flat_map f ns) each.0 (all_flat_map P f ns each.1)
+use Rattle.report_figures.proofs.Differences.{all_flat_map, all_map}
 
 module _ (header : Header) where
   abbrev Fits : Subject → Type 0
@@ -80,7 +73,7 @@ module _ (header : Header) where
       let on : AllByRecursion Fits (on_core header.config.cores task) =
       (below, all_map Fits (λ core. Time (RunningOn task core)) (numbers header.config.cores) (numbers_below header.config.cores)) in
       let off : AllByRecursion Fits (off_core task) = (below, (below, (below, (below, (below, (below, tt)))))) in
-      let steps : AllByRecursion Fits (steps_of task) = (tt, (below, (below, (below, (tt, (tt, (tt, tt))))))) in
+      let steps : AllByRecursion Fits (steps_of task) = (tt, (below, (below, (below, (below, (tt, (below, (tt, (tt, (below, tt)))))))))) in
       let refused : AllByRecursion Fits (refusals_of task) = (tt, (tt, (tt, (tt, (tt, (tt, (tt, (tt, (tt, tt))))))))) in
       let stands : AllByRecursion Fits (state_of task) = (below, (below, tt)) in
       let on_cores = on_core header.config.cores task in
@@ -114,7 +107,7 @@ module _ (header : Header) where
   mutexes_fit : AllByRecursion Fits (flat_map mutex_subjects (numbers header.config.mutexes))
   mutexes_fit =
       all_flat_map Fits mutex_subjects (numbers header.config.mutexes)
-      (All-weaker (λ mutex. mutex < header.config.mutexes) (λ mutex. AllByRecursion Fits (mutex_subjects mutex)) (λ mutex below. (below, (tt, (tt, tt))))
+      (All-weaker (λ mutex. mutex < header.config.mutexes) (λ mutex. AllByRecursion Fits (mutex_subjects mutex)) (λ mutex below. (below, (below, (tt, (tt, tt)))))
       (numbers header.config.mutexes) (numbers_below header.config.mutexes))
 
   queues_fit : AllByRecursion Fits (flat_map queue_subjects (numbers (queues_of header)))

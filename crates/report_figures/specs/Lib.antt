@@ -1,5 +1,6 @@
 pub mod Figures
 pub mod Limits
+pub mod NameLaws
 pub mod Names
 pub mod Objects
 pub mod Subjects

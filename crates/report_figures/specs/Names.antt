@@ -1,5 +1,6 @@
 -- The names of figures.
-use Rattle.std.specs.Prelude.{ℕ, ◌==◌, ◌&&◌, not, Bool, true, false, List, [], ◌++◌, codes, decimal, if◌then◌else◌}
+use Rattle.std.specs.Prelude.{ℕ, ◌==◌, ◌&&◌, ◌||◌, not, Bool, true, false, List, [], ◌++◌, bytes_eq, codes, decimal, nat_eq, if◌then◌else◌}
+use Rattle.std.specs.List.{starts_with}
 use Rattle.bench_types.specs.Codes.{refusal_code}
 use Rattle.bench_types.specs.declared.header.Header.{Header}
 use Rattle.bench_types.specs.declared.step.Direction.{Direction}
@@ -12,13 +13,28 @@ use Rattle.run_numbers.specs.declared.subject.Condition.TheVariants.{Running, Ru
 use Rattle.run_numbers.specs.declared.subject.Event.{Event}
 use Rattle.run_numbers.specs.declared.subject.Event.TheVariants.{SwitchedIn, Inherits, TimesOut, Refused, Late, Called, SwitchedOn, PutOff, Loses, Interrupted, NotTaken, Awaited, QueueAwaited}
 use Rattle.run_numbers.specs.declared.subject.Subject.{Subject}
-use Rattle.run_numbers.specs.declared.subject.Subject.TheVariants.{Time, Steps, TopPriority, MostMessages, NotMade, Job, Run}
+use Rattle.run_numbers.specs.declared.subject.Subject.TheVariants.{Time, Steps, TopPriority, MostMessages, NotMade, Job, Migrations, RanOut, Unfinished, MutexWait, Run}
 use Rattle.run_numbers.specs.declared.subject.JobNumber.{JobNumber}
 use Rattle.run_numbers.specs.declared.subject.JobNumber.TheVariants as job
 use Rattle.run_numbers.specs.declared.subject.Whole.{Whole}
 use Rattle.run_numbers.specs.declared.subject.Whole.TheVariants as whole
 use Rattle.report_figures.specs.declared.figures.Part.{Part}
 use Rattle.report_figures.specs.declared.figures.Part.TheVariants.{Total, Longest}
+
+-- the name of a task that begins as names of other numbers do
+abbrev pub is_reserved : List ℕ → Bool
+is_reserved name =
+    bytes_eq name (codes "run") || starts_with nat_eq name (codes "core.")
+    || starts_with nat_eq name (codes "mutex.") || starts_with nat_eq name (codes "queue.")
+    || starts_with nat_eq name (codes "task.")
+
+-- what the names of the numbers of a task begin with, whose name this is
+abbrev pub told_text : List ℕ → List ℕ
+told_text name = if is_reserved name then codes "task." ++ name else name
+
+-- the same of the task of this number
+unfoldable pub told_name : Header → ℕ → List ℕ
+told_name header task = told_text (name_of header task)
 
 -- which way a message goes
 abbrev pub direction_name : Direction → List ℕ
@@ -37,19 +53,19 @@ cause_name (Queue queue direction) =
 
 -- a task, core, mutex or queue, and what holds of it
 unfoldable pub condition_name : Header → Condition → List ℕ
-condition_name header (Running task) = name_of header task ++ codes ".run"
+condition_name header (Running task) = told_name header task ++ codes ".run"
 condition_name header (RunningOn task core) =
-    name_of header task ++ codes ".run." ++ decimal core
-condition_name header (WantsCore task) = name_of header task ++ codes ".ready"
-condition_name header (Inverted task) = name_of header task ++ codes ".ready.inverted"
+    told_name header task ++ codes ".run." ++ decimal core
+condition_name header (WantsCore task) = told_name header task ++ codes ".ready"
+condition_name header (Inverted task) = told_name header task ++ codes ".ready.inverted"
 condition_name header (Blocked task cause) =
-    name_of header task ++ codes ".blocked." ++ cause_name cause
-condition_name header (HeldUp task) = name_of header task ++ codes ".blocked.mutex.held_up"
-condition_name header (Suspended task) = name_of header task ++ codes ".suspended"
+    told_name header task ++ codes ".blocked." ++ cause_name cause
+condition_name header (HeldUp task) = told_name header task ++ codes ".blocked.mutex.held_up"
+condition_name header (Suspended task) = told_name header task ++ codes ".suspended"
 condition_name header (InCall task cause) =
-    name_of header task ++ codes ".calls." ++ cause_name cause
-condition_name header (Raised task) = name_of header task ++ codes ".inherited"
-condition_name header (PreemptionOff task) = name_of header task ++ codes ".preemption_off"
+    told_name header task ++ codes ".calls." ++ cause_name cause
+condition_name header (Raised task) = told_name header task ++ codes ".inherited"
+condition_name header (PreemptionOff task) = told_name header task ++ codes ".preemption_off"
 condition_name header (Busy core) = codes "core." ++ decimal core ++ codes ".user"
 condition_name header (Idle core) = codes "core." ++ decimal core ++ codes ".idle"
 condition_name header (Due core) = codes "core." ++ decimal core ++ codes ".due"
@@ -60,17 +76,17 @@ condition_name header (Full queue) = codes "queue." ++ decimal queue ++ codes ".
 
 -- a task, mutex or queue, and what a step is to it
 unfoldable pub event_name : Header → Event → List ℕ
-event_name header (SwitchedIn task) = name_of header task ++ codes ".switches"
-event_name header (Inherits task) = name_of header task ++ codes ".inheritances"
-event_name header (TimesOut task) = name_of header task ++ codes ".timeouts"
+event_name header (SwitchedIn task) = told_name header task ++ codes ".switches"
+event_name header (Inherits task) = told_name header task ++ codes ".inheritances"
+event_name header (TimesOut task) = told_name header task ++ codes ".timeouts"
 event_name header (Refused task why) =
-    name_of header task ++ codes ".refused." ++ refusal_code why
-event_name header (Late task) = name_of header task ++ codes ".late"
+    told_name header task ++ codes ".refused." ++ refusal_code why
+event_name header (Late task) = told_name header task ++ codes ".late"
 event_name header (Called task cause) =
-    name_of header task ++ codes ".calls." ++ cause_name cause
+    told_name header task ++ codes ".calls." ++ cause_name cause
 event_name header (SwitchedOn core) = codes "core." ++ decimal core ++ codes ".switches"
-event_name header (PutOff task) = name_of header task ++ codes ".preempted"
-event_name header (Loses task) = name_of header task ++ codes ".notifications.lost"
+event_name header (PutOff task) = told_name header task ++ codes ".preempted"
+event_name header (Loses task) = told_name header task ++ codes ".notifications.lost"
 event_name header (Interrupted core) = codes "core." ++ decimal core ++ codes ".interrupts"
 event_name header (NotTaken mutex) = codes "mutex." ++ decimal mutex ++ codes ".refused"
 event_name header (Awaited mutex) = codes "mutex." ++ decimal mutex ++ codes ".waits"
@@ -93,11 +109,15 @@ whole_name whole.NotMade = codes "run.not_made"
 unfoldable pub subject_name : Header → Subject → List ℕ
 subject_name header (Time condition) = condition_name header condition
 subject_name header (Steps event) = event_name header event
-subject_name header (TopPriority task) = name_of header task ++ codes ".top_priority"
+subject_name header (TopPriority task) = told_name header task ++ codes ".top_priority"
 subject_name header (MostMessages queue) =
     codes "queue." ++ decimal queue ++ codes ".messages"
-subject_name header (NotMade task) = name_of header task ++ codes ".not_made"
-subject_name header (Job task number) = name_of header task ++ job_name number
+subject_name header (NotMade task) = told_name header task ++ codes ".not_made"
+subject_name header (Job task number) = told_name header task ++ job_name number
+subject_name header (Migrations task) = told_name header task ++ codes ".migrations"
+subject_name header (RanOut task) = told_name header task ++ codes ".ran_out"
+subject_name header (Unfinished task) = told_name header task ++ codes ".unfinished"
+subject_name header (MutexWait mutex) = codes "mutex." ++ decimal mutex ++ codes ".wait"
 subject_name header (Run number) = whole_name number
 
 -- what a total and a longest stretch add to the name of their subject; the time in calls has the
@@ -113,6 +133,7 @@ abbrev pub is_time : Subject → Bool
 is_time (Time condition) = true
 is_time (Job task job.Count) = false
 is_time (Job task number) = true
+is_time (MutexWait mutex) = true
 is_time (Run whole.Time) = true
 is_time subject = false
 

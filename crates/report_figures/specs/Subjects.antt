@@ -12,7 +12,7 @@ use Rattle.run_numbers.specs.declared.subject.Cause.TheVariants.{Delay, Notifica
 use Rattle.run_numbers.specs.declared.subject.Condition.TheVariants as condition
 use Rattle.run_numbers.specs.declared.subject.Event.TheVariants as event
 use Rattle.run_numbers.specs.declared.subject.Subject.{Subject}
-use Rattle.run_numbers.specs.declared.subject.Subject.TheVariants.{Time, Steps, TopPriority, MostMessages, NotMade, Job, Run}
+use Rattle.run_numbers.specs.declared.subject.Subject.TheVariants.{Time, Steps, TopPriority, MostMessages, NotMade, Job, Migrations, RanOut, Unfinished, MutexWait, Run}
 use Rattle.run_numbers.specs.declared.subject.JobNumber.TheVariants as job
 use Rattle.run_numbers.specs.declared.subject.Whole.TheVariants as whole
 
@@ -55,12 +55,12 @@ unfoldable pub waits_of : ℕ → ℕ → Bool → ℕ → List Subject
 waits_of mutexes queues suspends task =
     blocked_on mutexes task ++ blocked_at queues task ++ suspended_in suspends task
 
--- what steps are to the task, and its greatest priority
+-- what steps are to the task, its greatest priority, and whether a call of it is open at the end
 abbrev pub steps_of : ℕ → List Subject
 steps_of task =
-    Steps (event.SwitchedIn task) ∷ Steps (event.PutOff task) ∷ Steps (event.Inherits task)
-    ∷ TopPriority task ∷ Steps (event.TimesOut task) ∷ Steps (event.Late task)
-    ∷ Steps (event.Loses task) ∷ []
+    Steps (event.SwitchedIn task) ∷ Steps (event.PutOff task) ∷ Migrations task
+    ∷ Steps (event.Inherits task) ∷ TopPriority task ∷ Steps (event.TimesOut task) ∷ RanOut task
+    ∷ Steps (event.Late task) ∷ Steps (event.Loses task) ∷ Unfinished task ∷ []
 
 -- the task inherits its priority, and its preemption is off
 abbrev pub state_of : ℕ → List Subject
@@ -128,7 +128,8 @@ core_subjects core =
 -- all that is measured of a mutex
 abbrev pub mutex_subjects : ℕ → List Subject
 mutex_subjects mutex =
-    Time (condition.Held mutex) ∷ Steps (event.Awaited mutex) ∷ Steps (event.NotTaken mutex) ∷ []
+    Time (condition.Held mutex) ∷ MutexWait mutex ∷ Steps (event.Awaited mutex)
+    ∷ Steps (event.NotTaken mutex) ∷ []
 
 -- all that is measured of a queue
 abbrev pub queue_subjects : ℕ → List Subject

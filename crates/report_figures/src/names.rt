@@ -1,7 +1,7 @@
 //! The names of figures.
 ghost use Rattle.std.specs.Prelude.{◌≡◌, ◌++◌, OnOk, codes, decimal, string_bytes};
 ghost use Rattle.bench_types.specs.Header.{name_of};
-ghost use Rattle.report_figures.specs.Names.{cause_name, condition_name, direction_name, event_name, figure_name, is_time, job_name, part_name, subject_name, unit_text, units_line, whole_name};
+ghost use Rattle.report_figures.specs.Names.{cause_name, condition_name, direction_name, event_name, figure_name, is_reserved, is_time, job_name, part_name, subject_name, told_name, told_text, unit_text, units_line, whole_name};
 
 use crate::figures::Part;
 use bench_types::{Direction, Header};
@@ -43,7 +43,7 @@ fn is_time(subject: Subject) -> bool
     ensures { result ≡ is_time subject }
 {
     match subject {
-        Subject::Time(_) | Subject::Run(Whole::Time) => true,
+        Subject::Time(_) | Subject::MutexWait { .. } | Subject::Run(Whole::Time) => true,
         Subject::Job { number, .. } => !matches!(number, JobNumber::Count),
         _ => false,
     }
@@ -112,6 +112,10 @@ fn push_subject(text: &mut String, header: &Header, subject: Subject) -> Result<
         Subject::MostMessages { queue } => push_numbered(text, "queue.", queue, ".messages"),
         Subject::NotMade { task } => push_of_task(text, header, task, ".not_made"),
         Subject::Job { task, number } => push_of_task(text, header, task, job_name(number)),
+        Subject::Migrations { task } => push_of_task(text, header, task, ".migrations"),
+        Subject::RanOut { task } => push_of_task(text, header, task, ".ran_out"),
+        Subject::Unfinished { task } => push_of_task(text, header, task, ".unfinished"),
+        Subject::MutexWait { mutex } => push_numbered(text, "mutex.", mutex, ".wait"),
         Subject::Run(number) => text.push_str(whole_name(number)),
     }
 }
@@ -157,7 +161,7 @@ fn push_calls(text: &mut String, header: &Header, task: u32, cause: Cause) -> Re
     ensures { OnOk result
         (string_bytes text.new
         ≡ string_bytes text.old
-        ++ name_of header.now task ++ codes ".calls." ++ cause_name cause) }
+        ++ told_name header.now task ++ codes ".calls." ++ cause_name cause) }
 {
     push_of_task(text, header, task, ".calls.")?;
     push_cause(text, cause)
@@ -215,10 +219,48 @@ fn push_event(text: &mut String, header: &Header, event: Event) -> Result<(), Al
 
 fn push_of_task(text: &mut String, header: &Header, task: u32, what: &str) -> Result<(), AllocError>
     ensures { OnOk result
-        (string_bytes text.new ≡ string_bytes text.old ++ name_of header.now task ++ what.now) }
+        (string_bytes text.new ≡ string_bytes text.old ++ told_name header.now task ++ what.now) }
 {
-    header.push_name(text, task)?;
+    push_task(text, header, task)?;
     text.push_str(what)
+}
+
+// What the names of the numbers of the task begin with.
+#[tactic(auto, unfolding(crate::specs::Names::told_name))]
+fn push_task(text: &mut String, header: &Header, task: u32) -> Result<(), AllocError>
+    ensures { OnOk result
+        (string_bytes text.new ≡ string_bytes text.old ++ told_name header.now task) }
+{
+    let cores = header.config.cores;
+    if task < cores {
+        return header.push_name(text, task);
+    }
+    match header.tasks.as_slice().get((task - cores) as usize) {
+        Some(args) => push_told(text, args.name.as_str()),
+        None => Ok(()),
+    }
+}
+
+/// Writes after the text what the names of the numbers of a task of this name begin with: the name,
+/// behind `task.` where it begins as the names of other numbers do.
+pub fn push_told(text: &mut String, name: &str) -> Result<(), AllocError>
+    ensures { OnOk result (string_bytes text.new ≡ string_bytes text.old ++ told_text name.now) }
+{
+    if is_reserved(name) {
+        text.push_str("task.")?;
+    }
+    text.push_str(name)
+}
+
+// Whether the name of a task begins as the names of other numbers do.
+fn is_reserved(name: &str) -> bool
+    ensures { result ≡ is_reserved name.now }
+{
+    name == "run"
+        || name.starts_with("core.")
+        || name.starts_with("mutex.")
+        || name.starts_with("queue.")
+        || name.starts_with("task.")
 }
 
 fn push_numbered(text: &mut String, kind: &str, number: u32, what: &str) -> Result<(), AllocError>

@@ -198,17 +198,20 @@ fn push_suspended(subjects: &mut Vec<Subject>, suspends: bool, task: u32) -> Res
     Ok(())
 }
 
-fn steps_of(task: u32) -> [Subject; 7]
+fn steps_of(task: u32) -> [Subject; 10]
     ensures { result ≡ steps_of task }
 {
     [
         Subject::Steps(Event::SwitchedIn { task }),
         Subject::Steps(Event::PutOff { task }),
+        Subject::Migrations { task },
         Subject::Steps(Event::Inherits { task }),
         Subject::TopPriority { task },
         Subject::Steps(Event::TimesOut { task }),
+        Subject::RanOut { task },
         Subject::Steps(Event::Late { task }),
         Subject::Steps(Event::Loses { task }),
+        Subject::Unfinished { task },
     ]
 }
 
@@ -368,6 +371,7 @@ fn push_mutex(subjects: &mut Vec<Subject>, mutex: u32) -> Result<(), AllocError>
     ensures { OnOk result (subjects.new.items ≡ subjects.old.items ++ mutex_subjects mutex) }
 {
     subjects.push(Subject::Time(Condition::Held { mutex }))?;
+    subjects.push(Subject::MutexWait { mutex })?;
     subjects.push(Subject::Steps(Event::Awaited { mutex }))?;
     subjects.push(Subject::Steps(Event::NotTaken { mutex }))?;
     Ok(())

@@ -77,9 +77,9 @@ fn push_number(alloc: Global, text: &mut String, number: u64) -> Result<(), Allo
     push_cell(text, cell.as_str())
 }
 
-// A text in a column, at its right.
+/// Writes a text in a column of ten after the text, at the column's right.
 #[tactic(auto, unfolding(crate::specs::Table::right_aligned))]
-fn push_cell(text: &mut String, cell: &str) -> Result<(), AllocError>
+pub fn push_cell(text: &mut String, cell: &str) -> Result<(), AllocError>
     ensures { OnOk result
         (string_bytes text.new ≡ string_bytes text.old ++ right_aligned cell.now) }
 {

@@ -15,7 +15,7 @@ use Rattle.run_numbers.specs.declared.counter.Since.{Since}
 use Rattle.run_numbers.specs.declared.event.BeforeStep.{BeforeStep}
 use Rattle.run_numbers.specs.declared.subject.Reading.{Reading}
 use Rattle.run_numbers.specs.declared.subject.Subject.{Subject}
-use Rattle.run_numbers.specs.declared.subject.Subject.TheVariants.{Time, Steps, TopPriority, MostMessages, NotMade, Job, Run}
+use Rattle.run_numbers.specs.declared.subject.Subject.TheVariants.{Time, Steps, TopPriority, MostMessages, NotMade, Job, Migrations, RanOut, Unfinished, MutexWait, Run}
 use Rattle.run_numbers.specs.Conditions.{holds}
 use Rattle.run_numbers.specs.Counted.{holds_of, IsOpen, Tells}
 use Rattle.run_numbers.specs.Counters.{seen, since_now, time_since, took, with_stretch}
@@ -223,6 +223,14 @@ module _ (view : View) (step : Step) (place : ℕ) (so_far : Past) where
       other_found counter.reading counter.since (gauge_at header steps place (NotMade task)) (NotMade task) refl refl tells
   is_found header steps (Job task number) counter tells =
       other_found counter.reading counter.since (gauge_at header steps place (Job task number)) (Job task number) refl refl tells
+  is_found header steps (Migrations task) counter tells =
+      other_found counter.reading counter.since (gauge_at header steps place (Migrations task)) (Migrations task) refl refl tells
+  is_found header steps (RanOut task) counter tells =
+      other_found counter.reading counter.since (gauge_at header steps place (RanOut task)) (RanOut task) refl refl tells
+  is_found header steps (Unfinished task) counter tells =
+      other_found counter.reading counter.since (gauge_at header steps place (Unfinished task)) (Unfinished task) refl refl tells
+  is_found header steps (MutexWait mutex) counter tells =
+      other_found counter.reading counter.since (gauge_at header steps place (MutexWait mutex)) (MutexWait mutex) refl refl tells
   is_found header steps (Run number) counter tells =
       other_found counter.reading counter.since (gauge_at header steps place (Run number)) (Run number) refl refl tells
 
@@ -279,5 +287,13 @@ module _ (before : BeforeStep) (step : Step) (reply : Reply) (view after : View)
       total_at view after so_far (NotMade task) gauge refl _ _ counter.reading counter.since it.tells.opened it.tells.numbers (λ same. same)
   is_taken (Job task number) gauge counter it =
       total_at view after so_far (Job task number) gauge refl _ _ counter.reading counter.since it.tells.opened it.tells.numbers (λ same. same)
+  is_taken (Migrations task) gauge counter it =
+      total_at view after so_far (Migrations task) gauge refl _ _ counter.reading counter.since it.tells.opened it.tells.numbers (λ same. same)
+  is_taken (RanOut task) gauge counter it =
+      total_at view after so_far (RanOut task) gauge refl _ _ counter.reading counter.since it.tells.opened it.tells.numbers (λ same. same)
+  is_taken (Unfinished task) gauge counter it =
+      total_at view after so_far (Unfinished task) gauge refl _ _ counter.reading counter.since it.tells.opened it.tells.numbers (λ same. same)
+  is_taken (MutexWait mutex) gauge counter it =
+      total_at view after so_far (MutexWait mutex) gauge refl _ _ counter.reading counter.since it.tells.opened it.tells.numbers (λ same. same)
   is_taken (Run number) gauge counter it =
       total_at view after so_far (Run number) gauge refl _ _ counter.reading counter.since it.tells.opened it.tells.numbers (λ same. same)

@@ -23,7 +23,7 @@ use Rattle.run_numbers.specs.declared.subject.Event.{Event}
 use Rattle.run_numbers.specs.declared.subject.Event.TheVariants.{SwitchedIn, Inherits, TimesOut, Refused, Late, Called, SwitchedOn, PutOff, Loses, Interrupted, NotTaken, Awaited, QueueAwaited}
 use Rattle.run_numbers.specs.declared.subject.Reading.{Reading}
 use Rattle.run_numbers.specs.declared.subject.Subject.{Subject}
-use Rattle.run_numbers.specs.declared.subject.Subject.TheVariants.{Time, Steps, TopPriority, MostMessages, NotMade, Job, Run}
+use Rattle.run_numbers.specs.declared.subject.Subject.TheVariants.{Time, Steps, TopPriority, MostMessages, NotMade, Job, Migrations, RanOut, Unfinished, MutexWait, Run}
 use Rattle.run_numbers.specs.AfterStep.{happens_after, has_left, inherited, is_it, is_left_ready, known_before, left_by, overrun_by, risen, switched_in}
 use Rattle.run_numbers.specs.Conditions.{holds, is_cause}
 use Rattle.run_numbers.specs.Counted.{holds_of}
@@ -46,7 +46,7 @@ both_fail : (b c : Bool) → b ≡ c → (b && not c) ≡ false
 both_fail true c same = subst (λ c. (true && not c) ≡ false) same refl
 both_fail false c same = refl
 
-fails_first : (b c : Bool) → b ≡ false → (b && c) ≡ false
+pub fails_first : (b c : Bool) → b ≡ false → (b && c) ≡ false
 fails_first true c is = absurd (cc is)
 fails_first false c is = refl
 
@@ -57,7 +57,7 @@ total_same counter n same = ap (λ n. with_total n counter) same
 module _ (before after : View) (row : List ℕ) (step : Step) (reply : Reply) (task : ℕ) (settings : after.settings ≡ before.settings)
     (cores : IsRow row before) (apart : IsApart row (known_before before step) step after task) where
   -- the core has the task just where it had it
-  seat_kept : (core : ℕ) → core < before.settings.cores → (current before.control core == task) ≡ (current after.control core == task)
+  pub seat_kept : (core : ℕ) → core < before.settings.cores → (current before.control core == task) ≡ (current after.control core == task)
   seat_kept core low =
       let within : core < after.settings.cores = omega (arith, low, ap (λ settings. settings.cores) settings) in
       ap (λ runs. runs == task) (sym (cores.each core low)) ∙ apart.seats core within
@@ -148,7 +148,7 @@ module _ (before after : View) (row : List ℕ) (step : Step) (reply : Reply) (t
       let not_it : other.0 ≢ task = away other refl in
       fails_first (other.0 == task) (risen after.control task other.1) (grind (arith, nat_tests, not_it))
 
-  not_finish : (step : Step) → is_call_of task step ≡ false → is_finish_of task step ≡ false
+  pub not_finish : (step : Step) → is_call_of task step ≡ false → is_finish_of task step ≡ false
   not_finish Tick is = refl
   not_finish (Switch core) is = refl
   not_finish (Interrupt core note) is = refl
@@ -246,4 +246,8 @@ module _ (before after : View) (row : List ℕ) (step : Step) (reply : Reply) (t
   is_idle (MostMessages queue) so_far counter is known same low opened top = absurd (cc is)
   is_idle (NotMade other) so_far counter is known same low opened top = refl
   is_idle (Job other number) so_far counter is known same low opened top = refl
+  is_idle (Migrations other) so_far counter is known same low opened top = refl
+  is_idle (RanOut other) so_far counter is known same low opened top = refl
+  is_idle (Unfinished other) so_far counter is known same low opened top = refl
+  is_idle (MutexWait mutex) so_far counter is known same low opened top = absurd (cc is)
   is_idle (Run number) so_far counter is known same low opened top = absurd (cc is)

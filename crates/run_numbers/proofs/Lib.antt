@@ -8,6 +8,8 @@ mod Known
 mod Spans
 mod Counting
 mod Idle
+mod Totals
+mod Turning
 mod Visits
 mod Runs
 pub mod Working

@@ -23,6 +23,7 @@ use Rattle.bench_model.specs.Control.{task_at}
 use Rattle.bench_model.specs.Equal.{StandsFor}
 use Rattle.bench_model.specs.Lists.{View, view_of, list_queues}
 use Rattle.bench_model.specs.Queues.{queue_at}
+use Rattle.bench_model.specs.Tallied.{one_if}
 use Rattle.bench_model.specs.Session.{state_at, step_of}
 use Rattle.bench_model.specs.Start.{start}
 use Rattle.bench_model.specs.Table.{Stamps, Table, stamp_queues}
@@ -36,19 +37,21 @@ use Rattle.run_numbers.specs.declared.subject.Condition.{Condition}
 use Rattle.run_numbers.specs.declared.look.Look.{Look}
 use Rattle.run_numbers.specs.declared.subject.Reading.{Reading}
 use Rattle.run_numbers.specs.declared.subject.Subject.{Subject}
-use Rattle.run_numbers.specs.declared.subject.Subject.TheVariants.{Time, Steps, TopPriority, MostMessages, NotMade, Job, Run}
+use Rattle.run_numbers.specs.declared.subject.Subject.TheVariants.{Time, Steps, TopPriority, MostMessages, NotMade, Job, Migrations, RanOut, Unfinished, MutexWait, Run}
 use Rattle.run_numbers.specs.declared.taking.Plan.{Plan}
 use Rattle.run_numbers.specs.AfterStep.{known_before, left_by}
 use Rattle.run_numbers.specs.Conditions.{holds}
-use Rattle.run_numbers.specs.Counted.{AreCounted, AreTold, AreWorked, HaveRoom, IsOpen, IsUntouched, Tells}
+use Rattle.run_numbers.specs.Counted.{AreCounted, AreCrowded, AreTold, AreWorked, HaveRoom, IsOpen, IsUntouched, Tells}
 use Rattle.run_numbers.specs.Counters.{first_counter, told, took, with_stretch, HasRoom, HasRoomFor}
 use Rattle.run_numbers.specs.Gauge.{Gauge}
 use Rattle.run_numbers.specs.Events.{happens}
 use Rattle.run_numbers.specs.Gauges.{found, spell_after}
 use Rattle.run_numbers.specs.Looks.{look_of, IsKnown, IsRow}
 use Rattle.run_numbers.specs.Past.{Past, past, past_after}
+use Rattle.task_jobs.specs.declared.crowd.Crowd.{Crowd}
 use Rattle.task_jobs.specs.declared.work.Work.{Work}
-use Rattle.run_numbers.specs.Progress.{counter_in, first, measured_at, measured_in, stepped, subject_in, work_in}
+use Rattle.task_jobs.specs.Crowds.{told as told_crowd}
+use Rattle.run_numbers.specs.Progress.{counter_in, crowd_in, first, measured_at, measured_in, stepped, subject_in, work_in}
 use Rattle.run_numbers.specs.Readings.{measured, only, run_number, run_time, IsSubjectOf}
 use Rattle.run_numbers.specs.TaskCourse.{course_of}
 use Rattle.run_numbers.proofs.Working.{job_told}
@@ -152,6 +155,10 @@ first_tells header steps kernel (MostMessages queue) shows = record {
 }
 first_tells header steps kernel (NotMade task) shows = record { numbers = refl; opened = refl; since = for_none _ }
 first_tells header steps kernel (Job task number) shows = record { numbers = refl; opened = refl; since = for_none _ }
+first_tells header steps kernel (Migrations task) shows = record { numbers = refl; opened = refl; since = for_none _ }
+first_tells header steps kernel (RanOut task) shows = record { numbers = refl; opened = refl; since = for_none _ }
+first_tells header steps kernel (Unfinished task) shows = record { numbers = refl; opened = refl; since = for_none _ }
+first_tells header steps kernel (MutexWait mutex) shows = record { numbers = refl; opened = refl; since = for_none _ }
 first_tells header steps kernel (Run number) shows = record { numbers = refl; opened = refl; since = for_none _ }
 
 pub start_counted : (session : Session) (kernel : View) (plan : Plan) (counters : List Counter) (looks : List (Option Look)) (row : List ℕ)
@@ -236,6 +243,10 @@ module _ (session : Session) (place : ℕ) (kernel : View) (plan : Plan) (counte
   room_for step timed (MostMessages queue) counter it = tt
   room_for step timed (NotMade task) counter it = tt
   room_for step timed (Job task number) counter it = tt
+  room_for step timed (Migrations task) counter it = tt
+  room_for step timed (RanOut task) counter it = tt
+  room_for step timed (Unfinished task) counter it = tt
+  room_for step timed (MutexWait mutex) counter it = tt
   room_for step timed (Run number) counter it = tt
 
   pub have_room : (step : Step) → time_here step < 2 ^ 32 → HaveRoom (later_past step) plan.subjects.now counters
@@ -323,6 +334,10 @@ module _ (session : Session) (place : ℕ) (kernel : View) (plan : Plan) (counte
     task_row tasks task None is low = absurd (omega (arith, is, low))
     task_row tasks task (Some other) is low = ap Some (omega (arith, is, low))
 
+    -- a task that is untouched looks as it did
+    pub looks_alike : (task : ℕ) → IsUntouched looks row (known_before kernel step) step later task → look_of later task ≡ look_of kernel task
+    looks_alike task untouched = counted.looked task (look_of later task) untouched.known
+
     idle_at : (k : ℕ) → k < length plan.subjects.now → row_at plan k < plan.tasks
         → IsUntouched looks row (known_before kernel step) step later (row_at plan k) → took_here (subject_in plan.subjects.now k) (counter_in counters k)
         ≡ counter_in counters k
@@ -330,7 +345,7 @@ module _ (session : Session) (place : ℕ) (kernel : View) (plan : Plan) (counte
         let subject = subject_in plan.subjects.now k in
         let task = row_at plan k in
         let tells = counted.each k within in
-        let same : look_of later task ≡ look_of kernel task = counted.looked task (look_of later task) untouched.known in
+        let same = looks_alike task untouched in
         is_idle kernel later row step reply task settings counted.cores untouched.apart subject (later_past step) (counter_in counters k)
         (task_row plan.tasks task (task_of subject) refl own) (known_at k within) same core tells.opened
         (λ is. top_told task (counter_in counters k)
@@ -396,14 +411,18 @@ all_told session kernel plan counters looks row so_far few counted = record {
     at (MostMessages queue) counter tells = plain_room so_far counter places_few little tells.opened
     at (NotMade task) counter tells = plain_room so_far counter places_few little tells.opened
     at (Job task number) counter tells = plain_room so_far counter places_few little tells.opened
+    at (Migrations task) counter tells = plain_room so_far counter places_few little tells.opened
+    at (RanOut task) counter tells = plain_room so_far counter places_few little tells.opened
+    at (Unfinished task) counter tells = plain_room so_far counter places_few little tells.opened
+    at (MutexWait mutex) counter tells = plain_room so_far counter places_few little tells.opened
     at (Run number) counter tells = plain_room so_far counter places_few little tells.opened
 
 -- the numbers of a subject after the last step
 module _ (session : Session) (so_far : Past) (works : List Work) (ticks : List ℕ) (worked : AreWorked session (length session.steps) works ticks)
-    (time : so_far.elapsed ≡ run_time session.header session.steps) (left : List WaitingCall) where
+    (crowds : List Crowd) (crowded : AreCrowded session (length session.steps) crowds) (time : so_far.elapsed ≡ run_time session.header session.steps) (left : List WaitingCall) where
   last_measured : (counter : Counter) (subject : Subject) → IsSubjectOf (settings_of session.header) subject
       → told so_far counter ≡ (gauge_at session.header session.steps (length session.steps) subject).reading
-      → measured_in (length session.steps) so_far works counter left subject ≡ measured session.header session.steps left subject
+      → measured_in (length session.steps) so_far works crowds counter left subject ≡ measured session.header session.steps left subject
   last_measured counter (Time condition) known is =
       ap (λ (reading : Reading). record { subject = Time condition; reading = reading })
       (is ∙ rw (find_top (stretch_at session.header session.steps condition) (length session.steps)) refl)
@@ -415,22 +434,34 @@ module _ (session : Session) (so_far : Past) (works : List Work) (ticks : List �
       ap (λ (reading : Reading). record { subject = Job task number; reading = reading })
       (job_told (course_of session.header session.steps task) (length session.steps) so_far.elapsed (work_in works task)
       (worked.each task (omega (arith, known, worked.size))) time number)
+  last_measured counter (Migrations task) known is =
+      ap (λ (work : Work). record { subject = Migrations task; reading = only work.moves.count })
+      (worked.each task (omega (arith, known, worked.size)))
+  last_measured counter (RanOut task) known is =
+      ap (λ (work : Work). record { subject = RanOut task; reading = only work.waits.run_out })
+      (worked.each task (omega (arith, known, worked.size)))
+  last_measured counter (Unfinished task) known is =
+      ap (λ (work : Work). record { subject = Unfinished task; reading = only (one_if work.in_call) })
+      (worked.each task (omega (arith, known, worked.size)))
+  last_measured counter (MutexWait mutex) known is =
+      ap (λ (n : ℕ). record { subject = MutexWait mutex; reading = only n })
+      (ap (λ now. told_crowd now (crowd_in crowds mutex)) time ∙ (crowded.each mutex (omega (arith, known, crowded.size))).total)
   last_measured counter (Run number) known is =
       ap (λ (time : ℕ). record { subject = Run number; reading = only (run_number time (length session.steps) left number) }) time
 
-pub all_measured : (session : Session) (so_far : Past) (works : List Work) (ticks : List ℕ) (counters : List Counter) (left : List WaitingCall) (subjects : List Subject)
-    → AreTold session subjects so_far counters → AreWorked session (length session.steps) works ticks → All (IsSubjectOf (settings_of session.header)) subjects
-    → map (measured_at (length session.steps) so_far works counters left subjects) (numbers (length subjects)) ≡ map (measured session.header session.steps left) subjects
-all_measured session so_far works ticks counters left subjects are worked known =
+pub all_measured : (session : Session) (so_far : Past) (works : List Work) (ticks : List ℕ) (crowds : List Crowd) (counters : List Counter) (left : List WaitingCall) (subjects : List Subject)
+    → AreTold session subjects so_far counters → AreWorked session (length session.steps) works ticks → AreCrowded session (length session.steps) crowds → All (IsSubjectOf (settings_of session.header)) subjects
+    → map (measured_at (length session.steps) so_far works crowds counters left subjects) (numbers (length subjects)) ≡ map (measured session.header session.steps left) subjects
+all_measured session so_far works ticks crowds counters left subjects are worked crowded known =
     let n = length subjects in
     let of = measured session.header session.steps left in
     let d = of (NotMade 0) in
-    let at = measured_at (length session.steps) so_far works counters left subjects in
+    let at = measured_at (length session.steps) so_far works crowds counters left subjects in
     ext_get_or d (map at (numbers n)) (map of subjects)
     (length-map-range_with_len at 0 n ∙ sym (length-map subjects of))
     (λ k low.
     let within : k < n = omega (arith, low, length-map-range_with_len at 0 n) in
     get_or-map-range_with_len at 0 n k k d within (omega arith)
-    ∙ last_measured session so_far works ticks worked are.elapsed left (counter_in counters k) (subject_in subjects k)
+    ∙ last_measured session so_far works ticks worked crowds crowded are.elapsed left (counter_in counters k) (subject_in subjects k)
     (All-get_or (IsSubjectOf (settings_of session.header)) subjects k (NotMade 0) within known) (are.each k within)
     ∙ sym (get_or-map of subjects k (NotMade 0) d within))

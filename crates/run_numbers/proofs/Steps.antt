@@ -19,7 +19,7 @@ use Rattle.smp_kernel.proofs.Raises.{step_others}
 use Rattle.run_numbers.specs.Gauge.{Gauge}
 use Rattle.run_numbers.specs.declared.subject.Condition.{Condition}
 use Rattle.run_numbers.specs.declared.subject.Subject.{Subject}
-use Rattle.run_numbers.specs.declared.subject.Subject.TheVariants.{Time, Steps, TopPriority, MostMessages, NotMade, Job, Run}
+use Rattle.run_numbers.specs.declared.subject.Subject.TheVariants.{Time, Steps, TopPriority, MostMessages, NotMade, Job, Migrations, RanOut, Unfinished, MutexWait, Run}
 use Rattle.run_numbers.specs.Events.{happens}
 use Rattle.run_numbers.specs.Gauges.{initial_gauge, spell_after}
 use Rattle.run_numbers.specs.Messages.{messages_at}
@@ -111,4 +111,8 @@ module _ (header : Header) (steps : List Step) (place : ℕ) (step : Step) (ther
   gauge_more (MostMessages queue) known = ap initial_gauge (sym (greatest_more (messages_at header steps queue) (suc place)))
   gauge_more (NotMade task) known = refl
   gauge_more (Job task number) known = refl
+  gauge_more (Migrations task) known = refl
+  gauge_more (RanOut task) known = refl
+  gauge_more (Unfinished task) known = refl
+  gauge_more (MutexWait mutex) known = refl
   gauge_more (Run number) known = refl

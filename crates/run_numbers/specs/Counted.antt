@@ -14,7 +14,7 @@ use Rattle.run_numbers.specs.declared.counter.Since.{Since}
 use Rattle.run_numbers.specs.declared.event.BeforeStep.{BeforeStep}
 use Rattle.run_numbers.specs.declared.look.Look.{Look}
 use Rattle.run_numbers.specs.declared.subject.Subject.{Subject}
-use Rattle.run_numbers.specs.declared.subject.Subject.TheVariants.{Time, Job}
+use Rattle.run_numbers.specs.declared.subject.Subject.TheVariants.{Time, Job, Migrations, RanOut, Unfinished, MutexWait}
 use Rattle.run_numbers.specs.declared.taking.Plan.{Plan}
 use Rattle.run_numbers.specs.Conditions.{holds}
 use Rattle.run_numbers.specs.Counters.{time_since, told, HasRoom, HasRoomFor}
@@ -22,10 +22,12 @@ use Rattle.run_numbers.specs.Gauge.{Gauge}
 use Rattle.run_numbers.specs.Looks.{look_of, IsApart, IsKnown, IsRow}
 use Rattle.run_numbers.specs.Past.{Past}
 use Rattle.run_numbers.specs.Readings.{run_time}
+use Rattle.task_jobs.specs.declared.crowd.Crowd.{Crowd}
 use Rattle.task_jobs.specs.declared.work.Work.{Work}
+use Rattle.task_jobs.specs.Crowds.{IsCrowdAt}
 use Rattle.task_jobs.specs.Works.{work_at, HasRoom as HasRoomForWork}
-use Rattle.run_numbers.specs.Progress.{counter_in, subject_in, work_in}
-use Rattle.run_numbers.specs.TaskCourse.{course_of, tick_times}
+use Rattle.run_numbers.specs.Progress.{counter_in, crowd_in, subject_in, work_in}
+use Rattle.run_numbers.specs.TaskCourse.{course_of, tick_times, waiters_of}
 use Rattle.run_numbers.specs.SoFar.{gauge_at}
 use Rattle.run_numbers.specs.Stretches.{time_of_step}
 use Rattle.run_numbers.specs.Taking.{AreLooked}
@@ -89,10 +91,21 @@ pub record AreWorked (session : Session) (place : ℕ) (works : List Work) (time
       → work_in works task ≡ work_at (course_of session.header session.steps task) place
   pub ticks : times ≡ tick_times session.header session.steps place
 
--- the subject is of no job, or of those of a task whose work is known
-abbrev pub IsWorkOf : List Work → Subject → Type 0
-IsWorkOf works (Job task number) = (task < length works) × HasRoomForWork (work_in works task)
-IsWorkOf works subject = ⊤
+-- the tasks that wait for each mutex are those of so many steps
+pub record AreCrowded (session : Session) (place : ℕ) (crowds : List Crowd) : Type 0 where
+  pub size : length crowds ≡ (settings_of session.header).mutexes
+  pub each : (mutex : ℕ) → mutex < length crowds
+      → IsCrowdAt (waiters_of session.header session.steps mutex) place (crowd_in crowds mutex)
+
+-- a subject that is of work is of a task or a mutex of which this is known
+abbrev pub IsWorkOf : List Work → List Crowd → Subject → Type 0
+IsWorkOf works crowds (Job task number) =
+    (task < length works) × HasRoomForWork (work_in works task)
+IsWorkOf works crowds (Migrations task) = task < length works
+IsWorkOf works crowds (RanOut task) = task < length works
+IsWorkOf works crowds (Unfinished task) = task < length works
+IsWorkOf works crowds (MutexWait mutex) = mutex < length crowds
+IsWorkOf works crowds subject = ⊤
 
 -- after the last step the counters tell the numbers of the subjects
 pub record AreTold (session : Session) (subjects : List Subject) (so_far : Past)

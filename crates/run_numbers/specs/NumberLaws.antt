@@ -1,6 +1,7 @@
 -- The laws of the numbers of a run.
-use Rattle.std.specs.Prelude.{◌≡◌, ℕ, ◌-◌, ◌≤◌, ◌<◌, List, length, true}
+use Rattle.std.specs.Prelude.{◌≡◌, ℕ, ◌+◌, ◌-◌, ◌≤◌, ◌<◌, List, length, filter, not, true}
 use Rattle.std.specs.List.{range_with_len, sum_by}
+use Rattle.list_orders.specs.Search.{numbers}
 use Rattle.bench_types.specs.declared.header.Header.{Header}
 use Rattle.bench_types.specs.declared.reply.Refusal.TheVariants.{Displaced}
 use Rattle.bench_types.specs.declared.step.Step.{Step}
@@ -12,7 +13,7 @@ use Rattle.run_numbers.specs.declared.subject.Event.TheVariants.{SwitchedIn, Tim
 use Rattle.run_numbers.specs.declared.subject.Subject.{Subject}
 use Rattle.run_numbers.specs.declared.subject.Subject.TheVariants.{Time, Steps, TopPriority}
 use Rattle.run_numbers.specs.Readings.{reading_of}
-use Rattle.run_numbers.specs.Stretches.{holds_at, longest_from, longest_stretch, time_of_step}
+use Rattle.run_numbers.specs.Stretches.{holds_at, longest_from, longest_stretch, stretch_at, time_found, time_of_step}
 
 -- the number of a subject
 abbrev pub total_of : Header → List Step → List WaitingCall → Subject → ℕ
@@ -66,6 +67,16 @@ OneIsAsLong =
     (header : Header) (steps : List Step) (condition : Condition)
     → (first : ℕ) × (last : ℕ) × HoldsBetween header steps condition first last
     × (time_between header steps first last ≡ longest_stretch header steps condition)
+
+-- the time that finds a condition is that of all its stretches: of those that are over at a place
+-- at which it fails, and of the last
+abbrev pub TotalIsOfStretches : Type 0
+TotalIsOfStretches =
+    (header : Header) (steps : List Step) (condition : Condition)
+    → time_found header steps condition
+    ≡ sum_by (stretch_at header steps condition)
+    (filter (λ place. not (holds_at header steps condition place)) (numbers (length steps)))
+    + stretch_at header steps condition (length steps)
 
 -- from the step at the place on, which takes time, the condition holds for so long in one stretch
 pub record IsStretch (header : Header) (steps : List Step) (condition : Condition)

@@ -7,6 +7,7 @@ use Rattle.bench_types.specs.declared.kernel_data.Settings.{Settings}
 use Rattle.bench_types.specs.declared.step.Step.{Step}
 use Rattle.bench_types.specs.Step.{queue_total}
 use Rattle.bench_model.specs.Table.{stamp_queues}
+use Rattle.bench_model.specs.Tallied.{one_if}
 use Rattle.bench_model.specs.Tally.{steps_that, top_priority}
 use Rattle.settled_runs.specs.declared.waiting_call.WaitingCall.{WaitingCall}
 use Rattle.run_numbers.specs.declared.subject.Condition.{Condition}
@@ -16,18 +17,21 @@ use Rattle.run_numbers.specs.declared.subject.Event.TheVariants.{Inherits, PutOf
 use Rattle.run_numbers.specs.declared.subject.Measured.{Measured}
 use Rattle.run_numbers.specs.declared.subject.Reading.{Reading}
 use Rattle.run_numbers.specs.declared.subject.Subject.{Subject}
-use Rattle.run_numbers.specs.declared.subject.Subject.TheVariants.{Time, Steps, TopPriority, MostMessages, NotMade, Job, Run}
+use Rattle.run_numbers.specs.declared.subject.Subject.TheVariants.{Time, Steps, TopPriority, MostMessages, NotMade, Job, Migrations, RanOut, Unfinished, MutexWait, Run}
 use Rattle.run_numbers.specs.declared.subject.JobNumber.{JobNumber}
 use Rattle.run_numbers.specs.declared.subject.JobNumber.TheVariants as job
 use Rattle.run_numbers.specs.declared.subject.Whole.{Whole}
 use Rattle.run_numbers.specs.declared.subject.Whole.TheVariants as whole
 use Rattle.task_jobs.specs.declared.durations.Durations.{Durations}
 use Rattle.task_jobs.specs.Course.{Course}
+use Rattle.task_jobs.specs.Crowds.{waited}
 use Rattle.task_jobs.specs.Durations.{durations_of}
 use Rattle.task_jobs.specs.Jobs.{all_latencies, all_responses, periods, responses}
+use Rattle.task_jobs.specs.Moves.{moves}
+use Rattle.task_jobs.specs.Waits.{run_outs}
 use Rattle.run_numbers.specs.Events.{happens}
 use Rattle.run_numbers.specs.Messages.{most_messages}
-use Rattle.run_numbers.specs.TaskCourse.{course_of}
+use Rattle.run_numbers.specs.TaskCourse.{course_of, waiters_of}
 use Rattle.run_numbers.specs.Stretches.{longest_from, longest_stretch, time_found, time_of_step}
 
 -- a number that has no stretch
@@ -77,6 +81,14 @@ reading_of header steps left (MostMessages queue) = only (most_messages header s
 reading_of header steps left (NotMade task) = only (calls_of task left)
 reading_of header steps left (Job task number) =
     job_reading (course_of header steps task) (length steps) number
+reading_of header steps left (Migrations task) =
+    only (moves (course_of header steps task) (length steps))
+reading_of header steps left (RanOut task) =
+    only (run_outs (course_of header steps task) (length steps))
+reading_of header steps left (Unfinished task) =
+    only (one_if ((course_of header steps task).in_call (length steps)))
+reading_of header steps left (MutexWait mutex) =
+    only (waited (waiters_of header steps mutex) (length steps))
 reading_of header steps left (Run number) =
     only (run_number (run_time header steps) (length steps) left number)
 
@@ -115,5 +127,9 @@ IsSubjectOf settings (Time condition) = IsConditionOf settings condition
 IsSubjectOf settings (Steps event) = IsEventOf settings event
 IsSubjectOf settings (TopPriority task) = task < settings.tasks
 IsSubjectOf settings (Job task number) = task < settings.tasks
+IsSubjectOf settings (Migrations task) = task < settings.tasks
+IsSubjectOf settings (RanOut task) = task < settings.tasks
+IsSubjectOf settings (Unfinished task) = task < settings.tasks
+IsSubjectOf settings (MutexWait mutex) = mutex < settings.mutexes
 IsSubjectOf settings (MostMessages queue) = queue < queue_total settings
 IsSubjectOf settings subject = ⊤

@@ -1,9 +1,14 @@
 -- What a step is to all subjects.
-use Rattle.std.specs.Prelude.{◌≡◌, ◌≢◌, ◌⊎◌, ℕ, ◌<◌, All, List, length, Option, None, slice_index_or}
+use Rattle.std.specs.Prelude.{◌≡◌, ◌≢◌, ◌⊎◌, ℕ, ◌<◌, ◌≤◌, All, List, length, count_by, Option, None, slice_index_or}
 use Rattle.std.specs.Option.{ForSome}
 use Rattle.bench_types.specs.declared.kernel_data.Settings.{Settings}
 use Rattle.bench_model.specs.Lists.{View}
 use Rattle.smp_kernel.specs.Kernel.{StandsForSome}
+use Rattle.task_jobs.specs.declared.crowd.Crowd.{Crowd}
+use Rattle.task_jobs.specs.declared.work.Turn.{Turn}
+use Rattle.task_jobs.specs.declared.work.Work.{Work}
+use Rattle.task_jobs.specs.Crowds.{told}
+use Rattle.task_jobs.specs.Works.{with_turn}
 use Rattle.run_numbers.specs.declared.counter.Counter.{Counter}
 use Rattle.run_numbers.specs.declared.counter.Made.{Made}
 use Rattle.run_numbers.specs.declared.look.Look.{Look}
@@ -11,10 +16,12 @@ use Rattle.run_numbers.specs.declared.subject.Subject.{Subject}
 use Rattle.run_numbers.specs.declared.taking.Plan.{Plan}
 use Rattle.run_numbers.specs.Counters.{HasRoomFor}
 use Rattle.run_numbers.specs.Looks.{look_of, IsKnown}
+use Rattle.run_numbers.specs.AfterStep.{is_it}
 use Rattle.run_numbers.specs.Past.{Past}
-use Rattle.run_numbers.specs.Progress.{counter_in, subject_in}
+use Rattle.run_numbers.specs.Progress.{counter_in, crowd_in, subject_in, work_in}
 use Rattle.run_numbers.specs.Readings.{IsSubjectOf}
 use Rattle.run_numbers.specs.Rows.{row_of, AreSpans}
+use Rattle.run_numbers.specs.Turns.{turn_in}
 
 -- the plan is one of runs under the settings
 pub record IsPlanOf (settings : Settings) (plan : Plan) : Type 0 where
@@ -84,3 +91,51 @@ pub record IsLooked (view : View) (task : ℕ) (old now : List (Option Look)) : 
 abbrev pub AreLooked : View → List (Option Look) → Type 0
 AreLooked view looks =
     (task : ℕ) (look : Look) → IsKnown looks task look → look ≡ look_of view task
+
+-- ---- the work of tasks
+
+-- the work of the task at one place is that at the place before with what was made
+abbrev pub IsWorked : Made → ℕ → List Work → List Work → Type 0
+IsWorked made task old now =
+    work_in now task ≡ with_turn (turn_in made task) (work_in old task)
+
+abbrev pub IsWorkKept : ℕ → List Work → List Work → Type 0
+IsWorkKept task old now = work_in now task ≡ work_in old task
+
+-- the task has worked, and the others have not
+pub record IsWorkedAt (made : Made) (task : ℕ) (old now : List Work) : Type 0 where
+  pub own : IsWorked made task old now
+  pub others : (other : ℕ) → other ≢ task → IsWorkKept other old now
+
+-- the same, but where more is known already it is kept too
+pub record IsTurnedAt (made : Made) (Known : Type 0) (task : ℕ) (old now : List Work) :
+    Type 0 where
+  pub own : IsWorked made task old now ⊎ (Known × IsWorkKept task old now)
+  pub others : (other : ℕ) → other ≢ task → IsWorkKept other old now
+
+-- the work of each task is that with what the step is to it, or kept where that is known of it
+abbrev pub AreTurned : (ℕ → Turn) → (ℕ → Type 0) → ℕ → List Work → List Work → Type 0
+AreTurned turn Known tasks old now =
+    (task : ℕ) → task < tasks
+    → (work_in now task ≡ with_turn (turn task) (work_in old task))
+    ⊎ (Known task × IsWorkKept task old now)
+
+-- how many of the tasks take the mutex
+abbrev pub takers_in : List Work → ℕ → ℕ
+takers_in works mutex = count_by (λ work. is_it work.takes mutex) works
+
+-- so many are told of each mutex
+abbrev pub AreTakers : List Work → List Crowd → Type 0
+AreTakers works crowds =
+    (mutex : ℕ) → mutex < length crowds
+    → (crowd_in crowds mutex).tasks ≡ takers_in works mutex
+
+-- the time of waits that is told now, and when a crowd became what it is
+pub record IsTimeKept (now : ℕ) (old new : Crowd) : Type 0 where
+  pub told : told now new ≡ told now old
+  pub since : old.since ≤ now → new.since ≤ now
+
+abbrev pub AreTimesKept : ℕ → List Crowd → List Crowd → Type 0
+AreTimesKept now old new =
+    (mutex : ℕ) → mutex < length old
+    → IsTimeKept now (crowd_in old mutex) (crowd_in new mutex)

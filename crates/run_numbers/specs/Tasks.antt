@@ -5,7 +5,7 @@ use Rattle.run_numbers.specs.declared.subject.Condition.TheVariants.{Running, Ru
 use Rattle.run_numbers.specs.declared.subject.Event.{Event}
 use Rattle.run_numbers.specs.declared.subject.Event.TheVariants.{SwitchedIn, Inherits, TimesOut, Refused, Late, Called, PutOff, Loses}
 use Rattle.run_numbers.specs.declared.subject.Subject.{Subject}
-use Rattle.run_numbers.specs.declared.subject.Subject.TheVariants.{Time, Steps, TopPriority, NotMade, Job}
+use Rattle.run_numbers.specs.declared.subject.Subject.TheVariants.{Time, Steps, TopPriority, NotMade, Job, Migrations, RanOut, Unfinished}
 
 -- the task that a condition is of, if it is of a task
 abbrev pub task_in : Condition → Option ℕ
@@ -40,4 +40,7 @@ task_of (Steps event) = task_at event
 task_of (TopPriority task) = Some task
 task_of (NotMade task) = Some task
 task_of (Job task number) = Some task
+task_of (Migrations task) = Some task
+task_of (RanOut task) = Some task
+task_of (Unfinished task) = Some task
 task_of subject = None

@@ -1,6 +1,7 @@
 -- What a task's waits for work are, and what a step is to them.
-use Rattle.std.specs.Prelude.{ℕ, ◌-◌, ◌<◌, Bool, true, false, not, ◌&&◌, ◌||◌, ◌==◌, nat_lt, suc, List, length, Option, Some, None, slice_index_or, if◌then◌else◌}
-use Rattle.std.specs.Option.{option_map_or}
+use Rattle.std.specs.Prelude.{ℕ, ◌-◌, ◌<◌, Bool, true, false, not, ◌&&◌, ◌||◌, ◌==◌, nat_lt, suc, List, length, find, Option, Some, None, option_map, slice_index_or, if◌then◌else◌}
+use Rattle.std.specs.Option.{option_and_then, option_map_or}
+use Rattle.list_orders.specs.Search.{numbers}
 use Rattle.bench_types.specs.Cause.{cause_of}
 use Rattle.bench_types.specs.declared.cause.Cause.{Cause}
 use Rattle.bench_types.specs.declared.cause.Cause.TheVariants as wait
@@ -13,6 +14,7 @@ use Rattle.bench_types.specs.declared.step.Step.{Step}
 use Rattle.bench_types.specs.declared.step.Step.TheVariants as steps
 use Rattle.bench_types.specs.declared.step.Unfinished.{Unfinished}
 use Rattle.bench_types.specs.declared.step.Unfinished.TheVariants.{Made}
+use Rattle.bench_model.specs.Control.{current}
 use Rattle.bench_model.specs.State.{State, QueueOps, call_at}
 use Rattle.bench_model.specs.Suspending.{is_suspended}
 use Rattle.bench_model.specs.Tally.{is_finish_of}
@@ -55,7 +57,23 @@ abbrev pub rests : {Orders : Type 0} → QueueOps Orders → ℕ → State Order
 rests ops task state =
     is_suspended ops task state
     || (stands_blocked ops task state
-    && option_map_or (λ call. is_for_work (cause_of call)) (call_at state.calls task) false)
+    && option_map_or is_for_work (option_map cause_of (call_at state.calls task)) false)
+
+-- ---- where it is, and what it waits for
+
+-- the core that has the task, if one has it
+abbrev pub core_of : {Orders : Type 0} → ℕ → State Orders → Option ℕ
+core_of task state =
+    find (λ core. current state.control core == task) (numbers state.settings.cores)
+
+-- the mutex that a call takes which waits for this
+abbrev pub mutex_in : Cause → Option ℕ
+mutex_in (wait.Mutex mutex) = Some mutex
+mutex_in cause = None
+
+-- the mutex that the call of the task takes that has not returned
+abbrev pub takes : {Orders : Type 0} → ℕ → State Orders → Option ℕ
+takes task state = option_and_then mutex_in (option_map cause_of (call_at state.calls task))
 
 -- ---- when a job was asked for
 

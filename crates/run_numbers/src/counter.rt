@@ -23,6 +23,12 @@ pub(crate) struct Made<'a> {
     pub(crate) elapsed: u64,
     /// The places of the steps that took some of it.
     pub(crate) places: &'a [u32],
+    /// The place after the step.
+    pub(crate) place: u32,
+    /// The units of time before the step.
+    pub(crate) began: u64,
+    /// The times after all ticks so far.
+    pub(crate) ticks: &'a [u64],
 }
 
 /// From when on a condition holds.
@@ -132,7 +138,7 @@ impl Counter {
                 let messages = u64::from(made.after.queue(queue).messages);
                 self.reading.total = self.reading.total.max(messages);
             }
-            Subject::NotMade { .. } | Subject::Job { .. } | Subject::Run(_) => {}
+            _ => {}
         }
     }
 }

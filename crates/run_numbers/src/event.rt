@@ -1,5 +1,5 @@
 //! Whether a step is an event.
-ghost use Rattle.std.specs.Prelude.{◌≡◌, ◌<◌, Ok, IfSome};
+ghost use Rattle.std.specs.Prelude.{◌≡◌, ◌<◌, ◌&&◌, Ok, IfSome};
 ghost use Rattle.std.specs.Option.{ForSome};
 ghost use Rattle.bench_types.specs.Step.{step_check};
 ghost use Rattle.bench_model.specs.Tally.{is_call_of, is_finish_of, says_run_out};
@@ -187,6 +187,13 @@ pub(crate) fn is_finish_of(task: u32, step: &Step) -> bool
         } => caller == task,
         _ => false,
     }
+}
+
+/// Whether the step finishes a call of the task that got nothing.
+pub(crate) fn is_timeout(task: u32, step: &Step, reply: Reply) -> bool
+    ensures { result ≡ (is_finish_of task step.now && says_run_out reply) }
+{
+    is_finish_of(task, step) && says_run_out(reply)
 }
 
 fn is_take_of(mutex: u32, step: &Step) -> bool
@@ -391,7 +398,7 @@ pub(crate) fn happens(
     match event {
         Event::SwitchedIn { task } => switched_in(before.left, after, task),
         Event::Inherits { task } => inherited(before.raised, after, task),
-        Event::TimesOut { task } => is_finish_of(task, step) && says_run_out(reply),
+        Event::TimesOut { task } => is_timeout(task, step, reply),
         Event::Refused { task, why } => is_call_of(task, step) && is_refusal(why, reply),
         Event::Late { task } => is_call_of(task, step) && says_late(reply),
         Event::Called { task, cause } => is_call_for(task, cause, step) && !is_refused(reply),

@@ -15,10 +15,12 @@ ghost use Rattle.run_numbers.specs.AfterStep.{known_before, left_by};
 ghost use Rattle.run_numbers.specs.Counters.{took, HasRoom};
 ghost use Rattle.run_numbers.specs.Looks.{IsRow};
 ghost use Rattle.run_numbers.specs.Past.{past, places_after, ticks_after};
-ghost use Rattle.run_numbers.specs.Progress.{counter_in, first, measured_at, measured_in, reading_in};
+ghost use Rattle.run_numbers.specs.Progress.{counter_in, first, measured_at, measured_in, reading_in, work_in};
 ghost use Rattle.run_numbers.specs.Readings.{calls_of, measured, only, run_number, IsSubjectOf};
-ghost use Rattle.run_numbers.specs.Counted.{AreCounted, AreTold, AreWorked, HaveRoom, IsUntouched, IsWorkOf};
-ghost use Rattle.run_numbers.specs.Taking.{AreLooked, AreTaken, IsPlanOf};
+ghost use Rattle.run_numbers.specs.Counted.{AreCounted, AreCrowded, AreTold, AreWorked, HaveRoom, IsUntouched, IsWorkOf};
+ghost use Rattle.run_numbers.specs.Taking.{AreLooked, AreTaken, AreTakers, AreTimesKept, AreTurned, IsPlanOf};
+ghost use Rattle.run_numbers.specs.Turns.{turn_by};
+ghost use Rattle.task_jobs.specs.Works.{HasRoom as HasRoomForWork};
 
 use crate::counter::{Counter, Made};
 use crate::event::before_step;
@@ -27,14 +29,14 @@ use crate::look::Look;
 use crate::rows::spans_of;
 use crate::state::holds;
 use crate::taking::{Plan, take_all};
-use crate::work::{Done, first_works, job_number, work_all};
+use crate::work::{first_crowds, first_works, job_number};
 use crate::{Measured, Reading, Subject, Whole};
-use bench_types::{CheckedSession, Reply, Step};
+use bench_types::{CheckedSession, Step};
 use settled_runs::WaitingCall;
 use smp_kernel::{Kernel, Meter};
 use std::alloc::{AllocError, Global};
 use step_times::time_of;
-use task_jobs::Work;
+use task_jobs::{Crowd, Work};
 
 // Before any step.
 fn initial_counter(kernel: &Kernel, subject: Subject) -> Counter
@@ -120,27 +122,47 @@ fn note_tick(clock: &mut Clock, step: &Step)
     }
 }
 
-// Makes the step, and counts it. The time so far is that with the step.
+// Where a step stands. Times are in units, from the start of the run on.
+#[derive(Clone, Copy)]
+struct Times<'a> {
+    /// The place after the step.
+    place: u32,
+    /// The time before it.
+    began: u64,
+    /// The time after it.
+    elapsed: u64,
+    /// The places of all steps so far that took some time.
+    places: &'a [u32],
+    /// The times after all ticks so far.
+    ticks: &'a [u64],
+}
+
+// Makes the step, and counts it.
 fn step_all(
     counters: &mut [Counter],
     looks: &mut [Option<Look>],
+    works: &mut [Work],
+    crowds: &mut [Crowd],
     row: &mut [u32],
-    elapsed: u64,
-    places: &[u32],
+    times: &Times<'_>,
     plan: &Plan<'_>,
     kernel: &mut Kernel,
     meter: &mut Meter,
     step: &Step,
-) -> Reply
+)
     requires checked { step_check kernel.old.settings step.now ≡ Ok tt }
     requires plan { IsPlanOf kernel.old.settings plan.now }
     requires sound { StandsForSome kernel.old }
     requires size { length counters.old ≡ length plan.now.subjects.now }
     requires looks { length looks.old ≡ plan.now.tasks }
     requires row { IsRow row.old kernel.old }
-    requires room { HaveRoom (past elapsed places.now) plan.now.subjects.now counters.old }
-    ensures reply { (table : Table) → StandsFor kernel.old table
-        → result ≡ (step_of step.now table).0 }
+    requires works { length works.old ≡ plan.now.tasks }
+    requires few { plan.now.tasks < 2 ^ 32 }
+    requires room { HaveRoom (past times.now.elapsed times.now.places.now) plan.now.subjects.now
+        counters.old }
+    requires work_room { (task : ℕ) → task < plan.now.tasks
+        → HasRoomForWork (work_in works.old task) }
+    requires takers { AreTakers works.old crowds.old }
     ensures state { (table : Table) → StandsFor kernel.old table
         → StandsFor kernel.new (step_of step.now table).1 }
     ensures shape { kernel.new.settings ≡ kernel.old.settings }
@@ -152,9 +174,18 @@ fn step_all(
     ensures taken { (table : Table) → StandsFor kernel.old table
         → let before = known_before kernel.old step.now in
         AreTaken
-        (took before step.now (step_of step.now table).0 kernel.new (past elapsed places.now))
+        (took before step.now (step_of step.now table).0 kernel.new
+        (past times.now.elapsed times.now.places.now))
         (IsUntouched looks.old row.old before step.now kernel.new) plan.now counters.old
         counters.new }
+    ensures worked { (table : Table) → StandsFor kernel.old table
+        → AreTurned
+        (turn_by step.now (step_of step.now table).0 times.now.place times.now.began
+        times.now.elapsed times.now.ticks.now kernel.new)
+        (IsUntouched looks.old row.old (known_before kernel.old step.now) step.now kernel.new)
+        plan.now.tasks works.old works.new }
+    ensures takers { AreTakers works.new crowds.new }
+    ensures times { AreTimesKept times.now.elapsed crowds.old crowds.new }
 {
     let before = before_step(kernel, step);
     let reply = kernel.step(meter, step);
@@ -164,19 +195,22 @@ fn step_all(
         step,
         reply,
         after: kernel,
-        elapsed,
-        places,
+        elapsed: times.elapsed,
+        places: times.places,
+        place: times.place,
+        began: times.began,
+        ticks: times.ticks,
     };
-    take_all(counters, looks, plan, &made);
-    reply
+    take_all(counters, looks, works, crowds, plan, &made);
 }
 
 // Makes the steps of the session, and counts them. There is room for the place of each.
 fn run_all(
     counters: &mut [Counter],
     looks: &mut [Option<Look>],
-    row: &mut [u32],
     works: &mut [Work],
+    crowds: &mut [Crowd],
+    row: &mut [u32],
     clock: &mut Clock,
     plan: &Plan<'_>,
     kernel: &mut Kernel,
@@ -184,13 +218,16 @@ fn run_all(
     session: &CheckedSession,
 )
     requires plan { IsPlanOf (settings_of session.now.header) plan.now }
+    requires few { plan.now.tasks < 2 ^ 32 }
     requires begun { AreCounted session.now 0 kernel.old plan.now counters.old looks.old row.old
         (past clock.old.elapsed clock.old.places.items) }
     requires worked { AreWorked session.now 0 works.old clock.old.ticks.items }
+    requires crowded { AreCrowded session.now 0 crowds.old }
     requires room { length session.now.steps ≤ vec_capacity clock.old.places }
     requires ticks { length session.now.steps ≤ vec_capacity clock.old.ticks }
     ensures worked { AreWorked session.now (length session.now.steps) works.new
         clock.new.ticks.items }
+    ensures crowded { AreCrowded session.now (length session.now.steps) crowds.new }
     ensures counted { AreTold session.now plan.now.subjects.now
         (past clock.new.elapsed clock.new.places.items) counters.new }
     ensures meter { meter.new ≡ meter_after (length session.now.steps) meter.old }
@@ -199,38 +236,31 @@ fn run_all(
     let steps = session.steps();
     for place in 0..steps.len() {
         let step = &steps[place];
-        let before = clock.elapsed;
+        let began = clock.elapsed;
         note_time(clock, time_of(units, step), place as u32);
-        let places = clock.places.as_slice();
-        let reply = step_all(
-            counters,
-            looks,
-            row,
-            clock.elapsed,
-            places,
-            plan,
-            kernel,
-            meter,
-            step,
-        );
         note_tick(clock, step);
-        let done = Done {
-            step,
-            reply,
+        let places = clock.places.as_slice();
+        let ticks = clock.ticks.as_slice();
+        let times = Times {
             place: place as u32 + 1,
-            before,
-            after: clock.elapsed,
-            ticks: clock.ticks.as_slice(),
+            began,
+            elapsed: clock.elapsed,
+            places,
+            ticks,
         };
-        work_all(works, kernel, &done);
+        step_all(
+            counters, looks, works, crowds, row, &times, plan, kernel, meter, step,
+        );
     }
 }
 
-// The counters and the work of the tasks after the last step, and the time of the run.
+// The counters, the work of the tasks and the waits for mutexes after the last step, and the time
+// of the run.
 #[derive(Drop)]
 struct Counted {
     counters: Vec<Counter>,
     works: Vec<Work>,
+    crowds: Vec<Crowd>,
     clock: Clock,
 }
 
@@ -248,6 +278,8 @@ fn count_all(
     ensures worked { IfOk result
         (λ counted. AreWorked session.now (length session.now.steps) counted.works.items
         counted.clock.ticks.items) }
+    ensures crowded { IfOk result
+        (λ counted. AreCrowded session.now (length session.now.steps) counted.crowds.items) }
     ensures meter { OnOk result (meter.new ≡ meter_after (length session.now.steps) meter.old) }
     ensures uncounted { OnErr result (meter.new ≡ meter.old) }
 {
@@ -261,6 +293,7 @@ fn count_all(
     let mut looks = vec![in alloc; None; tasks as usize]?;
     let mut row = first_row(alloc, &kernel)?;
     let mut works = first_works(alloc, &kernel)?;
+    let mut crowds = first_crowds(alloc, kernel.settings().mutexes, works.as_slice())?;
     let mut clock = Clock {
         elapsed: 0,
         places: Vec::with_capacity(alloc, session.steps().len())?,
@@ -274,8 +307,9 @@ fn count_all(
     run_all(
         &mut counters,
         &mut looks,
-        &mut row,
         &mut works,
+        &mut crowds,
+        &mut row,
         &mut clock,
         &plan,
         &mut kernel,
@@ -285,6 +319,7 @@ fn count_all(
     Ok(Counted {
         counters,
         works,
+        crowds,
         clock,
     })
 }
@@ -320,25 +355,35 @@ fn run_number(time: u64, steps: usize, left: &[WaitingCall], number: Whole) -> u
 }
 
 fn reading(
+    counted: &Counted,
     counter: &Counter,
-    works: &[Work],
-    clock: &Clock,
     steps: usize,
     left: &[WaitingCall],
     subject: Subject,
 ) -> Reading
-    requires room { HasRoom (past clock.now.elapsed clock.now.places.items) counter.now }
-    requires work { IsWorkOf works.now subject }
+    requires room { HasRoom (past counted.now.clock.elapsed counted.now.clock.places.items)
+        counter.now }
+    requires work { IsWorkOf counted.now.works.items counted.now.crowds.items subject }
     requires left { length left.now < 2 ^ 32 }
     ensures { result
-        ≡ reading_in steps (past clock.now.elapsed clock.now.places.items) works.now counter.now
-        left.now subject }
+        ≡ reading_in steps (past counted.now.clock.elapsed counted.now.clock.places.items)
+        counted.now.works.items counted.now.crowds.items counter.now left.now subject }
 {
+    let Counted {
+        works,
+        crowds,
+        clock,
+        ..
+    } = counted;
     match subject {
         Subject::NotMade { task } => only(u64::from(calls_of(task, left))),
         Subject::Job { task, number } => {
             job_number(clock.elapsed, &works[task as usize], number)
         }
+        Subject::Migrations { task } => only(u64::from(works[task as usize].moves.count)),
+        Subject::RanOut { task } => only(u64::from(works[task as usize].waits.run_out)),
+        Subject::Unfinished { task } => only(u64::from(works[task as usize].in_call)),
+        Subject::MutexWait { mutex } => only(crowds[mutex as usize].told(clock.elapsed)),
         Subject::Run(number) => only(run_number(clock.elapsed, steps, left, number)),
         _ => counter.told(clock.elapsed, clock.places.as_slice()),
     }
@@ -355,20 +400,19 @@ fn all_measured(
     requires room { (k : ℕ) → k < length subjects.now
         → HasRoom (past counted.now.clock.elapsed counted.now.clock.places.items)
         (counter_in counted.now.counters.items k) }
-    requires works { All (IsWorkOf counted.now.works.items) subjects.now }
+    requires works { All (IsWorkOf counted.now.works.items counted.now.crowds.items) subjects.now }
     requires left { length left.now < 2 ^ 32 }
     ensures { IfOk result
         (λ measured. measured.items
         ≡ map (measured_at steps (past counted.now.clock.elapsed counted.now.clock.places.items)
-        counted.now.works.items counted.now.counters.items left.now subjects.now)
+        counted.now.works.items counted.now.crowds.items counted.now.counters.items left.now
+        subjects.now)
         (numbers (length subjects.now))) }
 {
     let mut all = Vec::with_capacity(alloc, subjects.len())?;
     for k in 0..subjects.len() {
         let subject = subjects[k];
-        let works = counted.works.as_slice();
-        let counter = &counted.counters[k];
-        let reading = reading(counter, works, &counted.clock, steps, left, subject);
+        let reading = reading(counted, &counted.counters[k], steps, left, subject);
         all.push(Measured { subject, reading })?;
     }
     Ok(all)

@@ -135,6 +135,14 @@ pub enum Subject {
     NotMade { task: u32 },
     /// A number of the jobs of the task.
     Job { task: u32, number: JobNumber },
+    /// How often the task comes onto another core than its last.
+    Migrations { task: u32 },
+    /// The waits of the task that get nothing and that a tick ended: its time was over then.
+    RanOut { task: u32 },
+    /// 1 where the task is in a call at the end that has not returned.
+    Unfinished { task: u32 },
+    /// The time of all tasks in calls that take the mutex, at most 2^64 - 1.
+    MutexWait { mutex: u32 },
     /// A number of the run as a whole.
     Run(Whole),
 }
@@ -217,9 +225,13 @@ impl Subject {
         match self {
             Subject::Time(condition) => condition.task(),
             Subject::Steps(event) => event.task(),
-            Subject::TopPriority { task } | Subject::NotMade { task } | Subject::Job { task, .. } =>
-                Some(task),
-            Subject::MostMessages { .. } | Subject::Run(_) => None,
+            Subject::TopPriority { task }
+            | Subject::NotMade { task }
+            | Subject::Job { task, .. }
+            | Subject::Migrations { task }
+            | Subject::RanOut { task }
+            | Subject::Unfinished { task } => Some(task),
+            Subject::MostMessages { .. } | Subject::MutexWait { .. } | Subject::Run(_) => None,
         }
     }
 }

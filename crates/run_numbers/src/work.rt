@@ -1,25 +1,28 @@
 //! What tasks do between two waits for work.
-ghost use Rattle.std.specs.Prelude.{◌≡◌, ◌<◌, ℕ, IfOk, false, length, map};
+ghost use Rattle.std.specs.Prelude.{◌≡◌, ◌<◌, ◌^◌, ℕ, IfOk, false, length, map, option_map};
 ghost use Rattle.std.specs.Option.{option_map_or};
 ghost use Rattle.bench_types.specs.Cause.{cause_of};
 ghost use Rattle.bench_model.specs.Lists.{list_queues};
 ghost use Rattle.bench_model.specs.State.{call_at};
 ghost use Rattle.bench_model.specs.Tally.{is_finish_of};
 ghost use Rattle.list_orders.specs.Search.{numbers};
-ghost use Rattle.task_jobs.specs.Works.{with_turn, HasRoom};
+ghost use Rattle.task_jobs.specs.Crowds.{first_crowd};
+ghost use Rattle.task_jobs.specs.Works.{HasRoom};
 ghost use Rattle.run_numbers.specs.Progress.{job_number, work_in};
 ghost use Rattle.run_numbers.specs.Readings.{only, reading_in_all};
-ghost use Rattle.run_numbers.specs.Turns.{turn_in, work_before};
-ghost use Rattle.run_numbers.specs.Work.{asks, asks_for_work, is_for_work, is_request_of, released, rests, retakes, time_ago, until_by, until_in, until_of, wake_time};
+ghost use Rattle.run_numbers.specs.Taking.{takers_in};
+ghost use Rattle.run_numbers.specs.Turns.{first_in, turn_in, wake_by, work_before};
+ghost use Rattle.run_numbers.specs.Work.{asks, asks_for_work, core_of, is_for_work, is_request_of, mutex_in, released, rests, retakes, takes, time_ago, until_by, until_in, until_of, wake_time};
 
-use crate::event::{is_finish_of, is_refused, is_wait};
+use crate::counter::Made;
+use crate::event::{is_finish_of, is_refused, is_timeout, is_wait};
 use crate::state::stands_blocked;
 use crate::{JobNumber, Reading};
 use bench_model::until::{is_ahead, next_wake};
 use bench_types::{BlockingCall, Call, Cause, Direction, Reply, Step, Unfinished};
 use smp_kernel::Kernel;
 use std::alloc::{AllocError, Global};
-use task_jobs::{Durations, Turn, Work};
+use task_jobs::{Crowd, Durations, First, Turn, Wake, Work};
 
 /// A call of `xTaskDelayUntil`.
 #[derive(Clone, Copy)]
@@ -91,7 +94,7 @@ pub(crate) fn retakes(task: u32, step: &Step, reply: Reply) -> bool
 fn is_in_wait(kernel: &Kernel, task: u32) -> bool
     requires { task < kernel.now.settings.tasks }
     ensures { result
-        ≡ option_map_or (λ call. is_for_work (cause_of call)) (call_at kernel.now.calls task)
+        ≡ option_map_or is_for_work (option_map cause_of (call_at kernel.now.calls task))
         false }
 {
     match kernel.unfinished(task) {
@@ -175,41 +178,75 @@ pub(crate) fn released(kernel: &Kernel, task: u32, step: &Step, ticks: &[u64], n
     }
 }
 
-/// A step that was made, as the work of tasks hangs on it.
-#[derive(Clone, Copy)]
-pub(crate) struct Done<'a> {
-    pub(crate) step: &'a Step,
-    pub(crate) reply: Reply,
-    /// The place after the step.
-    pub(crate) place: u32,
-    /// The units of time before the step.
-    pub(crate) before: u64,
-    /// The units of time after it.
-    pub(crate) after: u64,
-    /// The times after all ticks so far.
-    pub(crate) ticks: &'a [u64],
+// The core that has the task, if one has it.
+fn core_of(kernel: &Kernel, task: u32) -> Option<u32>
+    ensures { result ≡ core_of task kernel.now }
+{
+    (0..kernel.settings().cores).find(|core| kernel.running(*core) == task)
 }
 
-// What the step is to the task.
-fn turn_of(kernel: &Kernel, done: &Done<'_>, task: u32) -> Turn
+// The mutex that the call of the task takes that has not returned.
+fn takes(kernel: &Kernel, task: u32) -> Option<u32>
     requires { task < kernel.now.settings.tasks }
-    ensures { result ≡ turn_in done.now kernel.now task }
+    ensures { result ≡ takes task kernel.now }
 {
-    let Done {
+    match kernel.unfinished(task)?.cause() {
+        Cause::Mutex(mutex) => Some(mutex),
+        _ => None,
+    }
+}
+
+// What the step is to the waits of the task.
+fn wake_of(made: &Made<'_>, task: u32) -> Wake
+    requires { task < made.now.after.now.settings.tasks }
+    ensures { result
+        ≡ wake_by made.now.step.now made.now.reply made.now.after.now task }
+{
+    Wake {
+        ready: made.after.ready(task),
+        tick: matches!(*made.step, Step::Tick),
+        in_vain: is_timeout(task, made.step, made.reply),
+    }
+}
+
+/// What the step is to the task.
+pub(crate) fn turn_of(made: &Made<'_>, task: u32) -> Turn
+    requires { task < made.now.after.now.settings.tasks }
+    ensures { result ≡ turn_in made.now task }
+{
+    let Made {
         step,
         reply,
-        after,
+        after: kernel,
+        elapsed,
         ..
-    } = *done;
+    } = *made;
     Turn {
         rests: rests(kernel, task),
         asks: asks(task, step, reply),
         retakes: retakes(task, step, reply),
-        on_core: kernel.is_current(task),
-        place: done.place,
-        before: done.before,
-        after,
-        release: released(kernel, task, step, done.ticks, after),
+        core: core_of(kernel, task),
+        wake: wake_of(made, task),
+        in_call: kernel.unfinished(task).is_some(),
+        takes: takes(kernel, task),
+        place: made.place,
+        before: made.began,
+        after: elapsed,
+        release: released(kernel, task, step, made.ticks, elapsed),
+    }
+}
+
+// What is known of the task before any step.
+fn first_of(kernel: &Kernel, task: u32) -> First
+    requires { task < kernel.now.settings.tasks }
+    ensures { result ≡ first_in kernel.now task }
+{
+    First {
+        rests: rests(kernel, task),
+        core: core_of(kernel, task),
+        ready: kernel.ready(task),
+        in_call: kernel.unfinished(task).is_some(),
+        takes: takes(kernel, task),
     }
 }
 
@@ -222,25 +259,38 @@ pub(crate) fn first_works(alloc: Global, kernel: &Kernel) -> Result<Vec<Work>, A
     let tasks = kernel.settings().tasks;
     let mut works = Vec::with_capacity(alloc, tasks as usize)?;
     for task in 0..tasks {
-        works.push(Work::start(rests(kernel, task), kernel.is_current(task)))?;
+        works.push(Work::start(&first_of(kernel, task)))?;
     }
     Ok(works)
 }
 
-/// Adds what the step is to each task.
-pub(crate) fn work_all(works: &mut [Work], kernel: &Kernel, done: &Done<'_>)
-    requires size { length works.old ≡ kernel.now.settings.tasks }
-    requires room { (task : ℕ) → task < kernel.now.settings.tasks
-        → HasRoom (work_in works.old task) }
-    ensures { (task : ℕ) → task < kernel.now.settings.tasks
-        → work_in works.new task
-        ≡ with_turn (turn_in done.now kernel.now task) (work_in works.old task) }
+// How many of the tasks take the mutex.
+fn takers(works: &[Work], mutex: u32) -> u32
+    requires { length works.now < 2 ^ 32 }
+    ensures { result ≡ takers_in works.now mutex }
 {
-    let tasks = kernel.settings().tasks;
-    for task in 0..tasks {
-        let turn = turn_of(kernel, done, task);
-        works[task as usize] = works[task as usize].with_turn(&turn);
+    works
+        .iter()
+        .filter(|work| work.takes == Some(mutex))
+        .count() as u32
+}
+
+/// The tasks that wait for each mutex before any step.
+pub(crate) fn first_crowds(
+    alloc: Global,
+    mutexes: u32,
+    works: &[Work],
+) -> Result<Vec<Crowd>, AllocError>
+    requires { length works.now < 2 ^ 32 }
+    ensures { IfOk result
+        (λ crowds. crowds.items
+        ≡ map (λ mutex. first_crowd (takers_in works.now mutex)) (numbers mutexes)) }
+{
+    let mut crowds = Vec::with_capacity(alloc, mutexes as usize)?;
+    for mutex in 0..mutexes {
+        crowds.push(Crowd::start(takers(works, mutex)))?;
     }
+    Ok(crowds)
 }
 
 fn reading_in_all(all: Durations) -> Reading

@@ -11,7 +11,7 @@ use Rattle.list_orders.proofs.Filters.{All-append}
 use Rattle.settled_runs.specs.declared.waiting_call.WaitingCall.{WaitingCall}
 use Rattle.settled_runs.proofs.Pieces.{find_among}
 use Rattle.run_numbers.specs.declared.subject.Subject.{Subject}
-use Rattle.run_numbers.specs.declared.subject.Subject.TheVariants.{Time, Steps, TopPriority, MostMessages, NotMade, Job, Run}
+use Rattle.run_numbers.specs.declared.subject.Subject.TheVariants.{Time, Steps, TopPriority, MostMessages, NotMade, Job, Migrations, RanOut, Unfinished, MutexWait, Run}
 use Rattle.run_numbers.specs.declared.subject.JobNumber.TheVariants as job
 use Rattle.run_numbers.specs.Readings.{measured, IsSubjectOf}
 use Rattle.report_figures.specs.declared.figures.Figure.{Figure}
@@ -36,6 +36,10 @@ module _ (header : Header) (run : List Step) (left : List WaitingCall) where
   figures_fit (Job task job.Latency) fits = (fits, tt)
   figures_fit (Job task job.Period) fits = (fits, tt)
   figures_fit (Job task job.ShortestPeriod) fits = (fits, tt)
+  figures_fit (Migrations task) fits = (fits, tt)
+  figures_fit (RanOut task) fits = (fits, tt)
+  figures_fit (Unfinished task) fits = (fits, tt)
+  figures_fit (MutexWait mutex) fits = (fits, tt)
   figures_fit (Run number) fits = (fits, tt)
 
   each_fits : (subjects : List Subject) → AllByRecursion (IsSubjectOf (settings_of header)) subjects

@@ -1,10 +1,12 @@
 //! The numbers of runs, and limits of them. Each was counted by hand.
 use crate::settled::{TICK, call, session_of, switch};
-use bench_samples::{low_and_high, three_tasks};
+use bench_samples::{PLAIN, header_of, low_and_high, three_tasks};
 use bench_types::{
     Call, CheckedSession, Direction, Header, Items, Note, NotifyAction, QueueArgs, Step,
 };
-use report_figures::{Bound, figure_called, figures_of, subjects_of};
+use report_figures::{
+    Bound, figure_called, figures_of, law_of_names, push_name, push_told, subjects_of,
+};
 use run_numbers::{Condition, Subject};
 use session_reports::{CheckStatus, Checked, Wanted, check, figures_of_session};
 use smp_kernel::Meter;
@@ -67,6 +69,69 @@ fn numbers_of_runs(rt: HostRuntime) -> Result<(), Fail> {
         ("A.switches", Some(1)),
     ];
     check_values(&rt, &rt, true, &settled)
+}
+
+/// The same session with tasks whose names begin as those of numbers of a core and of the run.
+fn session_of_reserved_names(rt: &impl Abort, host: &HostRuntime) -> Result<CheckedSession, Fail> {
+    let steps = [call(0, 2, Call::Delay(2)), switch(0), TICK, TICK, TICK];
+    let tasks = [("core.0", 2, 3), ("run", 1, 3), ("C", 1, 3)];
+    let header = header_of(host.alloc(), PLAIN, &tasks)?;
+    session_of(rt, header, Vec::from_slice(host.alloc(), &steps)?)
+}
+
+#[test]
+fn numbers_of_reserved_names(rt: HostRuntime) -> Result<(), Fail> {
+    let session = session_of_reserved_names(&rt, &rt)?;
+    let wanted = [
+        ("task.core.0.switches", Some(0)),
+        ("core.0.switches", Some(1)),
+        ("task.core.0.blocked.delay", Some(2)),
+        ("core.0.blocked.delay", None),
+        ("task.run.run.1", Some(3)),
+        ("task.run.not_made", Some(0)),
+        ("run.not_made", Some(0)),
+        ("run.time", Some(3)),
+        ("run.run.1", None),
+        ("C.switches", Some(1)),
+    ];
+    for (name, number) in &wanted {
+        let found = value(&rt, &session, false, name)?;
+        assert_eq!(&rt; found, *number, "{name}");
+    }
+    Ok(())
+}
+
+/// Each number is found by its name.
+#[test]
+fn numbers_by_name(rt: HostRuntime) -> Result<(), Fail> {
+    law_of_names();
+    let alloc = rt.alloc();
+    let session = session_of_reserved_names(&rt, &rt)?;
+    let figures = figures_of_session(alloc, &mut Meter::new(&rt), &session, false)?;
+    for figure in figures.as_slice() {
+        let mut name = String::new(alloc);
+        push_name(&mut name, session.header(), figure.subject, figure.part)?;
+        let found = figure_called(alloc, session.header(), figures.as_slice(), name.as_str())?;
+        assert_eq!(&rt; found, Some(*figure), "{name}");
+    }
+    Ok(())
+}
+
+#[test]
+fn names_of_tasks_in_those_of_numbers(rt: HostRuntime) -> Result<(), Fail> {
+    let told = [
+        ("run", "task.run"),
+        ("core.0", "task.core.0"),
+        ("task.run", "task.task.run"),
+        ("core", "core"),
+        ("runs", "runs"),
+    ];
+    for (name, wanted) in &told {
+        let mut text = String::new(rt.alloc());
+        push_told(&mut text, name)?;
+        assert_eq!(&rt; text.as_str(), *wanted);
+    }
+    Ok(())
 }
 
 const fn passes(queue: u32, direction: Direction) -> Step {
@@ -153,7 +218,7 @@ fn numbers_of_queues(rt: HostRuntime) -> Result<(), Fail> {
         assert_eq!(&rt; found, Some(*number), "{name}");
     }
     let subjects = subjects_of(rt.alloc(), session.header())?;
-    assert_eq!(&rt; subjects.len(), 3 * (39 + 5 + 8) + 2 * 6 + 2 * 4 + 3);
+    assert_eq!(&rt; subjects.len(), 3 * (42 + 5 + 8) + 2 * 6 + 2 * 4 + 3);
     Ok(())
 }
 
@@ -170,7 +235,7 @@ fn numbers_without_queues(rt: HostRuntime) -> Result<(), Fail> {
     let header = without_queues(rt.alloc())?;
     header.check()?;
     let subjects = subjects_of(rt.alloc(), &header)?;
-    assert_eq!(&rt; subjects.len(), 3 * 39 + 2 * 6 + 3);
+    assert_eq!(&rt; subjects.len(), 3 * 42 + 2 * 6 + 3);
     let suspended = Subject::Time(Condition::Suspended { task: 2 });
     assert_eq!(&rt; subjects.as_slice().get(9).copied(), Some(suspended));
     Ok(())
@@ -354,6 +419,10 @@ fn numbers_of_calls(rt: HostRuntime) -> Result<(), Fail> {
         ("core.0.switches", 2),
         ("core.1.switches", 0),
         ("core.1.interrupts", 2),
+        ("H.migrations", 0),
+        ("H.ran_out", 0),
+        ("H.unfinished", 0),
+        ("mutex.0.wait", 3),
         ("mutex.0.waits", 1),
         ("mutex.0.refused", 1),
         ("run.time", 7),
@@ -454,6 +523,6 @@ fn figures_of_all_subjects(rt: HostRuntime) -> Result<(), Fail> {
     let subjects = subjects_of(rt.alloc(), &header)?;
     let none = figures_of(rt.alloc(), &[])?;
     assert_eq!(&rt; none.len(), 0);
-    assert_eq!(&rt; subjects.len(), 3 * 38 + 2 * 6 + 3);
+    assert_eq!(&rt; subjects.len(), 3 * 41 + 2 * 6 + 3);
     Ok(())
 }

@@ -1,5 +1,5 @@
 -- The jobs of a task: what it does between two waits for work.
-use Rattle.std.specs.Prelude.{ℕ, zero, suc, ◌-◌, ◌<◌, ◌==◌, Bool, not, ◌&&◌, ◌||◌, nat_lt, List, [], ◌∷◌, ◌++◌, map, filter, find, Option, option_map, if◌then◌else◌}
+use Rattle.std.specs.Prelude.{ℕ, zero, suc, ◌-◌, ◌<◌, ◌==◌, Bool, not, ◌&&◌, ◌||◌, nat_lt, List, [], ◌∷◌, ◌++◌, map, filter, find, Option, is_some, option_map, if◌then◌else◌}
 use Rattle.std.specs.List.{range_with_len}
 use Rattle.std.specs.Option.{option_map_or}
 use Rattle.list_orders.specs.Search.{numbers}
@@ -27,7 +27,8 @@ module _ (course : Course) where
   -- the first place from there to this one at which the task has a core
   abbrev pub core_from : ℕ → Option ℕ
   core_from place =
-      find course.on_core (range_with_len (begin_at place) (suc place - begin_at place))
+      find (λ k. is_some (course.core k))
+      (range_with_len (begin_at place) (suc place - begin_at place))
 
   -- A job that ends where its task goes on with an old wait was none: it had been woken in vain.
   abbrev pub is_job_end : ℕ → Bool

@@ -1,8 +1,14 @@
-//! The jobs of a task: what it does between two waits for work.
+//! The jobs of a task, what it does between two waits for work, its moves and its waits.
 #![tactic(auto)]
 
+mod crowd;
 mod durations;
+mod moves;
+mod waits;
 mod work;
 
+pub use crowd::{Crowd, law_of_crowds};
 pub use durations::Durations;
-pub use work::{Turn, Work, law_of_work};
+pub use moves::Moves;
+pub use waits::{Waits, Wake};
+pub use work::{First, Turn, Work, law_of_work};

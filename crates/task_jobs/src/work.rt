@@ -1,9 +1,10 @@
 //! The work of a task so far.
 ghost use Rattle.std.specs.Prelude.{◌≡◌, ◌<◌, ◌-◌, ◌≤◌, ◌^◌};
 ghost use Rattle.task_jobs.specs.Durations.{durations_of};
-ghost use Rattle.task_jobs.specs.Works.{begins_job, ends_job, first_work, latencies_now, latency_now, now_on_core, period_now, response_now, responses_now, with_turn, HasRoom, WorkBegins, WorkGoesOn, WorkIsCounted, WorkIsTold};
+ghost use Rattle.task_jobs.specs.JobLaws.{JobsTile};
+ghost use Rattle.task_jobs.specs.Works.{begins_job, ends_job, first_work, latencies_now, latency_now, now_on_core, period_now, response_now, responses_now, with_turn, HasRoom, WorkBegins, WorkGoesOn, WorkIsCounted, WorkIsTold, WorkStays};
 
-use crate::Durations;
+use crate::{Durations, Moves, Waits, Wake};
 
 /// What a step is to a task. Times are in units, from the start of the run on.
 #[derive(Clone, Copy, Debug, PartialEq, Eq)]
@@ -14,8 +15,14 @@ pub struct Turn {
     pub asks: bool,
     /// It goes on by the step with a wait that a wake has not ended.
     pub retakes: bool,
-    /// It has a core after the step.
-    pub on_core: bool,
+    /// The core that it has after the step, if it has one.
+    pub core: Option<u32>,
+    /// What the step is to its waits.
+    pub wake: Wake,
+    /// It is in a call after the step, which has not returned.
+    pub in_call: bool,
+    /// The mutex that this call takes, if it takes one.
+    pub takes: Option<u32>,
     /// The place after the step.
     pub place: u32,
     /// The time before the step.
@@ -24,6 +31,21 @@ pub struct Turn {
     pub after: u64,
     /// When a job that begins after the step was asked for.
     pub release: u64,
+}
+
+/// What is known of a task before any step.
+#[derive(Clone, Copy, Debug, PartialEq, Eq)]
+pub struct First {
+    /// The task waits for work.
+    pub rests: bool,
+    /// The core that it has, if it has one.
+    pub core: Option<u32>,
+    /// It is ready.
+    pub ready: bool,
+    /// It is in a call, which has not returned.
+    pub in_call: bool,
+    /// The mutex that this call takes, if it takes one.
+    pub takes: Option<u32>,
 }
 
 /// What a task did so far. Times are in units, from the start of the run on.
@@ -45,12 +67,24 @@ pub struct Work {
     pub latencies: Durations,
     /// The times from one wake to the next.
     pub periods: Durations,
+    /// Its moves from core to core.
+    pub moves: Moves,
+    /// Its waits that ran out.
+    pub waits: Waits,
+    /// It is in a call, which has not returned.
+    pub in_call: bool,
+    /// The mutex that this call takes, if it takes one.
+    pub takes: Option<u32>,
 }
 
 fn now_on_core(turn: &Turn) -> Option<u64>
     ensures { result ≡ now_on_core turn.now }
 {
-    if turn.on_core { Some(turn.after) } else { None }
+    if turn.core.is_some() {
+        Some(turn.after)
+    } else {
+        None
+    }
 }
 
 impl Work {
@@ -68,19 +102,23 @@ impl Work {
         !turn.rests && (self.rests || turn.asks)
     }
 
-    /// Before any step: whether the task waits for work, and whether it has a core.
-    pub fn start(rests: bool, on_core: bool) -> Self
-        ensures { result ≡ first_work rests on_core }
+    /// Before any step.
+    pub fn start(first: &First) -> Self
+        ensures { result ≡ first_work first.now }
     {
         Work {
-            rests,
+            rests: first.rests,
             begins: 0,
             release: 0,
             begun: 0,
-            started: if on_core { Some(0) } else { None },
+            started: if first.core.is_some() { Some(0) } else { None },
             responses: Durations::none(),
             latencies: Durations::none(),
             periods: Durations::none(),
+            moves: Moves::start(first.core),
+            waits: Waits::start(first.ready),
+            in_call: first.in_call,
+            takes: first.takes,
         }
     }
 
@@ -166,6 +204,10 @@ impl Work {
             responses,
             latencies,
             periods,
+            moves: self.moves.with_core(turn.core),
+            waits: self.waits.with_wake(turn.wake),
+            in_call: turn.in_call,
+            takes: turn.takes,
         }
     }
 }
@@ -174,7 +216,10 @@ impl Work {
 pub fn law_of_work()
     ensures first { WorkBegins }
     ensures next { WorkGoesOn }
+    ensures quiet { WorkStays }
     ensures told { WorkIsTold }
+    // Each place at which the task does not wait for work is in one job.
+    ensures tiles { JobsTile }
     // At each place there are no more jobs than places before it.
     ensures few { WorkIsCounted }
 {}

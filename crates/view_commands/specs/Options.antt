@@ -12,6 +12,7 @@ use Rattle.ranked_changes.specs.declared.change.Family.{Family}
 use Rattle.run_pictures.specs.declared.frame.Axis.{Axis}
 use Rattle.run_pictures.specs.declared.frame.Axis.TheVariants as by
 use Rattle.run_pictures.specs.declared.picture.Extent.{Extent}
+use Rattle.report_figures.specs.Names.{told_text}
 use Rattle.report_figures.specs.declared.limits.Bound.{Bound}
 use Rattle.report_figures.specs.declared.limits.Bound.TheVariants.{AtMost, AtLeast}
 use Rattle.run_views.specs.declared.places.Places.{Places}
@@ -195,9 +196,9 @@ family_in options = option_map_or family_of (first_of (codes "over") options) (S
 abbrev pub usual_best : ℕ
 usual_best = 10
 
--- the number of a task's: its name, a full stop, and what follows
+-- the number of a task's: what names of its numbers begin with, a full stop, and what follows
 abbrev pub number_name : Text → Text → Text
-number_name task rest = task ++ codes "." ++ rest
+number_name task rest = told_text task ++ codes "." ++ rest
 
 -- advice, if there is a task, a number of it and changes to try
 abbrev pub advice_with : Option Text → Option Text → Option Family → List Row → Option Command

@@ -13,6 +13,7 @@ use crate::request::{
 };
 use clap::ArgMatches;
 use ranked_changes::Family;
+use report_figures::push_told;
 use run_pictures::{Axis, Extent};
 use run_views::Places;
 use session_advice::Question;
@@ -306,7 +307,8 @@ fn best_in(options: &ArgMatches) -> u32
 fn number_name(alloc: Global, task: &str, rest: &str) -> Result<String, AllocError>
     ensures { IfOk result (λ name. string_bytes name ≡ number_name task.now rest.now) }
 {
-    let mut name = String::from_str(alloc, task)?;
+    let mut name = String::new(alloc);
+    push_told(&mut name, task)?;
     name.push_str(".")?;
     name.push_str(rest)?;
     Ok(name)

@@ -19,8 +19,8 @@ reading-reading-requires-clause-room c =
     let counted = c.args.counted.now in
     let k = c.loop-k.k in
     let within : k < length counted.counters.items = omega (arith, c.loop-k-test.true, c.requires.size) in
-    let own : c.index-counter.result.now ≡ counter_in counted.counters.items k =
-    c.index-counter.ensures ∙ get_or_default counted.counters.items k _ (first_counter 0 false) within in
+    let own : c.index.result.now ≡ counter_in counted.counters.items k =
+    c.index.ensures ∙ get_or_default counted.counters.items k _ (first_counter 0 false) within in
     subst (HasRoom (past counted.clock.elapsed counted.clock.places.items)) (sym own) (c.requires.room k c.loop-k-test.true)
 
 pub loop-k-preserved : goal.loop-k-preserved
@@ -32,26 +32,24 @@ loop-k-preserved c =
     let subjects = c.args.subjects.now in
     let steps = c.args.steps in
     let works = counted.works.items in
-    let seen = c.as_slice-works.result.now in
+    let crowds = counted.crowds.items in
     let so_far = past counted.clock.elapsed counted.clock.places.items in
     let within : k < length counters = omega (arith, c.loop-k-test.true, c.requires.size) in
-    let own : c.index-counter.result.now ≡ counter_in counters k = c.index-counter.ensures ∙ get_or_default counters k _ (first_counter 0 false) within in
+    let own : c.index.result.now ≡ counter_in counters k = c.index.ensures ∙ get_or_default counters k _ (first_counter 0 false) within in
     let same = get_or_default subjects k _ (NotMade 0) c.loop-k-test.true in
     let reading =
-    c.reading-reading.ensures ∙ ap (λ (subject : Subject). reading_in steps so_far seen c.index-counter.result.now left subject) same
-    ∙ ap (λ (counter : Counter). reading_in steps so_far seen counter left (subject_in subjects k)) own
-    ∙ ap (λ works. reading_in steps so_far works (counter_in counters k) left (subject_in subjects k)) c.as_slice-works.ensures.value in
+    c.reading-reading.ensures ∙ ap (λ (subject : Subject). reading_in steps so_far works crowds c.index.result.now left subject) same
+    ∙ ap (λ (counter : Counter). reading_in steps so_far works crowds counter left (subject_in subjects k)) own in
     let one = ap₂ (λ (subject : Subject) (reading : Reading). record { subject = subject; reading = reading }) same reading in
     c.in_ok-push.ensures.items ∙ ap (λ (m : Measured). c.loop-k.all.items ++ m ∷ []) one
-    ∙ ap (λ (ms : List Measured). ms ++ measured_at steps so_far works counters left subjects k ∷ []) c.loop-k.invariant
-    ∙ sym (map-range_with_len_more (measured_at steps so_far works counters left subjects) 0 k k (omega arith))
+    ∙ ap (λ (ms : List Measured). ms ++ measured_at steps so_far works crowds counters left subjects k ∷ []) c.loop-k.invariant
+    ∙ sym (map-range_with_len_more (measured_at steps so_far works crowds counters left subjects) 0 k k (omega arith))
 
 pub reading-reading-requires-clause-work : goal.reading-reading-requires-clause-work
 reading-reading-requires-clause-work c =
-    let works = c.args.counted.now.works.items in
+    let counted = c.args.counted.now in
     let subjects = c.args.subjects.now in
     let k = c.loop-k.k in
     let same = get_or_default subjects k _ (NotMade 0) c.loop-k-test.true in
-    let known = All-get_or (IsWorkOf works) subjects k (NotMade 0) c.loop-k-test.true c.requires.works in
-    let seen = subst (λ works. IsWorkOf works (subject_in subjects k)) (sym c.as_slice-works.ensures.value) known in
-    subst (IsWorkOf c.as_slice-works.result.now) (sym same) seen
+    let known = All-get_or (IsWorkOf counted.works.items counted.crowds.items) subjects k (NotMade 0) c.loop-k-test.true c.requires.works in
+    subst (IsWorkOf counted.works.items counted.crowds.items) (sym same) known

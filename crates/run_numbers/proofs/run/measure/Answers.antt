@@ -21,15 +21,17 @@ returns-clause-numbers c =
     let subjects = c.args.subjects.now in
     let counters = counted.counters.items in
     let works = counted.works.items in
+    let crowds = counted.crowds.items in
     IfOk-weaker c.all_measured.result _ _
     (λ found known. known
-    ∙ ap (λ (steps : List Step). map (measured_at (length steps) so_far works counters left subjects) (numbers (length subjects))) c.steps.ensures.steps
-    ∙ all_measured session so_far works counted.clock.ticks.items counters left subjects c.in_ok-counted.ensures.told c.in_ok-counted.ensures.worked
-    c.requires.known) c.all_measured.ensures
+    ∙ ap (λ (steps : List Step). map (measured_at (length steps) so_far works crowds counters left subjects) (numbers (length subjects))) c.steps.ensures.steps
+    ∙ all_measured session so_far works counted.clock.ticks.items crowds counters left subjects c.in_ok-counted.ensures.told
+    c.in_ok-counted.ensures.worked c.in_ok-counted.ensures.crowded c.requires.known) c.all_measured.ensures
 
 pub all_measured-requires-clause-works : goal.all_measured-requires-clause-works
 all_measured-requires-clause-works c =
     let session = c.args.session.now in
     let counted = c.in_ok-counted.counted in
-    All-weaker (IsSubjectOf (settings_of session.header)) (IsWorkOf counted.works.items)
-    (is_work_of session counted.works.items counted.clock.ticks.items c.in_ok-counted.ensures.worked c.steps.ensures.checked.few) c.args.subjects.now c.requires.known
+    All-weaker (IsSubjectOf (settings_of session.header)) (IsWorkOf counted.works.items counted.crowds.items)
+    (is_work_of session counted.works.items counted.clock.ticks.items counted.crowds.items c.in_ok-counted.ensures.worked
+    c.in_ok-counted.ensures.crowded c.steps.ensures.checked.few) c.args.subjects.now c.requires.known

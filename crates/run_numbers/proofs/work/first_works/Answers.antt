@@ -1,4 +1,4 @@
-use Rattle.std.proofs.Common.{◌≡◌, ◌++◌, ◌∷◌, [], List, ap₂, sym, ◌∙◌, arith}
+use Rattle.std.proofs.Common.{◌≡◌, ◌++◌, ◌∷◌, [], List, ap, ap₂, sym, ◌∙◌, arith}
 use Rattle.std.proofs.lemmas.List.FromFn.{map-range_with_len_more}
 use Rattle.task_jobs.specs.declared.work.Work.{Work}
 use Rattle.task_jobs.specs.Works.{first_work}
@@ -9,6 +9,6 @@ pub loop-task-preserved : goal.loop-task-preserved
 loop-task-preserved c =
     let kernel = c.args.kernel.now in
     let task = c.loop-task.task in
-    let one : c.start.result ≡ work_before kernel task = c.start.ensures ∙ ap₂ first_work c.rests.ensures c.is_current.ensures in
+    let one : c.start.result ≡ work_before kernel task = c.start.ensures ∙ ap first_work c.first_of.ensures in
     c.in_ok-push.ensures.items ∙ ap₂ (λ (works : List Work) (work : Work). works ++ work ∷ []) c.loop-task.invariant one
     ∙ sym (map-range_with_len_more (work_before kernel) 0 task task (omega arith))

@@ -1,0 +1,6 @@
+//! How much of a run each task had each core, in percent.
+#![tactic(auto)]
+
+mod loads;
+
+pub use loads::{Load, push_load_table};

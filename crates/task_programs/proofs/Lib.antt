@@ -1,0 +1,4 @@
+pub mod Blocks
+pub mod Flaws
+pub mod Sound
+pub mod Walks

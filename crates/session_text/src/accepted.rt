@@ -75,7 +75,7 @@ impl HasHeader for Header {
 }
 
 /// The fault of a flaw at the location, with what is at fault in the value there.
-pub(crate) fn item_fault(
+pub fn item_fault(
     alloc: Global,
     header: &Header,
     location: &Location<'_>,

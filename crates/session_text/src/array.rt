@@ -13,7 +13,7 @@ use json_data::{Gathered, Items};
 use std::alloc::Global;
 
 /// What reads one item of an array.
-pub(crate) trait ReadItem<'v> {
+pub trait ReadItem<'v> {
     ghost use Rattle.std.specs.Prelude.{ℕ, List, Result};
     ghost use Rattle.serde_json.specs.Data.{Data};
     ghost use Rattle.session_text.specs.declared.fault.TextFault.{TextFault};
@@ -30,7 +30,7 @@ pub(crate) trait ReadItem<'v> {
 }
 
 /// Reads the items of the array at the location, one after another.
-pub(crate) fn each<'v, R: ReadItem<'v>>(
+pub fn each<'v, R: ReadItem<'v>>(
     alloc: Global,
     reader: &R,
     location: &Location<'_>,
@@ -54,7 +54,7 @@ pub(crate) fn each<'v, R: ReadItem<'v>>(
 
 /// Reads the items of the array that is this member of the object.
 #[tactic(auto, unfolding(crate::specs::Array::list_at))]
-pub(crate) fn list_at<'v, R: ReadItem<'v>>(
+pub fn list_at<'v, R: ReadItem<'v>>(
     reader: &R,
     node: &Node<'_, '_, 'v>,
     name: &str,

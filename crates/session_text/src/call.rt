@@ -14,7 +14,7 @@ use bench_types::{Call, Direction, Note};
 
 /// What `do` says of a call.
 #[derive(Clone, Copy)]
-pub(crate) enum CallKind {
+pub enum CallKind {
     Yield,
     Delay,
     DelayUntil,
@@ -87,7 +87,7 @@ fn transfer_at(direction: Direction, node: &Node<'_, '_, '_>) -> Result<Call, Re
 }
 
 #[tactic(auto, unfolding(crate::specs::Step::call_at))]
-pub(crate) fn call_at(
+pub fn call_at(
     format: Format,
     names: &Names<'_>,
     kind: CallKind,

@@ -56,7 +56,7 @@ impl StdError for TextFault {}
 
 /// What ends a reading early.
 #[derive(Debug, Drop)]
-pub(crate) enum ReadFault {
+pub enum ReadFault {
     Memory,
     /// It lies on the heap, so that what a reading gives is small.
     Fault(Box<TextFault>),
@@ -65,7 +65,7 @@ pub(crate) enum ReadFault {
 impl ReadFault {
     /// The fault, or that no memory is left for it.
     #[cold]
-    pub(crate) fn of(alloc: Global, fault: TextFault) -> ReadFault
+    pub fn of(alloc: Global, fault: TextFault) -> ReadFault
         ensures { StopsAt fault result }
     {
         match Box::new(alloc, fault) {
@@ -76,7 +76,7 @@ impl ReadFault {
 
     /// The fault at the location, or that no memory is left for its path.
     #[cold]
-    pub(crate) fn at(alloc: Global, location: &Location<'_>, why: Why, detail: Detail) -> ReadFault
+    pub fn at(alloc: Global, location: &Location<'_>, why: Why, detail: Detail) -> ReadFault
         ensures { StopsAt
             (record { why = why; path = path_text (path_of location.now); detail = detail })
             result }
@@ -89,7 +89,7 @@ impl ReadFault {
 
     /// F1 of the header of the session at the location, or that no memory is left for that path.
     #[cold]
-    pub(crate) fn of_header(alloc: Global, session: &Location<'_>, flaw: HeaderFlaw) -> ReadFault
+    pub fn of_header(alloc: Global, session: &Location<'_>, flaw: HeaderFlaw) -> ReadFault
         ensures { StopsAt (header_fault (path_of session.now) flaw) result }
     {
         match session.to_path(alloc) {

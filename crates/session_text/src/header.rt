@@ -17,10 +17,10 @@ use std::marker::Model;
 
 /// A user task as the text has it: its name may still be any text.
 #[derive(Drop)]
-struct TaskShape<'v> {
-    name: &'v str,
-    priority: u32,
-    mask: u32,
+pub struct TaskShape<'v> {
+    pub name: &'v str,
+    pub priority: u32,
+    pub mask: u32,
 }
 
 impl<'v> Model for TaskShape<'v> {
@@ -50,7 +50,7 @@ impl TaskShape<'_> {
 
 /// The settings and the queues.
 #[tactic(auto, unfolding(crate::specs::Header::settings_at))]
-pub(crate) fn settings_at(
+pub fn settings_at(
     format: Format,
     node: &Node<'_, '_, '_>,
 ) -> Result<(Config, Option<Items<QueueArgs>>), ReadFault>
@@ -130,7 +130,7 @@ fn checked(header: Header) -> Result<Header, HeaderFlaw>
 }
 
 /// The header of these queues and tasks, or its first flaw. Only memory ends the call early.
-fn accepted(
+pub fn accepted(
     alloc: Global,
     config: Config,
     queues: Option<Items<QueueArgs>>,

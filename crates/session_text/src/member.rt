@@ -19,7 +19,7 @@ use json_data::{Item, Items, Member, Object};
 
 impl<'p, 't, 'v> Node<'p, 't, 'v> {
     /// H2 here, where another value is expected.
-    fn bad_value(&self, expected: Expected) -> ReadFault
+    pub fn bad_value(&self, expected: Expected) -> ReadFault
         ensures { StopsAt
             (bad_shape (location_of self.now) (Wrong expected (found_of (data_of self.now))))
             result }
@@ -40,7 +40,7 @@ impl<'p, 't, 'v> Node<'p, 't, 'v> {
         }
     }
 
-    pub(crate) fn object(&self) -> Result<Object<'p, 't, 'v>, ReadFault>
+    pub fn object(&self) -> Result<Object<'p, 't, 'v>, ReadFault>
         ensures { Gives members_view result
             (object_at (location_of self.now) (data_of self.now)) }
     {
@@ -50,7 +50,7 @@ impl<'p, 't, 'v> Node<'p, 't, 'v> {
         }
     }
 
-    pub(crate) fn items(&self) -> Result<Items<'t, 'v>, ReadFault>
+    pub fn items(&self) -> Result<Items<'t, 'v>, ReadFault>
         ensures { Gives items_view result
             (items_at (location_of self.now) (data_of self.now)) }
     {
@@ -69,7 +69,7 @@ impl<'p, 't, 'v> Node<'p, 't, 'v> {
     }
 
     /// The member, of which members of its own may be asked.
-    pub(crate) fn member(&self, name: &str) -> Result<Item<'t, 'v>, ReadFault>
+    pub fn member(&self, name: &str) -> Result<Item<'t, 'v>, ReadFault>
         ensures { Gives view result
             (member_at (location_of self.now) name.now (data_of self.now)) }
     {
@@ -93,7 +93,7 @@ impl<'p, 't, 'v> Node<'p, 't, 'v> {
 
     #[inline(always)]
     #[tactic(auto, unfolding(crate::specs::Member::number_at))]
-    pub(crate) fn number(&self, name: &str) -> Result<u32, ReadFault>
+    pub fn number(&self, name: &str) -> Result<u32, ReadFault>
         ensures { Gives (λ number. number) result
             (number_at (location_of self.now) name.now (data_of self.now)) }
     {
@@ -103,7 +103,7 @@ impl<'p, 't, 'v> Node<'p, 't, 'v> {
 
     /// The number, or the other one where the member is left out.
     #[tactic(auto, unfolding(crate::specs::Member::number_or_at))]
-    pub(crate) fn number_or(&self, name: &str, other: u32) -> Result<u32, ReadFault>
+    pub fn number_or(&self, name: &str, other: u32) -> Result<u32, ReadFault>
         ensures { Gives (λ number. number) result
             (number_or_at other (location_of self.now) name.now (data_of self.now)) }
     {
@@ -115,7 +115,7 @@ impl<'p, 't, 'v> Node<'p, 't, 'v> {
 
     #[inline(always)]
     #[tactic(auto, unfolding(crate::specs::Member::text_at))]
-    pub(crate) fn text(&self, name: &str) -> Result<&'v str, ReadFault>
+    pub fn text(&self, name: &str) -> Result<&'v str, ReadFault>
         ensures { Gives (λ text. text.now) result
             (text_at (location_of self.now) name.now (data_of self.now)) }
     {
@@ -125,7 +125,7 @@ impl<'p, 't, 'v> Node<'p, 't, 'v> {
 
     #[inline(always)]
     #[tactic(auto, unfolding(crate::specs::Member::flag_at))]
-    pub(crate) fn flag(&self, name: &str) -> Result<bool, ReadFault>
+    pub fn flag(&self, name: &str) -> Result<bool, ReadFault>
         ensures { Gives (λ flag. flag) result
             (flag_at (location_of self.now) name.now (data_of self.now)) }
     {
@@ -134,7 +134,7 @@ impl<'p, 't, 'v> Node<'p, 't, 'v> {
     }
 
     #[tactic(auto, unfolding(crate::specs::Member::array_at))]
-    pub(crate) fn array(&self, name: &str) -> Result<Items<'t, 'v>, ReadFault>
+    pub fn array(&self, name: &str) -> Result<Items<'t, 'v>, ReadFault>
         ensures { Gives items_view result
             (array_at (location_of self.now) name.now (data_of self.now)) }
     {
@@ -143,7 +143,7 @@ impl<'p, 't, 'v> Node<'p, 't, 'v> {
     }
 
     /// H2 here, where the object has a member that is none of the names.
-    pub(crate) fn only(&self, names: &[&str], members: &Object<'_, '_, '_>) -> Result<(), ReadFault>
+    pub fn only(&self, names: &[&str], members: &Object<'_, '_, '_>) -> Result<(), ReadFault>
         ensures { Gives (λ done. done) result
             (only_at (location_of self.now) (map (λ name. name.now) names.now)
             (members_view members.now)) }

@@ -15,7 +15,7 @@ use std::marker::Model;
 
 /// The numbers that the names of user tasks stand for.
 #[derive(Drop)]
-pub(crate) struct Names<'a> {
+pub struct Names<'a> {
     cores: u32,
     names: IndexSet<&'a str>,
 }
@@ -34,7 +34,7 @@ impl<'a> Model for Names<'a> {
 }
 
 impl<'a> Names<'a> {
-    pub(crate) fn none(alloc: Global) -> Self
+    pub fn none(alloc: Global) -> Self
         ensures { result ≡ no_names }
     {
         Names {
@@ -43,7 +43,7 @@ impl<'a> Names<'a> {
         }
     }
 
-    pub(crate) fn of(alloc: Global, header: &'a Header) -> Result<Self, AllocError>
+    pub fn of(alloc: Global, header: &'a Header) -> Result<Self, AllocError>
         requires { header_check header.now ≡ Ok tt }
         ensures { IfOk result (λ names. names ≡ names_of header.now) }
     {
@@ -59,7 +59,7 @@ impl<'a> Names<'a> {
 
     #[inline(never)]
     #[tactic(auto, using(crate::proofs::Lists::position_map))]
-    pub(crate) fn number_of(&self, name: &str) -> u32
+    pub fn number_of(&self, name: &str) -> u32
         ensures { result ≡ number_of self.now name.now }
     {
         match self.names.get_index_of(name) {
@@ -71,11 +71,7 @@ impl<'a> Names<'a> {
     /// The number of the task that the member names.
     #[inline(always)]
     #[tactic(auto, unfolding(crate::specs::Step::task_named_at))]
-    pub(crate) fn task_named_at(
-        &self,
-        node: &Node<'_, '_, '_>,
-        name: &str,
-    ) -> Result<u32, ReadFault>
+    pub fn task_named_at(&self, node: &Node<'_, '_, '_>, name: &str) -> Result<u32, ReadFault>
         ensures { Gives (λ task. task) result
             (task_named_at self.now (location_of node.now) name.now (data_of node.now)) }
     {
@@ -84,7 +80,7 @@ impl<'a> Names<'a> {
 }
 
 /// The names of the user tasks.
-pub(crate) fn user_names(alloc: Global, header: &Header) -> Result<Vec<&str>, AllocError>
+pub fn user_names(alloc: Global, header: &Header) -> Result<Vec<&str>, AllocError>
     ensures { IfOk result
         (λ names. map (λ name. name.now) names.items ≡ user_names header.now) }
 {

@@ -44,7 +44,7 @@ pub struct Stray {
 }
 
 impl Stray {
-    pub(crate) fn of(alloc: Global, text: &str, words: &[&str]) -> Result<Stray, AllocError>
+    pub fn of(alloc: Global, text: &str, words: &[&str]) -> Result<Stray, AllocError>
         ensures { IfOk result
             (λ it. it ≡ stray text.now (map (λ word. word.now) words.now)) }
     {

@@ -19,22 +19,22 @@ use std::alloc::Global;
 /// A value of a document, its members gone through once, with its place, and the allocator for what
 /// is read of it.
 #[derive(Clone, Copy)]
-pub(crate) struct Node<'p, 't, 'v> {
-    pub(crate) alloc: Global,
-    pub(crate) location: &'p Location<'p>,
-    pub(crate) value: &'p Gathered<'t, 'v>,
+pub struct Node<'p, 't, 'v> {
+    pub alloc: Global,
+    pub location: &'p Location<'p>,
+    pub value: &'p Gathered<'t, 'v>,
 }
 
 impl<'v> Node<'_, '_, 'v> {
     /// H2 here.
-    pub(crate) fn bad_shape(&self, detail: Detail) -> ReadFault
+    pub fn bad_shape(&self, detail: Detail) -> ReadFault
         ensures { StopsAt (bad_shape (location_of self.now) detail) result }
     {
         ReadFault::at(self.alloc, self.location, Why::BadShape, detail)
     }
 
     /// H2 at the member.
-    pub(crate) fn bad_member(&self, name: &str, detail: Detail) -> ReadFault
+    pub fn bad_member(&self, name: &str, detail: Detail) -> ReadFault
         ensures { StopsAt (bad_shape (member_path (location_of self.now) name.now) detail) result }
     {
         let location = Location::Member(self.location, name);
@@ -42,7 +42,7 @@ impl<'v> Node<'_, '_, 'v> {
     }
 
     /// What was looked for in the value, which is the member, or H2 there.
-    pub(crate) fn typed<T: Drop>(
+    pub fn typed<T: Drop>(
         &self,
         name: &str,
         expected: Expected,
@@ -74,7 +74,7 @@ impl<'v> Node<'_, '_, 'v> {
     }
 
     /// What the text that is the member means, or H2 there: it has to be one of the words.
-    pub(crate) fn meant<T: Drop>(
+    pub fn meant<T: Drop>(
         &self,
         name: &str,
         text: &str,

@@ -44,7 +44,7 @@ impl Path {
 ///
 /// It is made into a text at a fault alone.
 #[derive(Clone, Copy)]
-pub(crate) enum Location<'a> {
+pub enum Location<'a> {
     Top,
     Member(&'a Location<'a>, &'a str),
     Item(&'a Location<'a>, usize),
@@ -52,7 +52,7 @@ pub(crate) enum Location<'a> {
 
 impl Location<'_> {
     /// The text that a fault at this location carries.
-    pub(crate) fn to_path(&self, alloc: Global) -> Result<Path, AllocError>
+    pub fn to_path(&self, alloc: Global) -> Result<Path, AllocError>
         ensures { IfOk result (λ path. path ≡ path_text (path_of self.now)) }
     {
         let mut text = self.spell(alloc)?;

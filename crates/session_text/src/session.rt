@@ -69,7 +69,7 @@ fn whole_session(node: &Node<'_, '_, '_>) -> Result<(Header, Vec<Step>), ReadFau
 }
 
 /// The value that the bytes spell, or H1, or that memory ran out.
-pub(crate) fn document<'a>(
+pub fn document<'a>(
     alloc: Global,
     text: &'a [u8],
     scratch: &'a mut Scratch,
@@ -86,7 +86,7 @@ pub(crate) fn document<'a>(
 }
 
 /// The names of the header's tasks, or none where it is not accepted.
-pub(crate) fn known_names(
+pub fn known_names(
     alloc: Global,
     header: &Result<Header, HeaderFlaw>,
 ) -> Result<Names<'_>, AllocError>

@@ -21,7 +21,7 @@ use json_data::Object;
 
 /// What `do` says of an action, and of a step that a core makes.
 #[derive(Clone, Copy)]
-pub(crate) enum Kind {
+pub enum Kind {
     Tick,
     Switch,
     Call(CallKind),
@@ -54,7 +54,7 @@ impl Kind {
         }
     }
 
-    fn of(format: Format, word: &str) -> Option<Kind>
+    pub fn of(format: Format, word: &str) -> Option<Kind>
         ensures { result ≡ kind_among (kinds_in format) word.now }
     {
         match format {
@@ -336,7 +336,7 @@ fn step_kind_at(format: Format, node: &Node<'_, '_, '_>) -> Result<StepKind, Rea
 }
 
 #[tactic(auto, unfolding(crate::specs::Step::step_of_core_at))]
-fn step_of_core_at(
+pub fn step_of_core_at(
     format: Format,
     names: &Names<'_>,
     kind: Kind,

@@ -1,0 +1,9 @@
+//! Tests of workloads: their texts, and what reading them gives. There is nothing else here.
+#![tactic(auto)]
+
+#[cfg(test)]
+mod faults;
+#[cfg(test)]
+mod programs;
+#[cfg(test)]
+mod texts;

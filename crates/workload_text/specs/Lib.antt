@@ -1,0 +1,6 @@
+pub mod Heads
+pub mod Interrupts
+pub mod Items
+pub mod Places
+pub mod ShapesView
+pub mod Workloads

@@ -124,6 +124,12 @@ pub next_at_call : (table : Table) (waiting : List WaitingCall) (call : Option S
     → None ≡ find (is_open table) (finishes table) → call ≡ find (is_timely table) (map (on_its_core table) waiting) → call ≡ quiet_step table waiting
 next_at_call table waiting call first second third = next_known table waiting None None call first second third
 
+-- where no call waits
+pub next_at_rest : (table : Table) (finish : Option Step) → None ≡ find (is_open table) (switches table)
+    → finish ≡ find (is_open table) (finishes table) → finish ≡ quiet_step table []
+next_at_rest table None first second = next_known table [] None None None first second refl
+next_at_rest table (Some step) first second = next_known table [] None (Some step) None first second refl
+
 -- ---- calls that wait
 
 -- a call that begins

@@ -1,4 +1,4 @@
-mod Counted
+pub mod Counted
 pub mod Finds
 mod NotesKnown
 pub mod Places

@@ -8,3 +8,4 @@ mod searches;
 
 pub use notes::push_left;
 pub use run::{SettleFault, settle};
+pub use searches::{is_timely, quiet_work};

@@ -1,5 +1,5 @@
 //! The next piece of quiet work: a switch, else a `finish`, else a call that waits.
-ghost use Rattle.std.specs.Prelude.{◌≡◌, ◌≤◌, ◌<◌, All, Ok, find, map};
+ghost use Rattle.std.specs.Prelude.{◌≡◌, ◌≤◌, ◌<◌, [], All, Ok, find, map};
 ghost use Rattle.bench_types.specs.Step.{step_check, IsCheckedStep};
 ghost use Rattle.bench_model.specs.Equal.{StandsFor};
 ghost use Rattle.bench_model.specs.Table.{Table};
@@ -30,6 +30,16 @@ pub(crate) fn next_piece(
         return Some(step);
     }
     first_call(kernel, queues, steps, come)
+}
+
+/// The piece of quiet work that comes next where no call waits: a switch, else a `finish`.
+pub fn quiet_work(kernel: &Kernel) -> Option<Step>
+    ensures { (table : Table) → StandsFor kernel.now table → result ≡ quiet_step table [] }
+{
+    match due_switch(kernel) {
+        Some(step) => Some(step),
+        None => open_finish(kernel),
+    }
 }
 
 // The switch of the least core that is due, where no hold keeps it out.
@@ -93,8 +103,9 @@ fn first_call(kernel: &Kernel, queues: &Queues, steps: &[Step], come: usize) -> 
     found
 }
 
-// Whether the step is not refused with E1 to E5.
-fn is_timely(kernel: &Kernel, step: &Step) -> bool
+/// Whether the step is not refused with E1 to E5: it is made, or it is answered with another
+/// refusal.
+pub fn is_timely(kernel: &Kernel, step: &Step) -> bool
     requires { step_check kernel.now.settings step.now ≡ Ok tt }
     ensures { (table : Table) → StandsFor kernel.now table → result ≡ is_timely table step.now }
 {

@@ -6,4 +6,6 @@ mod faults;
 #[cfg(test)]
 mod programs;
 #[cfg(test)]
+mod runs;
+#[cfg(test)]
 mod texts;

@@ -1,0 +1,40 @@
+use Rattle.std.proofs.Common.{◌∙◌, [], ap, length, subst, sym}
+use Rattle.bench_types.specs.Session.{Session}
+use Rattle.workload_runs.specs.Rule.{IsRunOf}
+use Rattle.workload_runs.specs.Situations.{first_situation}
+use Rattle.settled_runs.specs.Settled.{IsSettled}
+use Rattle.settling.proofs.Counted.{on_err}
+use Rattle.workload_runs.proofs.Settles.{run_is_settled}
+use Rattle.simulating.proofs.Making.{counted_on, run_ends, too_long}
+use Rattle.simulating.proofs.run.simulate.Goals as goal
+
+pub returns-in_err-make-clause-long : goal.returns-in_err-make-clause-long
+returns-in_err-make-clause-long c known =
+    let given = rw known at c.from_residual-in_err-make.ensures.1 in
+    let next = sym c.next_step.ensures ∙ c.in-Some.is in
+    too_long c.args.workload.now c.loop-step.simulation c.loop-step.invariant.here c.in-Some.step next (c.in_err-make.ensures.full (cc (given)))
+
+pub returns-in-Some-new-clause-run : goal.returns-in-Some-new-clause-run
+returns-in-Some-new-clause-run c =
+    let workload = c.args.workload.now in
+    let self = c.loop-step.simulation in
+    subst (IsRunOf workload) (sym (ap (λ (session : Session). session.steps) c.in-Some-new.ensures.session))
+    (run_ends self.steps.items workload (first_situation workload) c.loop-step.invariant.here.next (sym c.next_step.ensures ∙ c.in_default.is))
+
+pub returns-in-Some-new-clause-settled : goal.returns-in-Some-new-clause-settled
+returns-in-Some-new-clause-settled c =
+    let workload = c.args.workload.now in
+    let self = c.loop-step.simulation in
+    let here = c.loop-step.invariant.here in
+    let run = run_ends self.steps.items workload (first_situation workload) here.next (sym c.next_step.ensures ∙ c.in_default.is) in
+    let settled = run_is_settled workload self.steps.items here.checked run in
+    let header = c.in_ok-header.ensures ∙ c.header.ensures.header in
+    let same = c.in-Some-new.ensures.session in
+    rw (ap (λ (session : Session). session.header) same ∙ header, ap (λ (session : Session). session.steps) same) settled
+
+pub returns-in_err-make-clause-some : goal.returns-in_err-make-clause-some
+returns-in_err-make-clause-some c =
+    let self = c.loop-step.simulation in
+    on_err c.from_residual-in_err-make.result
+    (counted_on (length self.steps.items) c.args.meter.now c.loop-step.meter c.make.new.meter c.loop-step.invariant.here.room c.loop-step.invariant.counted
+    c.in_err-make.ensures.some)

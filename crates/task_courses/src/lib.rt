@@ -1,0 +1,7 @@
+//! How far a task has come in its program.
+#![tactic(auto)]
+
+mod course;
+mod position;
+
+pub use course::Course;

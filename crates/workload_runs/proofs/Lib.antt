@@ -1,0 +1,13 @@
+pub mod CallLaws
+pub mod Clocks
+pub mod Going
+pub mod Keeps
+pub mod Origins
+pub mod Places
+pub mod Programs
+pub mod Runs
+pub mod Searches
+pub mod Settles
+pub mod TimeLaws
+pub mod Times
+pub mod Workloads

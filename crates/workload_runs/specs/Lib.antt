@@ -1,0 +1,4 @@
+pub mod Courses
+pub mod Laws
+pub mod Rule
+pub mod Situations

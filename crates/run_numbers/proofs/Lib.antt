@@ -1,3 +1,4 @@
+pub mod Answered
 pub mod Seen
 pub mod Places
 pub mod Seeing

@@ -6,6 +6,7 @@ use Rattle.std.specs.Option.{option_and_then, option_map_or, option_or, ForSome}
 use Rattle.std.proofs.lemmas.List.Folds.{find-append}
 use Rattle.list_orders.proofs.Stamped.{numbers_more}
 use Rattle.std.proofs.lemmas.List.{ext_get_or, get_or-map}
+use Rattle.std.proofs.lemmas.List.Elements.{All-weaker}
 use Rattle.std.proofs.lemmas.List.Sums.{sum-map}
 use Rattle.std.proofs.lemmas.List.{length-map, map-append}
 use Rattle.std.proofs.lemmas.List.FromFn.{get_or-map-range_with_len, length-map-range_with_len, length-range_with_len}
@@ -403,6 +404,8 @@ have_work_room session place works ticks worked few task within =
       responses = omega (arith, few, work_is_counted.responses course place);
       latencies = omega (arith, few, work_is_counted.latencies course place);
       periods = omega (arith, few, work_is_counted.periods course place);
+      histogram = All-weaker (λ count. count ≤ place) (λ count. count < 2 ^ 32 - 1) (λ count low. omega (arith, few, low))
+          (work_at course place).histogram.counts (work_is_counted.histogram course place);
       moves = omega (arith, few, work_is_counted.moves course place);
       waits = omega (arith, few, work_is_counted.waits course place);
     })

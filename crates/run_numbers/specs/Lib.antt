@@ -12,6 +12,7 @@ pub mod NumberLaws
 pub mod Past
 pub mod Progress
 pub mod Readings
+pub mod Responses
 pub mod Rows
 pub mod SoFar
 pub mod Stretches

@@ -1,4 +1,5 @@
 //! The laws of the numbers of a run. Each function does nothing: its contract is the laws.
+ghost use Rattle.run_numbers.specs.Responses.{CountsAreJobs};
 ghost use Rattle.run_numbers.specs.NumberLaws.{FirstIsTold, NoneIsLonger, NumbersAreTallies, OneIsAsLong, TotalIsOfStretches};
 
 /// What a tally counts too is the same number here; the ticks, where a tick has one unit of time.
@@ -16,4 +17,9 @@ pub fn law_of_stretches()
     ensures first_is_told { FirstIsTold }
     // All of them together are the time that finds the condition.
     ensures total { TotalIsOfStretches }
+{}
+
+/// No job that ends is left out of the counts of answers, and none that has not ended is counted.
+pub fn law_of_responses()
+    ensures { CountsAreJobs }
 {}

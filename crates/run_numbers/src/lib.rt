@@ -14,6 +14,6 @@ mod subject;
 mod taking;
 mod work;
 
-pub use laws::{law_of_stretches, law_of_tallies};
-pub use run::measure;
+pub use laws::{law_of_responses, law_of_stretches, law_of_tallies};
+pub use run::{RunNumbers, measure, measure_all};
 pub use subject::{Cause, Condition, Event, JobNumber, Measured, Reading, Subject, Whole};

@@ -17,6 +17,7 @@ ghost use Rattle.run_numbers.specs.Looks.{IsRow};
 ghost use Rattle.run_numbers.specs.Past.{past, places_after, ticks_after};
 ghost use Rattle.run_numbers.specs.Progress.{counter_in, first, measured_at, measured_in, reading_in, work_in};
 ghost use Rattle.run_numbers.specs.Readings.{calls_of, measured, only, run_number, IsSubjectOf};
+ghost use Rattle.run_numbers.specs.Responses.{all_responses_of};
 ghost use Rattle.run_numbers.specs.Counted.{AreCounted, AreCrowded, AreTold, AreWorked, HaveRoom, IsUntouched, IsWorkOf};
 ghost use Rattle.run_numbers.specs.Taking.{AreLooked, AreTaken, AreTakers, AreTimesKept, AreTurned, IsPlanOf};
 ghost use Rattle.run_numbers.specs.Turns.{turn_by};
@@ -36,7 +37,7 @@ use settled_runs::WaitingCall;
 use smp_kernel::{Kernel, Meter};
 use std::alloc::{AllocError, Global};
 use step_times::time_of;
-use task_jobs::{Crowd, Work};
+use task_jobs::{Crowd, Histogram, Work};
 
 // Before any step.
 fn initial_counter(kernel: &Kernel, subject: Subject) -> Counter
@@ -418,6 +419,57 @@ fn all_measured(
     Ok(all)
 }
 
+// How many answers of each task take how long.
+fn all_histograms(alloc: Global, works: &[Work]) -> Result<Vec<Histogram>, AllocError>
+    ensures { IfOk result
+        (λ found. found.items ≡ map (λ work. work.histogram) works.now) }
+{
+    let mut all = Vec::with_capacity(alloc, works.len())?;
+    for work in works {
+        all.push(work.histogram)?;
+    }
+    Ok(all)
+}
+
+/// What is measured in a run.
+#[derive(Drop)]
+pub struct RunNumbers {
+    /// The numbers of each subject.
+    pub measured: Vec<Measured>,
+    /// Of each task, how many of its jobs that ended took how long, from their release on.
+    pub responses: Vec<Histogram>,
+}
+
+/// The numbers of each subject in the run of the session's steps, of which these calls were not
+/// made, and the answers of all tasks. The meter counts each step once.
+pub fn measure_all(
+    alloc: Global,
+    meter: &mut Meter,
+    session: &CheckedSession,
+    left: &[WaitingCall],
+    subjects: &[Subject],
+) -> Result<RunNumbers, AllocError>
+    requires left { length left.now < 2 ^ 32 }
+    requires known { All (IsSubjectOf (settings_of session.now.header)) subjects.now }
+    ensures numbers { IfOk result
+        (λ found. found.measured.items
+        ≡ map (measured session.now.header session.now.steps left.now) subjects.now) }
+    ensures responses { IfOk result
+        (λ found. found.responses.items
+        ≡ all_responses_of session.now.header session.now.steps) }
+    ensures meter { OnOk result (meter.new ≡ meter_after (length session.now.steps) meter.old) }
+    ensures some { OnErr result
+        (CountsUpTo (length session.now.steps) meter.old meter.new) }
+{
+    let counted = count_all(alloc, meter, session, subjects)?;
+    let responses = all_histograms(alloc, counted.works.as_slice())?;
+    let measured = all_measured(alloc, &counted, session.steps().len(), left, subjects)?;
+    Ok(RunNumbers {
+        measured,
+        responses,
+    })
+}
+
 /// The numbers of each subject in the run of the session's steps, of which these calls were not
 /// made. The meter counts each step once.
 pub fn measure(
@@ -436,6 +488,6 @@ pub fn measure(
     ensures some { OnErr result
         (CountsUpTo (length session.now.steps) meter.old meter.new) }
 {
-    let counted = count_all(alloc, meter, session, subjects)?;
-    all_measured(alloc, &counted, session.steps().len(), left, subjects)
+    let numbers = measure_all(alloc, meter, session, left, subjects)?;
+    Ok(numbers.measured)
 }

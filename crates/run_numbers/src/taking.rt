@@ -102,11 +102,10 @@ fn work_on(works: &mut [Work], crowds: &mut [Crowd], task: u32, made: &Made<'_>)
     ensures takers { AreTakers works.new crowds.new }
     ensures times { AreTimesKept made.now.elapsed crowds.old crowds.new }
 {
-    let work = works[task as usize];
     let turn = turn_of(made, task);
-    leave(crowds, work.takes, made.elapsed);
+    leave(crowds, works[task as usize].takes, made.elapsed);
     join(crowds, turn.takes, made.elapsed);
-    works[task as usize] = work.with_turn(&turn);
+    works[task as usize].take_turn(&turn);
 }
 
 // Counts what was made for the subjects of the task, and adds it to its work, if more is not known

@@ -1,4 +1,5 @@
 pub mod Crowded
+pub mod Histograms
 pub mod Lists
 pub mod Things
 pub mod Tiles

@@ -13,22 +13,25 @@ use Rattle.list_orders.specs.Search.{numbers}
 use Rattle.list_orders.proofs.Stamped.{numbers_more, range_parts}
 use Rattle.bench_model.specs.Tallied.{one_if}
 use Rattle.task_jobs.specs.declared.durations.Durations.{Durations}
+use Rattle.task_jobs.specs.declared.histogram.Histogram.{Histogram}
 use Rattle.task_jobs.specs.declared.moves.Moves.{Moves}
 use Rattle.task_jobs.specs.declared.waits.Waits.{Waits}
 use Rattle.task_jobs.specs.declared.work.Turn.{Turn}
 use Rattle.task_jobs.specs.declared.work.Work.{Work}
 use Rattle.task_jobs.specs.Course.{Course}
 use Rattle.task_jobs.specs.Durations.{durations_of, with_thing, Thing}
+use Rattle.task_jobs.specs.Histograms.{histogram_of, with_time}
 use Rattle.task_jobs.specs.Jobs.{begin_at, begins_at, core_from, ends_before, is_job_end, is_next_wake, latencies, latency_at, period_at, periods, response_at, responses}
 use Rattle.task_jobs.specs.Moves.{is_other, last_core, moves_at as is_move, moves}
 use Rattle.task_jobs.specs.Waits.{is_by_tick, runs_out_at, run_outs}
 use Rattle.task_jobs.specs.Works.{begins_job, ends_job, first_of, first_work, is_by_tick_now, latency_now, moves_at, now_on_core, period_now, response_now, turn_at, waits_at, wake_at}
 use Rattle.task_jobs.specs.Works.{with_core, with_turn, with_wake, work_at, IsQuiet, WorkBegins, WorkGoesOn, WorkIsCounted, WorkIsTold, WorkStays}
 use Rattle.task_jobs.proofs.Lists.{filter_more}
+use Rattle.task_jobs.proofs.Histograms.{counts_few, histogram_more}
 use Rattle.task_jobs.proofs.Things.{one_more}
 
-same_work : {a a' i i' : Bool} {b b' c c' d d' : ℕ} {e e' t t' : Option ℕ} {f f' g g' h h' : Durations} {m m' : Moves} {w w' : Waits} → a ≡ a' → b ≡ b' →
-    c ≡ c' → d ≡ d' → e ≡ e' → f ≡ f' → g ≡ g' → h ≡ h' → m ≡ m' → w ≡ w' → i ≡ i' → t ≡ t' →
+same_work : {a a' i i' : Bool} {b b' c c' d d' : ℕ} {e e' t t' : Option ℕ} {f f' g g' h h' : Durations} {l l' : Histogram} {m m' : Moves} {w w' : Waits} → a ≡ a' → b ≡ b' →
+    c ≡ c' → d ≡ d' → e ≡ e' → f ≡ f' → g ≡ g' → h ≡ h' → l ≡ l' → m ≡ m' → w ≡ w' → i ≡ i' → t ≡ t' →
     let one : Work = record {
       rests = a;
       begins = b;
@@ -38,6 +41,7 @@ same_work : {a a' i i' : Bool} {b b' c c' d d' : ℕ} {e e' t t' : Option ℕ} {
       responses = f;
       latencies = g;
       periods = h;
+      histogram = l;
       moves = m;
       waits = w;
       in_call = i;
@@ -52,13 +56,14 @@ same_work : {a a' i i' : Bool} {b b' c c' d d' : ℕ} {e e' t t' : Option ℕ} {
       responses = f';
       latencies = g';
       periods = h';
+      histogram = l';
       moves = m';
       waits = w';
       in_call = i';
       takes = t';
     } in
     one ≡ other
-same_work a b c d e f g h m w i t = cc
+same_work a b c d e f g h l m w i t = cc
 
 same_moves : {a a' : Option ℕ} {b b' : ℕ} → a ≡ a' → b ≡ b' →
     let one : Moves = record { core = a; count = b } in
@@ -89,18 +94,19 @@ append_none : (things : List Thing) → things ++ [] ≡ things
 append_none [] = refl
 append_none (thing ∷ things) = ap (λ rest. thing ∷ rest) (append_none things)
 
--- the durations with the one more, where it counts
-with_more : (of : ℕ → Thing) (counts : ℕ → Bool) (place : ℕ) → durations_of (map of (filter counts (numbers (suc place))))
-    ≡ (if counts place then with_thing (of place) (durations_of (map of (filter counts (numbers place)))) else durations_of (map of (filter counts (numbers place))))
-with_more of counts place =
-    ap (λ ns. durations_of (map of ns)) (filter_more counts place)
-    ∙ ap durations_of (map-append of (filter counts (numbers place)) (if counts place then place ∷ [] else []))
+-- what is known of things with the one more, where it counts
+with_more : {X : Type 0} (known : List Thing → X) (next : Thing → X → X) → ((things : List Thing) (thing : Thing) → known (things ++ thing ∷ []) ≡ next thing (known things))
+    → (of : ℕ → Thing) (counts : ℕ → Bool) (place : ℕ) → known (map of (filter counts (numbers (suc place))))
+    ≡ (if counts place then next (of place) (known (map of (filter counts (numbers place)))) else known (map of (filter counts (numbers place))))
+with_more known next more of counts place =
+    ap (λ ns. known (map of ns)) (filter_more counts place)
+    ∙ ap known (map-append of (filter counts (numbers place)) (if counts place then place ∷ [] else []))
     ∙ at (counts place)
   where
-    at : (b : Bool) → durations_of (map of (filter counts (numbers place)) ++ map of (if b then place ∷ [] else []))
-        ≡ (if b then with_thing (of place) (durations_of (map of (filter counts (numbers place)))) else durations_of (map of (filter counts (numbers place))))
-    at true = one_more (map of (filter counts (numbers place))) (of place)
-    at false = ap durations_of (append_none (map of (filter counts (numbers place))))
+    at : (b : Bool) → known (map of (filter counts (numbers place)) ++ map of (if b then place ∷ [] else []))
+        ≡ (if b then next (of place) (known (map of (filter counts (numbers place)))) else known (map of (filter counts (numbers place))))
+    at true = more (map of (filter counts (numbers place))) (of place)
+    at false = ap known (append_none (map of (filter counts (numbers place))))
 
 abbrev has_core : Course → ℕ → Bool
 has_core course k = is_some (course.core k)
@@ -182,11 +188,12 @@ module _ (course : Course) where
       same_work refl refl (chosen course.release begins (suc place) (begin_at course place))
       (chosen course.time begins (suc place) (begin_at course place))
       (started_next place)
-      (with_more (response_at course) (is_job_end course) place)
-      (with_more (latency_at course) (is_job_end course) place
+      (with_more durations_of with_thing one_more (response_at course) (is_job_end course) place)
+      (with_more durations_of with_thing one_more (latency_at course) (is_job_end course) place
       ∙ ap (λ (thing : Thing). if is_job_end course place then with_thing thing (durations_of (latencies course place)) else durations_of (latencies course place))
       (latency_next place))
-      (with_more (period_at course) (is_next_wake course) place)
+      (with_more durations_of with_thing one_more (period_at course) (is_next_wake course) place)
+      (with_more histogram_of (λ thing. with_time thing.0) histogram_more (response_at course) (is_job_end course) place)
       (same_moves refl (count_more (is_move course) place))
       (same_waits refl refl (count_more (runs_out_at course) place))
       refl refl
@@ -287,6 +294,7 @@ module _ (course : Course) where
         (ap (λ b. if b then with_thing (turn.before - work.release, work.begins) work.responses else work.responses) ends_none)
         (ap (λ b. if b then with_thing (unwrap_or work.started turn.before - work.begun, work.begins) work.latencies else work.latencies) ends_none)
         (ap (λ b. if b && nat_lt 0 work.begins then with_thing (turn.after - work.begun, work.begins) work.periods else work.periods) begins_none)
+        (ap (λ b. if b then with_time (turn.before - work.release) work.histogram else work.histogram) ends_none)
         moves_same waits_same quiet.in_call quiet.takes
 
 pub work_stays : WorkStays
@@ -297,7 +305,7 @@ work_goes_on course place = goes_on course place
 
 pub work_begins : WorkBegins
 work_begins course time release =
-    same_work refl refl release time (begun (is_some (course.core 0)) refl) refl refl refl refl refl refl refl
+    same_work refl refl release time (begun (is_some (course.core 0)) refl) refl refl refl refl refl refl refl refl
   where
     begun : (b : Bool) → is_some (course.core 0) ≡ b → option_map course.time (find (has_core course) (0 ∷ [])) ≡ (if b then Some 0 else None)
     begun true is = rw is (ap Some time)
@@ -330,6 +338,7 @@ work_is_counted = record {
   responses = λ course place. few_of (response_at course) (is_job_end course) place;
   latencies = λ course place. few_of (latency_at course) (is_job_end course) place;
   periods = λ course place. few_of (period_at course) (is_next_wake course) place;
+  histogram = λ course place. counts_few (responses course place) place (few_of (response_at course) (is_job_end course) place);
   moves = λ course place. count_few (is_move course) place;
   waits = λ course place. count_few (runs_out_at course) place;
 }

@@ -1,6 +1,7 @@
 pub mod Course
 pub mod Crowds
 pub mod Durations
+pub mod Histograms
 pub mod JobLaws
 pub mod Jobs
 pub mod Moves

@@ -1,8 +1,9 @@
 -- The work of a task so far, and one step further.
-use Rattle.std.specs.Prelude.{◌≡◌, ℕ, suc, ◌-◌, ◌<◌, ◌≤◌, ◌^◌, ◌+◌, Bool, false, not, ◌&&◌, ◌||◌, nat_lt, List, [], Option, Some, None, is_some, option_map, unwrap_or, if◌then◌else◌}
+use Rattle.std.specs.Prelude.{◌≡◌, ℕ, suc, ◌-◌, ◌<◌, ◌≤◌, ◌^◌, ◌+◌, Bool, false, not, ◌&&◌, ◌||◌, nat_lt, List, [], All, Option, Some, None, is_some, option_map, unwrap_or, if◌then◌else◌}
 use Rattle.std.specs.Option.{option_or}
 use Rattle.bench_model.specs.Tallied.{one_if}
 use Rattle.task_jobs.specs.declared.durations.Durations.{Durations}
+use Rattle.task_jobs.specs.declared.histogram.Histogram.{Histogram}
 use Rattle.task_jobs.specs.declared.moves.Moves.{Moves}
 use Rattle.task_jobs.specs.declared.waits.Waits.{Waits}
 use Rattle.task_jobs.specs.declared.waits.Wake.{Wake}
@@ -11,6 +12,7 @@ use Rattle.task_jobs.specs.declared.work.Turn.{Turn}
 use Rattle.task_jobs.specs.declared.work.Work.{Work}
 use Rattle.task_jobs.specs.Course.{Course}
 use Rattle.task_jobs.specs.Durations.{durations_of, with_thing}
+use Rattle.task_jobs.specs.Histograms.{histogram_of, with_time}
 use Rattle.task_jobs.specs.Jobs.{all_latencies, all_responses, begin_at, core_from, latencies, periods, responses}
 use Rattle.task_jobs.specs.Moves.{is_other, last_core, moves}
 use Rattle.task_jobs.specs.Waits.{is_by_tick, run_outs}
@@ -67,6 +69,7 @@ work_at course place = record {
   responses = durations_of (responses course place);
   latencies = durations_of (latencies course place);
   periods = durations_of (periods course place);
+  histogram = histogram_of (responses course place);
   moves = moves_at course place;
   waits = waits_at course place;
   in_call = course.in_call place;
@@ -125,6 +128,12 @@ period_now turn work = if begins_job turn work && nat_lt 0 work.begins
     then with_thing (turn.after - work.begun, work.begins) work.periods
     else work.periods
 
+-- the answer of the job that the step ends, among those of its length
+abbrev pub histogram_now : Turn → Work → Histogram
+histogram_now turn work = if ends_job turn work
+    then with_time (turn.before - work.release) work.histogram
+    else work.histogram
+
 -- with what the step is
 abbrev pub with_turn : Turn → Work → Work
 with_turn turn work = record {
@@ -137,6 +146,7 @@ with_turn turn work = record {
   responses = response_now turn work;
   latencies = latency_now turn work;
   periods = period_now turn work;
+  histogram = histogram_now turn work;
   moves = with_core turn.core work.moves;
   waits = with_wake turn.wake work.waits;
   in_call = turn.in_call;
@@ -154,6 +164,7 @@ first_work first = record {
   responses = durations_of [];
   latencies = durations_of [];
   periods = durations_of [];
+  histogram = histogram_of [];
   moves = first_moves first.core;
   waits = first_waits first.ready;
   in_call = first.in_call;
@@ -175,6 +186,7 @@ pub record HasRoom (work : Work) : Type 0 where
   pub responses : work.responses.count < 2 ^ 32 - 1
   pub latencies : work.latencies.count < 2 ^ 32 - 1
   pub periods : work.periods.count < 2 ^ 32 - 1
+  pub histogram : All (λ count. count < 2 ^ 32 - 1) work.histogram.counts
   pub moves : work.moves.count < 2 ^ 32 - 1
   pub waits : work.waits.run_out < 2 ^ 32 - 1
 
@@ -229,5 +241,7 @@ pub record WorkIsCounted : Type 0 where
   pub responses : (course : Course) (place : ℕ) → (work_at course place).responses.count ≤ place
   pub latencies : (course : Course) (place : ℕ) → (work_at course place).latencies.count ≤ place
   pub periods : (course : Course) (place : ℕ) → (work_at course place).periods.count ≤ place
+  pub histogram : (course : Course) (place : ℕ)
+      → All (λ count. count ≤ place) (work_at course place).histogram.counts
   pub moves : (course : Course) (place : ℕ) → (work_at course place).moves.count ≤ place
   pub waits : (course : Course) (place : ℕ) → (work_at course place).waits.run_out ≤ place

@@ -1,10 +1,11 @@
 //! The work of a task so far.
-ghost use Rattle.std.specs.Prelude.{◌≡◌, ◌<◌, ◌-◌, ◌≤◌, ◌^◌};
+ghost use Rattle.std.specs.Prelude.{◌≡◌, ◌<◌, ◌-◌, ◌≤◌, ◌^◌, All, if◌then◌else◌};
 ghost use Rattle.task_jobs.specs.Durations.{durations_of};
+ghost use Rattle.task_jobs.specs.Histograms.{histogram_of, with_time};
 ghost use Rattle.task_jobs.specs.JobLaws.{JobsTile};
 ghost use Rattle.task_jobs.specs.Works.{begins_job, ends_job, first_work, latencies_now, latency_now, now_on_core, period_now, response_now, responses_now, with_turn, HasRoom, WorkBegins, WorkGoesOn, WorkIsCounted, WorkIsTold, WorkStays};
 
-use crate::{Durations, Moves, Waits, Wake};
+use crate::{Durations, Histogram, Moves, Waits, Wake};
 
 /// What a step is to a task. Times are in units, from the start of the run on.
 #[derive(Clone, Copy, Debug, PartialEq, Eq)]
@@ -67,6 +68,8 @@ pub struct Work {
     pub latencies: Durations,
     /// The times from one wake to the next.
     pub periods: Durations,
+    /// How many of the answers take how long.
+    pub histogram: Histogram,
     /// Its moves from core to core.
     pub moves: Moves,
     /// Its waits that ran out.
@@ -84,6 +87,17 @@ fn now_on_core(turn: &Turn) -> Option<u64>
         Some(turn.after)
     } else {
         None
+    }
+}
+
+// Counts the answer of a job that ends.
+fn count_if(histogram: &mut Histogram, ends: bool, time: u64)
+    requires { All (λ count. count < 2 ^ 32 - 1) histogram.old.counts }
+    ensures { histogram.new
+        ≡ (if ends then with_time time histogram.old else histogram.old) }
+{
+    if ends {
+        histogram.add(time);
     }
 }
 
@@ -115,6 +129,7 @@ impl Work {
             responses: Durations::none(),
             latencies: Durations::none(),
             periods: Durations::none(),
+            histogram: Histogram::none(),
             moves: Moves::start(first.core),
             waits: Waits::start(first.ready),
             in_call: first.in_call,
@@ -185,30 +200,31 @@ impl Work {
         self.latencies.with(time, self.begins)
     }
 
-    /// With what a step is to the task.
-    pub fn with_turn(&self, turn: &Turn) -> Self
-        requires { HasRoom self.now }
-        ensures { result ≡ with_turn turn.now self.now }
+    /// What a step is to the task is added.
+    pub fn take_turn(&mut self, turn: &Turn)
+        requires { HasRoom self.old }
+        ensures { self.new ≡ with_turn turn.now self.old }
     {
         let responses = self.responses_with(turn);
         let latencies = self.latencies_with(turn);
         let periods = self.periods_with(turn);
+        let ends = self.ends_job(turn);
         let begins = self.begins_job(turn);
         let now = now_on_core(turn);
-        Work {
-            rests: turn.rests,
-            begins: if begins { turn.place } else { self.begins },
-            release: if begins { turn.release } else { self.release },
-            begun: if begins { turn.after } else { self.begun },
-            started: if begins { now } else { self.started.or(now) },
-            responses,
-            latencies,
-            periods,
-            moves: self.moves.with_core(turn.core),
-            waits: self.waits.with_wake(turn.wake),
-            in_call: turn.in_call,
-            takes: turn.takes,
-        }
+        let response = turn.before.saturating_sub(self.release);
+        count_if(&mut self.histogram, ends, response);
+        self.rests = turn.rests;
+        self.begins = if begins { turn.place } else { self.begins };
+        self.release = if begins { turn.release } else { self.release };
+        self.begun = if begins { turn.after } else { self.begun };
+        self.started = if begins { now } else { self.started.or(now) };
+        self.responses = responses;
+        self.latencies = latencies;
+        self.periods = periods;
+        self.moves = self.moves.with_core(turn.core);
+        self.waits = self.waits.with_wake(turn.wake);
+        self.in_call = turn.in_call;
+        self.takes = turn.takes;
     }
 }
 

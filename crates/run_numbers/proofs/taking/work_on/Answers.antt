@@ -45,10 +45,10 @@ returns-clause-takers c k low =
     ∙ ap (λ (work : Work). left_crowd (is_it work.takes k) now (crowd_in crowds k)) (get_or_default works task _ (first_work nothing_known) c.requires.task) in
     let joined : crowd_in c.join.new.crowds k ≡ joined_crowd (is_it turn.takes k) now (left_crowd (is_it (work_in works task).takes k) now (crowd_in crowds k)) =
     c.join.ensures k there ∙ ap (λ (crowd : Crowd). joined_crowd (is_it turn.takes k) now crowd) left in
-    let takes : c.with_turn.result.takes ≡ turn.takes = ap (λ (work : Work). work.takes) c.with_turn.ensures in
+    let takes : c.take_turn.new.self.takes ≡ turn.takes = ap (λ (work : Work). work.takes) c.take_turn.ensures in
     ap (λ (crowd : Crowd). crowd.tasks) joined
     ∙ ap (λ it. (joined_crowd (is_it it k) now (left_crowd (is_it (work_in works task).takes k) now (crowd_in crowds k))).tasks) (sym takes)
-    ∙ takers_moved works task c.with_turn.result k now (crowd_in crowds k) c.requires.task (c.requires.takers k within)
+    ∙ takers_moved works task c.take_turn.new.self k now (crowd_in crowds k) c.requires.task (c.requires.takers k within)
 
 pub returns-clause-times : goal.returns-clause-times
 returns-clause-times c k within =

@@ -270,6 +270,19 @@ function groundsOf(place) {
   }).join()`;
 }
 
+// The tables of loads, row by row, with their titles behind the heads.
+const LOADS = `[...document.querySelectorAll('#report > .bars')]
+  .filter((table) => /^load( before| after)?$/.test(table.caption.textContent))
+  .map((table) => [...table.rows]
+    .map((row) => [...row.cells].map((cell) => cell.textContent.trim()).join(' ').trim())
+    .map((words, index) => (index ? words : words + ' ' + table.caption.textContent))
+    .join('\\n'))`;
+
+// The lines of a table in a text, with one space between two columns.
+function withOneSpace(table) {
+  return table.split('\n').map((line) => line.trim().replace(/ +/g, ' ')).join('\n');
+}
+
 async function checkTexts(browser, name, words, file) {
   const texts = await browser.value(TEXTS);
   check(`${name}: the trace`, texts.join(''), printed(['trace', ...words], file));
@@ -277,8 +290,11 @@ async function checkTexts(browser, name, words, file) {
   const place = Math.min(7, last);
   const text = await browser.value(`document.getElementById('place-${place}').textContent`);
   check(`${name}: the lines of place ${place}`, text, linesOf(place, last, words, file));
-  check(`${name}: the report`, await browser.value(textOf('report')),
-    printed(['report', ...words], file));
+  const [numbers, ...loads] = printed(['report', ...words], file).trimEnd().split('\n\n');
+  check(`${name}: the numbers of the report`, await browser.value(textOf('report')),
+    `${numbers}\n`);
+  check(`${name}: the loads of the report`, (await browser.value(LOADS)).join('\n\n'),
+    loads.map(withOneSpace).join('\n\n'));
   const edits = JSON.parse(readFileSync(file, 'utf8')).edits?.length > 0;
   const compared = edits ? printed(['compare', ...words], file) : undefined;
   check(`${name}: the comparison`, await browser.value(textOf('comparison')), compared);

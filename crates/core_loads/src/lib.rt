@@ -3,4 +3,4 @@
 
 mod loads;
 
-pub use loads::{Load, push_load_table};
+pub use loads::{Load, push_load_table, share, time_of, times_of_idle, times_of_task, total};

@@ -72,8 +72,8 @@ pub fn time_of(figures: &[Figure], load: Load) -> u64
     }
 }
 
-// The times of the task on each core.
-fn times_of_task(
+/// The times of the task on each core, in units.
+pub fn times_of_task(
     alloc: Global,
     figures: &[Figure],
     cores: u32,
@@ -88,8 +88,8 @@ fn times_of_task(
     Ok(times)
 }
 
-// The times of each core with an idle task.
-fn times_of_idle(alloc: Global, figures: &[Figure], cores: u32) -> Result<Vec<u64>, AllocError>
+/// The times of each core with an idle task, in units.
+pub fn times_of_idle(alloc: Global, figures: &[Figure], cores: u32) -> Result<Vec<u64>, AllocError>
     ensures { IfOk result (λ times. times.items ≡ times_of_idle figures.now cores) }
 {
     let mut times = Vec::with_capacity(alloc, cores as usize)?;
@@ -99,8 +99,8 @@ fn times_of_idle(alloc: Global, figures: &[Figure], cores: u32) -> Result<Vec<u6
     Ok(times)
 }
 
-// The tenths of a percent that a time is of the run's, to the nearest; at most 2^64 - 1.
-fn share(time: u128, run: u64) -> u64
+/// The tenths of a percent that a time is of the run's, to the nearest; at most 2^64 - 1.
+pub fn share(time: u128, run: u64) -> u64
     requires run { 0 < run }
     requires room { time < 2 ^ 97 }
     ensures { result ≡ share time run }
@@ -145,8 +145,8 @@ fn push_shares(alloc: Global, text: &mut String, run: u64, times: &[u64]) -> Res
     Ok(())
 }
 
-// All of them together.
-fn total(times: &[u64]) -> u128
+/// All times together.
+pub fn total(times: &[u64]) -> u128
     requires { length times.now < 2 ^ 32 }
     ensures value { result ≡ total times.now }
     ensures room { result < 2 ^ 97 }

@@ -1,13 +1,12 @@
 -- Which marks of HTML the pieces of a page have.
-use Rattle.std.proofs.Common.{◌≡◌, ℕ, suc, zero, ◌<◌, List, [], ◌∷◌, ◌++◌, ◌==◌, ◌/◌, ◌%◌, flat_map, Bool, true, false, nat_lt, codes, decimal, refl, All, Contains, Option, Some, None, arith, lit<}
+use Rattle.std.proofs.Common.{◌≡◌, ℕ, suc, zero, ◌<◌, List, [], ◌∷◌, ◌++◌, ◌==◌, ◌/◌, ◌%◌, flat_map, Bool, true, false, nat_lt, codes, decimal, refl, All, Contains, Option, Some, None, arith, inl, inr, lit<}
 use Rattle.std.specs.Prelude.{if◌then◌else◌}
 use Rattle.std.specs.Fmt.{digit_glyph, digits, digits_onto}
 use Rattle.std.proofs.lemmas.List.Elements.{All-cons}
 use Rattle.run_pictures.specs.Escape.{escaped}
-use Rattle.run_pages.specs.declared.script.TheConstants.{SCRIPT}
-use Rattle.run_pages.specs.declared.style.TheConstants.{COMPARISON, END, PICTURE, REPORT, SCRIPT_OPENING, TRACE, TRACE_END}
+use Rattle.run_pages.specs.declared.style.TheConstants.{COMPARISON, PICTURE, REPORT, TRACE, TRACE_END}
 use Rattle.run_pages.specs.Marks.{has_no_mark, fixed_texts, IsSafe}
-use Rattle.run_pages.specs.Page.{Piece, fixed, drawn, blocks_pieces, block_pieces, comparison_link, comparison_pieces, ending_pieces, heading_pieces, link_pieces, links_pieces, list_pieces, opening_pieces, page_pieces, section_pieces, told_pieces, trace_pieces}
+use Rattle.run_pages.specs.Page.{Piece, fixed, drawn, blocks_pieces, block_pieces, closing_pieces, comparison_link, comparison_pieces, heading_pieces, link_pieces, links_pieces, list_pieces, opening_pieces, page_pieces, section_pieces, texts_pieces, told_pieces, trace_pieces}
 use Rattle.run_pages.specs.Shown.{Shown}
 
 -- ---- words
@@ -28,7 +27,7 @@ byte_has_none byte rest h = go (byte == 38) (byte == 60) (byte == 62) (byte == 3
     go false false false false false true a l m d s = rw (a, l, m, d, s) h
     go false false false false false false a l m d s = h
 
-words_have_none : (words : List ℕ) → has_no_mark (flat_map escaped words) ≡ true
+pub words_have_none : (words : List ℕ) → has_no_mark (flat_map escaped words) ≡ true
 words_have_none [] = refl
 words_have_none (byte ∷ words) = byte_has_none byte (flat_map escaped words) (words_have_none words)
 
@@ -58,7 +57,7 @@ digits_have_none (suc most) value rest h = go (value / 10 == 0) (digit_has_none 
     go true one more = one
     go false one more = more
 
-number_has_none : (value : ℕ) → has_no_mark (decimal value) ≡ true
+pub number_has_none : (value : ℕ) → has_no_mark (decimal value) ≡ true
 unfolding digits
 number_has_none value = digits_have_none 64 value [] refl
 
@@ -124,19 +123,25 @@ trace_safe shown first places =
     (both_safe shown (fixed TRACE.now ∷ blocks_pieces first places) (fixed TRACE_END.now ∷ []) ((11, lit< tt, refl), blocks_safe shown first places)
     ((15, lit< tt, refl), tt))
 
-ending_safe : (shown : Shown) → AreSafe shown (ending_pieces shown)
-unfolding ending_pieces
-ending_safe shown = both_safe shown (comparison_pieces shown.comparison ++ section_pieces REPORT.now shown.report)
-    (fixed SCRIPT_OPENING.now ∷ fixed SCRIPT.now ∷ fixed END.now ∷ [])
-    (both_safe shown (comparison_pieces shown.comparison) (section_pieces REPORT.now shown.report) (comparison_safe shown shown.comparison)
-    (section_safe shown REPORT.now shown.report (17, lit< tt, refl))) ((19, lit< tt, refl), ((20, lit< tt, refl), ((21, lit< tt, refl), tt)))
+texts_safe : (shown : Shown) → AreSafe shown (texts_pieces shown)
+unfolding texts_pieces
+texts_safe shown =
+    both_safe shown (comparison_pieces shown.comparison) (fixed REPORT.now ∷ []) (comparison_safe shown shown.comparison) ((17, lit< tt, refl), tt)
+
+closing_safe : (shown : Shown) → AreSafe shown closing_pieces
+unfolding closing_pieces
+closing_safe shown = ((22, lit< tt, refl), ((19, lit< tt, refl), ((20, lit< tt, refl), ((21, lit< tt, refl), tt))))
 
 page_safe : (shown : Shown) → AreSafe shown (page_pieces shown)
 unfolding page_pieces
-page_safe shown = both_safe shown (opening_pieces shown ++ drawn shown.picture ∷ trace_pieces shown.first shown.places) (ending_pieces shown)
-    (both_safe shown (opening_pieces shown) (drawn shown.picture ∷ trace_pieces shown.first shown.places) (opening_safe shown)
-    (refl, trace_safe shown shown.first shown.places))
-    (ending_safe shown)
+page_safe shown =
+    let opening = opening_pieces shown in
+    let trace = drawn shown.picture ∷ trace_pieces shown.first shown.places in
+    let texts = texts_pieces shown in
+    both_safe shown (opening ++ trace ++ texts) (drawn shown.report ∷ closing_pieces)
+    (both_safe shown (opening ++ trace) texts
+    (both_safe shown opening trace (opening_safe shown) (inl refl, trace_safe shown shown.first shown.places)) (texts_safe shown))
+    (inr refl, closing_safe shown)
 
 pub pieces_safe : (shown : Shown) → All (IsSafe shown) (page_pieces shown)
 pieces_safe shown = all_safe shown (page_pieces shown) (page_safe shown)

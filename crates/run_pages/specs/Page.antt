@@ -3,7 +3,7 @@ use Rattle.std.specs.Prelude.{ℕ, suc, List, [], ◌∷◌, ◌++◌, flat_map,
 use Rattle.run_pictures.specs.Escape.{escaped}
 use Rattle.run_pages.specs.declared.script.TheConstants.{SCRIPT, SCRIPT_HASH}
 use Rattle.run_pages.specs.declared.style.TheConstants.{BLOCK, BLOCK_END, BLOCK_WORDS, COMPARISON, COMPARISON_LINK, END, LINK, LINK_END, LINK_NAME}
-use Rattle.run_pages.specs.declared.style.TheConstants.{OPENING, PARTS, PICTURE, PLACES, REPORT, SCRIPT_OPENING, SECTION_END, STYLE, TITLE, TRACE, TRACE_END}
+use Rattle.run_pages.specs.declared.style.TheConstants.{OPENING, PARTS, PICTURE, PLACES, REPORT, REPORT_END, SCRIPT_OPENING, SECTION_END, STYLE, TITLE, TRACE, TRACE_END}
 use Rattle.run_pages.specs.Shown.{Shown}
 
 -- a piece of a page
@@ -13,7 +13,7 @@ pub data Piece : Type 0 where
   -- words of the run
   told : List ℕ → Piece
   number : ℕ → Piece
-  -- the SVG
+  -- the SVG, or the report as HTML
   drawn : List ℕ → Piece
 
 -- how it stands in the page
@@ -88,17 +88,20 @@ told_pieces first places =
 unfoldable pub trace_pieces : ℕ → List (List ℕ) → List Piece
 trace_pieces first places = list_pieces first places ++ told_pieces first places
 
--- the other texts, the script and the end
-unfoldable pub ending_pieces : Shown → List Piece
-ending_pieces shown =
-    comparison_pieces shown.comparison ++ section_pieces REPORT.now shown.report
-    ++ fixed SCRIPT_OPENING.now ∷ fixed SCRIPT.now ∷ fixed END.now ∷ []
+-- the comparison, and the report opens
+unfoldable pub texts_pieces : Shown → List Piece
+texts_pieces shown = comparison_pieces shown.comparison ++ fixed REPORT.now ∷ []
+
+-- the script and the end
+unfoldable pub closing_pieces : List Piece
+closing_pieces =
+    fixed REPORT_END.now ∷ fixed SCRIPT_OPENING.now ∷ fixed SCRIPT.now ∷ fixed END.now ∷ []
 
 -- the whole page
 unfoldable pub page_pieces : Shown → List Piece
 page_pieces shown =
     opening_pieces shown ++ drawn shown.picture ∷ trace_pieces shown.first shown.places
-    ++ ending_pieces shown
+    ++ texts_pieces shown ++ drawn shown.report ∷ closing_pieces
 
 unfoldable pub page_text : Shown → List ℕ
 page_text shown = pieces_text (page_pieces shown)

@@ -11,4 +11,5 @@ pub record Shown : Type 0 where
   pub places : List (List ℕ)
   -- the run before edits beside the run after them, where there are edits
   pub comparison : Option (List ℕ)
+  -- as HTML
   pub report : List ℕ

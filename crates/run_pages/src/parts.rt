@@ -1,12 +1,12 @@
 //! The page of a run.
 ghost use Rattle.std.specs.Prelude.{◌≡◌, ◌++◌, ◌+◌, ◌≤◌, ◌^◌, IfOk, OnOk, decimal, length, map, string_bytes};
-ghost use Rattle.run_pages.specs.Page.{block_pieces, blocks_pieces, comparison_link, comparison_pieces, ending_pieces, heading_pieces, link_pieces, links_pieces, list_pieces, opening_pieces, page_text, pieces_text, section_pieces, told_pieces, trace_pieces};
+ghost use Rattle.run_pages.specs.Page.{block_pieces, blocks_pieces, comparison_link, closing_pieces, comparison_pieces, heading_pieces, link_pieces, links_pieces, list_pieces, opening_pieces, page_text, pieces_text, section_pieces, texts_pieces, told_pieces, trace_pieces};
 
 use crate::script::{SCRIPT, SCRIPT_HASH};
 use crate::style::{
     BLOCK, BLOCK_END, BLOCK_WORDS, COMPARISON, COMPARISON_LINK, END, LINK, LINK_END, LINK_NAME,
-    OPENING, PARTS, PICTURE, PLACES, REPORT, SCRIPT_OPENING, SECTION_END, STYLE, TITLE, TRACE,
-    TRACE_END,
+    OPENING, PARTS, PICTURE, PLACES, REPORT, REPORT_END, SCRIPT_OPENING, SECTION_END, STYLE, TITLE,
+    TRACE, TRACE_END,
 };
 use run_pictures::{push_escaped, push_escaped_bytes};
 use std::alloc::{AllocError, Global};
@@ -24,6 +24,7 @@ pub struct Parts {
     pub places: Vec<String>,
     /// The run before edits beside the run after them, where there are edits.
     pub comparison: Option<Vec<u8>>,
+    /// The report as HTML.
     pub report: Vec<u8>,
 }
 
@@ -196,29 +197,37 @@ fn push_trace(text: &mut String, first: u32, places: &[String]) -> Result<(), Al
     push_told(text, first, places)
 }
 
-// The other texts, the script and the end.
-fn push_ending(text: &mut String, parts: &Parts) -> Result<(), AllocError>
+// The comparison, and the report opens.
+fn push_texts(text: &mut String, parts: &Parts) -> Result<(), AllocError>
     ensures { OnOk result
         (string_bytes text.new
-        ≡ string_bytes text.old ++ pieces_text (ending_pieces parts.now)) }
+        ≡ string_bytes text.old ++ pieces_text (texts_pieces parts.now)) }
 {
     push_comparison(text, parts)?;
-    push_section(text, REPORT, parts.report.as_slice())?;
-    text.push_str(SCRIPT_OPENING)?;
-    text.push_str(SCRIPT)?;
-    text.push_str(END)
+    text.push_str(REPORT)
 }
 
-// What stands behind the picture.
-fn push_rest(text: &mut String, parts: &Parts) -> Result<(), AllocError>
+// What stands between the picture and the report.
+fn push_middle(text: &mut String, parts: &Parts) -> Result<(), AllocError>
     requires { parts.now.first + length parts.now.places ≤ 2 ^ 32 }
     ensures { OnOk result
         (string_bytes text.new ≡ string_bytes text.old
         ++ pieces_text (trace_pieces parts.now.first parts.now.places)
-        ++ pieces_text (ending_pieces parts.now)) }
+        ++ pieces_text (texts_pieces parts.now)) }
 {
     push_trace(text, parts.first, parts.places.as_slice())?;
-    push_ending(text, parts)
+    push_texts(text, parts)
+}
+
+// What stands behind the report: the script and the end.
+fn push_closing(text: &mut String) -> Result<(), AllocError>
+    ensures { OnOk result
+        (string_bytes text.new ≡ string_bytes text.old ++ pieces_text closing_pieces) }
+{
+    text.push_str(REPORT_END)?;
+    text.push_str(SCRIPT_OPENING)?;
+    text.push_str(SCRIPT)?;
+    text.push_str(END)
 }
 
 /// A page of these parts, which needs nothing from elsewhere. Its places have the numbers from the
@@ -229,10 +238,14 @@ pub fn page(alloc: Global, parts: &Parts) -> Result<Vec<u8>, AllocError>
 {
     let mut opening = String::new(alloc);
     push_opening(&mut opening, parts)?;
-    let mut rest = String::new(alloc);
-    push_rest(&mut rest, parts)?;
+    let mut middle = String::new(alloc);
+    push_middle(&mut middle, parts)?;
+    let mut closing = String::new(alloc);
+    push_closing(&mut closing)?;
     let mut page = opening.into_bytes();
     page.extend_from_slice(parts.picture.as_slice())?;
-    page.extend_from_slice(rest.as_bytes())?;
+    page.extend_from_slice(middle.as_bytes())?;
+    page.extend_from_slice(parts.report.as_slice())?;
+    page.extend_from_slice(closing.as_bytes())?;
     Ok(page)
 }

@@ -38,6 +38,10 @@ pre{margin:0;font:13px/1.45 ui-monospace,monospace}
 #trace li pre{white-space:pre-wrap;overflow-wrap:anywhere}
 #trace li:target{background:var(--open)}
 section>pre{overflow-x:auto}
+.bars{margin:1rem 0;border-collapse:collapse}.bars caption{text-align:left;font-weight:bold}
+.bars th,.bars td{padding:.1rem .9rem .1rem 0;text-align:left;font-weight:normal;\
+white-space:nowrap;font-variant-numeric:tabular-nums}
+.bars meter{width:6rem}
 @media print{#sheet{position:static;max-height:none;overflow:visible}}
 </style>
 </head>
@@ -108,9 +112,13 @@ pub(crate) const COMPARISON: &str = "<section id='comparison'>
 /// The report opens.
 pub(crate) const REPORT: &str = "<section id='report'>
 <h2>Report</h2>
-<pre>";
+";
 
-/// The comparison or the report ends.
+/// It ends.
+pub(crate) const REPORT_END: &str = "</section>
+";
+
+/// The comparison ends.
 pub(crate) const SECTION_END: &str = "</pre>
 </section>
 ";

@@ -7,8 +7,11 @@ use Rattle.core_loads.specs.Loads.{load_table}
 use Rattle.report_figures.specs.Objects.{run_json, runs_json}
 use Rattle.report_figures.specs.Table.{run_table, runs_table}
 use Rattle.session_reports.specs.declared.report.Form.{Form}
-use Rattle.session_reports.specs.declared.report.Form.TheVariants.{Table, Json}
-use Rattle.session_reports.specs.Figures.{AreFigures}
+use Rattle.session_reports.specs.declared.report.Form.TheVariants.{Table, Json, Html}
+use Rattle.run_pages.specs.Page.{pieces_text}
+use Rattle.report_pages.specs.Report.{run_pieces, runs_pieces}
+use Rattle.report_pages.specs.Told.{Told}
+use Rattle.session_reports.specs.Figures.{IsTold}
 
 -- a table of the figures, and one of loads
 unfoldable pub run_tables : Header → List Figure → List ℕ
@@ -21,26 +24,29 @@ runs_tables header before after =
     runs_table header before after ++ load_table header before (codes "load before")
     ++ load_table header after (codes "load after")
 
-abbrev pub run_text : Form → Bool → Header → List Figure → List ℕ
-run_text Table settled header figures = run_tables header figures
-run_text Json settled header figures = run_json header figures settled
+abbrev pub run_text : Form → Bool → Header → Told → List ℕ
+run_text Table settled header run = run_tables header run.figures
+run_text Json settled header run = run_json header run.figures settled
+run_text Html settled header run = pieces_text (run_pieces header run)
 
-abbrev pub runs_text : Form → Bool → Header → List Figure → List Figure → List ℕ
-runs_text Table settled header before after = runs_tables header before after
-runs_text Json settled header before after = runs_json header before after settled
+abbrev pub runs_text : Form → Bool → Header → Told → Told → List ℕ
+runs_text Table settled header before after = runs_tables header before.figures after.figures
+runs_text Json settled header before after =
+    runs_json header before.figures after.figures settled
+runs_text Html settled header before after = pieces_text (runs_pieces header before after)
 
 -- the text tells the figures of the session's run
 pub record IsReportOfRun (form : Form) (settled : Bool) (session : Session) (text : List ℕ) :
     Type 0 where
-  pub figures : List Figure
-  pub are : AreFigures settled session figures
-  pub is : text ≡ run_text form settled session.header figures
+  pub run : Told
+  pub is_told : IsTold settled session run
+  pub is : text ≡ run_text form settled session.header run
 
 -- the text tells the figures of both sessions' runs, by the names of the first
 pub record IsReportOfRuns (form : Form) (settled : Bool) (session edited : Session)
     (text : List ℕ) : Type 0 where
-  pub before : List Figure
-  pub after : List Figure
-  pub are_before : AreFigures settled session before
-  pub are_after : AreFigures settled edited after
+  pub before : Told
+  pub after : Told
+  pub is_before : IsTold settled session before
+  pub is_after : IsTold settled edited after
   pub is : text ≡ runs_text form settled session.header before after

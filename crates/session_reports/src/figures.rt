@@ -1,12 +1,13 @@
 //! The figures of the run of a session.
 ghost use Rattle.std.specs.Prelude.{◌≡◌, ◌<◌, ◌^◌, IfOk, Err, length};
 ghost use Rattle.settling.specs.declared.run.SettleFault.TheVariants.{TooManySteps};
-ghost use Rattle.session_reports.specs.Figures.{run_figures, AreFigures, AreSettledFigures};
+ghost use Rattle.session_reports.specs.Figures.{run_figures, run_told, AreFigures, AreSettledFigures};
 ghost use Rattle.settled_runs.specs.Runs.{IsSettledTooLong, IsTooLong};
 
 use bench_types::CheckedSession;
 use report_figures::{Figure, figures_of, subjects_of};
-use run_numbers::measure;
+use report_pages::RunFigures;
+use run_numbers::{measure, measure_all};
 use settled_runs::WaitingCall;
 use settling::{SettleFault, settle};
 use smp_kernel::Meter;
@@ -27,6 +28,27 @@ pub fn figures_of_run(
     let subjects = subjects_of(alloc, session.header())?;
     let measured = measure(alloc, meter, session, left, subjects.as_slice())?;
     figures_of(alloc, measured.as_slice())
+}
+
+/// The figures of the run of the session's steps, of which these calls were not made, and the
+/// responses of its tasks.
+pub(crate) fn told_of_run(
+    alloc: Global,
+    meter: &mut Meter,
+    session: &CheckedSession,
+    left: &[WaitingCall],
+) -> Result<RunFigures, AllocError>
+    requires { length left.now < 2 ^ 32 }
+    ensures { IfOk result
+        (λ run. run ≡ run_told session.now.header session.now.steps left.now) }
+{
+    let subjects = subjects_of(alloc, session.header())?;
+    let numbers = measure_all(alloc, meter, session, left, subjects.as_slice())?;
+    let figures = figures_of(alloc, numbers.measured.as_slice())?;
+    Ok(RunFigures {
+        figures,
+        responses: numbers.responses,
+    })
 }
 
 fn settled_figures(

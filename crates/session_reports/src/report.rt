@@ -1,13 +1,16 @@
 //! Reports as texts.
 ghost use Rattle.std.specs.Prelude.{◌≡◌, ◌<◌, ◌^◌, IfOk, Ok, length, string_bytes};
-ghost use Rattle.session_reports.specs.Figures.{run_figures};
+ghost use Rattle.run_pages.specs.Page.{pieces_text};
+ghost use Rattle.report_pages.specs.Report.{run_pieces, runs_pieces};
+ghost use Rattle.session_reports.specs.Figures.{run_told};
 ghost use Rattle.bench_types.specs.Header.{header_check};
 ghost use Rattle.session_reports.specs.Reports.{run_tables, run_text, runs_tables, runs_text};
 
-use crate::figures::figures_of_run;
+use crate::figures::told_of_run;
 use bench_types::{CheckedSession, Header};
 use core_loads::push_load_table;
 use report_figures::{Figure, run_json, run_table, runs_json, runs_table};
+use report_pages::{RunFigures, push_run_report, push_runs_report};
 use settled_runs::WaitingCall;
 use smp_kernel::Meter;
 use std::alloc::{AllocError, Global};
@@ -19,6 +22,8 @@ pub enum Form {
     Table,
     /// One JSON object in a line.
     Json,
+    /// A piece of HTML for a page: the lines of a table, and loads and responses as bars.
+    Html,
 }
 
 // The figures of a run, and its loads.
@@ -50,28 +55,54 @@ fn runs_tables(
     Ok(text)
 }
 
+fn run_html(alloc: Global, header: &Header, run: &RunFigures) -> Result<String, AllocError>
+    requires { header_check header.now ≡ Ok tt }
+    ensures { IfOk result
+        (λ text. string_bytes text ≡ pieces_text (run_pieces header.now run.now)) }
+{
+    let mut text = String::new(alloc);
+    push_run_report(alloc, &mut text, header, run)?;
+    Ok(text)
+}
+
+fn runs_html(
+    alloc: Global,
+    header: &Header,
+    before: &RunFigures,
+    after: &RunFigures,
+) -> Result<String, AllocError>
+    requires { header_check header.now ≡ Ok tt }
+    ensures { IfOk result
+        (λ text. string_bytes text ≡ pieces_text (runs_pieces header.now before.now after.now)) }
+{
+    let mut text = String::new(alloc);
+    push_runs_report(alloc, &mut text, header, before, after)?;
+    Ok(text)
+}
+
 fn run_text(
     alloc: Global,
     header: &Header,
-    figures: &[Figure],
+    run: &RunFigures,
     settled: bool,
     form: Form,
 ) -> Result<String, AllocError>
     requires { header_check header.now ≡ Ok tt }
     ensures { IfOk result
-        (λ text. string_bytes text ≡ run_text form settled header.now figures.now) }
+        (λ text. string_bytes text ≡ run_text form settled header.now run.now) }
 {
     match form {
-        Form::Table => run_tables(alloc, header, figures),
-        Form::Json => run_json(alloc, header, figures, settled),
+        Form::Table => run_tables(alloc, header, run.figures.as_slice()),
+        Form::Json => run_json(alloc, header, run.figures.as_slice(), settled),
+        Form::Html => run_html(alloc, header, run),
     }
 }
 
 fn runs_text(
     alloc: Global,
     header: &Header,
-    before: &[Figure],
-    after: &[Figure],
+    before: &RunFigures,
+    after: &RunFigures,
     settled: bool,
     form: Form,
 ) -> Result<String, AllocError>
@@ -80,9 +111,11 @@ fn runs_text(
         (λ text. string_bytes text
         ≡ runs_text form settled header.now before.now after.now) }
 {
+    let (own, edited) = (before.figures.as_slice(), after.figures.as_slice());
     match form {
-        Form::Table => runs_tables(alloc, header, before, after),
-        Form::Json => runs_json(alloc, header, before, after, settled),
+        Form::Table => runs_tables(alloc, header, own, edited),
+        Form::Json => runs_json(alloc, header, own, edited, settled),
+        Form::Html => runs_html(alloc, header, before, after),
     }
 }
 
@@ -100,10 +133,10 @@ pub fn report_of_run(
     ensures { IfOk result
         (λ text. string_bytes text
         ≡ run_text form settled session.now.header
-        (run_figures session.now.header session.now.steps left.now)) }
+        (run_told session.now.header session.now.steps left.now)) }
 {
-    let figures = figures_of_run(alloc, meter, session, left)?;
-    run_text(alloc, session.header(), figures.as_slice(), settled, form)
+    let run = told_of_run(alloc, meter, session, left)?;
+    run_text(alloc, session.header(), &run, settled, form)
 }
 
 /// The figures of two runs beside each other, as a text: that of a session, of which the calls
@@ -124,11 +157,10 @@ pub fn report_of_runs(
     ensures { IfOk result
         (λ text. string_bytes text
         ≡ runs_text form settled before.now.header
-        (run_figures before.now.header before.now.steps left.now)
-        (run_figures after.now.header after.now.steps rest.now)) }
+        (run_told before.now.header before.now.steps left.now)
+        (run_told after.now.header after.now.steps rest.now)) }
 {
-    let own = figures_of_run(alloc, meter, before, left)?;
-    let edited = figures_of_run(alloc, meter, after, rest)?;
-    let (own, edited) = (own.as_slice(), edited.as_slice());
-    runs_text(alloc, before.header(), own, edited, settled, form)
+    let own = told_of_run(alloc, meter, before, left)?;
+    let edited = told_of_run(alloc, meter, after, rest)?;
+    runs_text(alloc, before.header(), &own, &edited, settled, form)
 }

@@ -1,5 +1,6 @@
 //! Tests of settled runs, alone and beside each other, of the numbers of runs and of changes that
-//! are ranked by them, of advice in words, and of why a kernel would refuse a step.
+//! are ranked by them, of advice in words, of loads and responses as bars, and of why a kernel
+//! would refuse a step.
 //! There is nothing else here.
 #![tactic(auto)]
 
@@ -7,6 +8,8 @@
 mod advice;
 #[cfg(test)]
 mod advised;
+#[cfg(test)]
+mod bars;
 #[cfg(test)]
 mod compared;
 #[cfg(test)]

@@ -442,7 +442,7 @@ const fn until(core: u32, prev: u32, inc: u32) -> Step {
 
 /// A delays until tick 3, and has a core one tick later; then until tick 6, at tick 7, which is
 /// late; then until tick 12. So it has three jobs, of which the third was asked for at tick 6.
-fn session_of_jobs(rt: &impl Abort, host: &HostRuntime) -> Result<CheckedSession, Fail> {
+pub(crate) fn session_of_jobs(rt: &impl Abort, host: &HostRuntime) -> Result<CheckedSession, Fail> {
     let steps = [
         TICK,
         until(0, 0, 3),

@@ -37,7 +37,7 @@ use Rattle.view_commands.specs.declared.request.SettledView.{SettledView}
 use Rattle.view_commands.specs.declared.request.SettledView.TheVariants as settled
 use Rattle.view_commands.specs.Commands.{is_json, is_json_fault, too_long_input, too_many_steps, IsDone, IsRefusedOr, IsSame, IsPrinted, IsPrintedOfBench}
 use Rattle.view_commands.specs.Commands.{IsPrintedOfText, IsView, IsWarned, ViewIsOne}
-use Rattle.view_commands.specs.PageViews.{as_table, page_printed, IsCompared, IsComparison, IsPage, IsPictured, IsRun}
+use Rattle.view_commands.specs.PageViews.{as_html, page_printed, IsCompared, IsComparison, IsPage, IsPictured, IsRun}
 use Rattle.view_commands.specs.SettledViews.{columns_after, columns_before, printed_of_run, IsSettledPicture, IsSettledView, IsPrintedOfComparison, IsPrintedOfPair}
 use Rattle.view_commands.specs.SettledViews.{IsPrintedOfPictures, IsPrintedOfSettled}
 use Rattle.program_io.specs.Outputs.{Printed, noted, fine}
@@ -150,7 +150,7 @@ one_page view session edits printed other one two =
     let edited = after_edits session edits in
     let picture = one_pictured view.settled view.extent session edits one.drawn.picture two.drawn.picture one.are.picture two.are.picture in
     let comparison = one_compared view.settled view.extent.places session edits one.drawn.comparison two.drawn.comparison one.are.comparison two.are.comparison in
-    let report = one_report (as_table view.settled) session edits one.drawn.report two.drawn.report one.are.report two.are.report in
+    let report = one_report (as_html view.settled) session edits one.drawn.report two.drawn.report one.are.report two.are.report in
     let run = one_run view.settled edited one.page.run two.page.run one.page.is_run two.page.is_run in
     one.page.is_printed
     ∙ ap₂ (λ (p : Printed) (c : Option Printed). page_by view edited p c one.drawn.report one.page.run) picture comparison

@@ -14,11 +14,11 @@ use Rattle.settling.specs.declared.run.SettleFault.TheVariants.{TooManySteps}
 use Rattle.run_comparisons.specs.Settled.{with_steps, IsComparisonTooLong}
 use Rattle.run_comparisons.proofs.Compared.{own_steps}
 use Rattle.run_pictures.specs.declared.picture.Extent.{Extent}
-use Rattle.session_reports.specs.declared.report.Form.TheVariants.{Table}
+use Rattle.session_reports.specs.declared.report.Form.TheVariants.{Html}
 use Rattle.program_io.specs.Outputs.{Printed}
 use Rattle.view_commands.specs.declared.pages.Drawn.{Drawn}
 use Rattle.view_commands.specs.declared.request.PageView.{PageView}
-use Rattle.view_commands.specs.PageViews.{as_table, page_of, page_printed, AreDrawn, IsCompared, IsPage, IsPageOf, IsRun}
+use Rattle.view_commands.specs.PageViews.{as_html, page_of, page_printed, AreDrawn, IsCompared, IsPage, IsPageOf, IsRun}
 use Rattle.view_commands.specs.ReportViews.{IsReported, IsReportedAlone, IsReportedBeside}
 use Rattle.view_commands.specs.SettledViews.{too_long, IsPrintedOfBothAt, IsPrintedOfPictures, IsPrintedOfSettled}
 use Rattle.view_commands.specs.Views.{picture_of, picture_of_run}
@@ -81,7 +81,7 @@ settled_page_told view session edits run drawn (Ok printed) is are of_run few to
 
 -- of a session and edits of it as they stand
 pub plain_parts : (view : PageView) (session : Session) (edits : List Edit) (picture : Printed) (comparison : Option Printed) (report : Printed) → view.settled ≡
-    false → picture ≡ picture_of view.extent session edits → IsCompared false view.extent.places session edits comparison → IsReported (as_table view.settled) session edits report
+    false → picture ≡ picture_of view.extent session edits → IsCompared false view.extent.places session edits comparison → IsReported (as_html view.settled) session edits report
     → AreDrawn view session edits (record { picture = picture; comparison = comparison; report = report })
 plain_parts view session edits picture comparison report is pictured compared reported =
     let put : Bool → PageView = λ b. record { settled = b; extent = view.extent } in
@@ -89,12 +89,12 @@ plain_parts view session edits picture comparison report is pictured compared re
     (record {
       picture = pictured;
       comparison = compared;
-      report = subst (λ (b : Bool). IsReported (as_table b) session edits report) is reported;
+      report = subst (λ (b : Bool). IsReported (as_html b) session edits report) is reported;
     })
 
 -- of a settled run without edits
 pub run_parts : (view : PageView) (session : Session) (picture report : Printed) → view.settled ≡ true
-    → IsPrintedOfSettled (picture_of_run view.extent) session picture → IsReportedAlone (by Table) session report → AreDrawn view session []
+    → IsPrintedOfSettled (picture_of_run view.extent) session picture → IsReportedAlone (by Html) session report → AreDrawn view session []
     (record { picture = picture; comparison = None; report = report })
 run_parts view session picture report is pictured reported =
     subst (λ (one : PageView). AreDrawn one session [] (record { picture = picture; comparison = None; report = report })) (is_settled_view view is)
@@ -103,7 +103,7 @@ run_parts view session picture report is pictured reported =
 -- of two settled runs
 pub pair_parts : (view : PageView) (session : Session) (edits : List Edit) (picture compared report : Printed) → view.settled ≡ true → 0 < length edits
     → IsPrintedOfPictures view.extent session edits picture → IsPrintedOfBothAt view.extent.places session edits compared
-    → IsReportedBeside (by Table) session (after_edits session edits) report → AreDrawn view session edits
+    → IsReportedBeside (by Html) session (after_edits session edits) report → AreDrawn view session edits
     (record { picture = picture; comparison = Some compared; report = report })
 pair_parts view session [] picture compared report is some pictured both reported = absurd (omega (arith, some))
 pair_parts view session (edit ∷ edits) picture compared report is some pictured both reported =

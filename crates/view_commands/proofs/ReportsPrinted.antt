@@ -12,9 +12,9 @@ use Rattle.settling.specs.declared.run.SettleFault.TheVariants.{TooManySteps}
 use Rattle.run_comparisons.specs.declared.settled.SettledPair.{SettledPair}
 use Rattle.run_comparisons.specs.Settled.{IsSettledPair}
 use Rattle.run_comparisons.proofs.Compared.{settled_run}
-use Rattle.report_figures.specs.declared.figures.Figure.{Figure}
+use Rattle.report_pages.specs.Told.{Told}
 use Rattle.session_reports.specs.declared.report.Form.{Form}
-use Rattle.session_reports.specs.Figures.{run_figures, AreSettledFigures}
+use Rattle.session_reports.specs.Figures.{run_told, IsSettledTold}
 use Rattle.session_reports.specs.Reports.{run_text, runs_text}
 use Rattle.view_commands.specs.declared.request.ReportView.{ReportView}
 use Rattle.view_commands.specs.ReportViews.{IsPrintedText, IsReportedAlone, IsReportedBeside}
@@ -32,47 +32,46 @@ long_report claim long fault (Ok printed) is why line = inr (is why, line)
 abbrev pub by : Form → ReportView
 by form = record { settled = true; form = form }
 
-abbrev pub figures_in : RunView → List Figure
-figures_in run = run_figures run.session.header run.session.steps run.left
+abbrev pub told_in : RunView → Told
+told_in run = run_told run.session.header run.session.steps run.left
 
--- the figures of a settled run
-settled_figures : (session : Session) (run : RunView) (is : IsRunOf true session run) → length run.session.steps ≤ max_steps → AreSettledFigures session
-    (figures_in run)
-settled_figures session run is few = record {
+-- what is told of a settled run
+settled_told : (session : Session) (run : RunView) (is : IsRunOf true session run) → length run.session.steps ≤ max_steps → IsSettledTold session (told_in run)
+settled_told session run is few = record {
   settled = settled_run session run is;
   few = few;
-  are = ap (λ (header : Header). run_figures header run.session.steps run.left) is.0;
+  is = ap (λ (header : Header). run_told header run.session.steps run.left) is.0;
 }
 
 -- they were told
 pub run_report : {E : Type 0} (form : Form) (session : Session) (run : RunView) (result : Result Printed E) → IsRunOf true session run → length run.session.steps ≤
-    max_steps → IfOk result (λ printed. printed ≡ fine (run_text form true run.session.header (figures_in run)))
+    max_steps → IfOk result (λ printed. printed ≡ fine (run_text form true run.session.header (told_in run)))
     → IfOk result (λ printed. IsReportedAlone (by form) session printed)
 run_report form session run (Err e) is few told = tt
 run_report form session run (Ok printed) is few told =
     inl
     (record {
-      text = run_text form true session.header (figures_in run);
-      is_text = record { figures = figures_in run; are = settled_figures session run is few; is = refl };
-      is_printed = told ∙ ap (λ (header : Header). fine (run_text form true header (figures_in run))) is.0;
+      text = run_text form true session.header (told_in run);
+      is_text = record { run = told_in run; is_told = settled_told session run is few; is = refl };
+      is_printed = told ∙ ap (λ (header : Header). fine (run_text form true header (told_in run))) is.0;
     })
 
 -- those of two settled runs were told
 pub pair_report : {E : Type 0} (form : Form) (session : Session) (edits : List Edit) (pair : SettledPair) (result : Result Printed E) →
     IsSettledPair session edits pair
-    → IfOk result (λ printed. printed ≡ fine (runs_text form true pair.before.session.header (figures_in pair.before) (figures_in pair.after)))
+    → IfOk result (λ printed. printed ≡ fine (runs_text form true pair.before.session.header (told_in pair.before) (told_in pair.after)))
     → IfOk result (λ printed. IsReportedBeside (by form) session (after_edits session edits) printed)
 pair_report form session edits pair (Err e) settled told = tt
 pair_report form session edits pair (Ok printed) settled told =
     inl
     (record {
-      text = runs_text form true session.header (figures_in pair.before) (figures_in pair.after);
+      text = runs_text form true session.header (told_in pair.before) (told_in pair.after);
       is_text = record {
-        before = figures_in pair.before;
-        after = figures_in pair.after;
-        are_before = settled_figures session pair.before settled.before settled.few_before;
-        are_after = settled_figures (after_edits session edits) pair.after settled.after settled.few_after;
+        before = told_in pair.before;
+        after = told_in pair.after;
+        is_before = settled_told session pair.before settled.before settled.few_before;
+        is_after = settled_told (after_edits session edits) pair.after settled.after settled.few_after;
         is = refl;
       };
-      is_printed = told ∙ ap (λ (header : Header). fine (runs_text form true header (figures_in pair.before) (figures_in pair.after))) settled.before.0;
+      is_printed = told ∙ ap (λ (header : Header). fine (runs_text form true header (told_in pair.before) (told_in pair.after))) settled.before.0;
     })

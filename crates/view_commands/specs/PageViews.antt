@@ -14,7 +14,7 @@ use Rattle.run_pages.specs.Shown.{Shown}
 use Rattle.run_pictures.specs.declared.picture.Extent.{Extent}
 use Rattle.run_views.specs.declared.places.Places.{Places}
 use Rattle.run_views.specs.PlaceTexts.{place_texts}
-use Rattle.session_reports.specs.declared.report.Form.TheVariants.{Table}
+use Rattle.session_reports.specs.declared.report.Form.TheVariants.{Html}
 use Rattle.program_io.specs.declared.output.OutputStatus.{OutputStatus}
 use Rattle.program_io.specs.declared.output.OutputStatus.TheVariants.{Fine, Failed, Unknown}
 use Rattle.program_io.specs.Outputs.{Printed, fine, printed_with}
@@ -50,16 +50,16 @@ IsCompared settled places session [] part = part ≡ None
 IsCompared settled places session (edit ∷ edits) part =
     IsSomeComparison settled places session (edit ∷ edits) part
 
--- a report as a table
-abbrev pub as_table : Bool → ReportView
-as_table settled = record { settled = settled; form = Table }
+-- a report as HTML
+abbrev pub as_html : Bool → ReportView
+as_html settled = record { settled = settled; form = Html }
 
 -- what `timeline`, `compare` and `report` tell, the first two at the places of the page
 pub record AreDrawn (view : PageView) (session : Session) (edits : List Edit) (drawn : Drawn) :
     Type 0 where
   pub picture : IsPictured view.settled view.extent session edits drawn.picture
   pub comparison : IsCompared view.settled view.extent.places session edits drawn.comparison
-  pub report : IsReported (as_table view.settled) session edits drawn.report
+  pub report : IsReported (as_html view.settled) session edits drawn.report
 
 -- ---- the page of them
 

@@ -64,7 +64,7 @@ fn plain_parts<P: PartProgress>(
     ensures { IfOk result
         (λ drawn. AreDrawn view edited.now.session edited.now.edits drawn) }
 {
-    let (settled, form) = (view.settled, Form::Table);
+    let (settled, form) = (view.settled, Form::Html);
     Ok(Drawn {
         picture: picture_of(course, alloc, meter, edited, view.extent)?,
         comparison: comparison_part(course, alloc, meter, edited, view.extent.places)?,
@@ -88,7 +88,7 @@ fn run_parts<P: PartProgress>(
     Ok(Drawn {
         picture: run_pictured(course, alloc, meter, run, view.extent)?,
         comparison: None,
-        report: run_reported(course, alloc, meter, run, Form::Table)?,
+        report: run_reported(course, alloc, meter, run, Form::Html)?,
     })
 }
 
@@ -111,7 +111,7 @@ fn pair_parts<P: PartProgress>(
     Ok(Drawn {
         picture: pair_pictured(course, alloc, meter, edited, pair, view.extent)?,
         comparison: Some(pair_compared_at(course, alloc, edited, pair, view.extent.places)?),
-        report: pair_reported(course, alloc, meter, pair, Form::Table)?,
+        report: pair_reported(course, alloc, meter, pair, Form::Html)?,
     })
 }
 

@@ -1,7 +1,7 @@
 //! What is told of the numbers of runs.
 ghost use Rattle.std.specs.Prelude.{◌≡◌, IfOk, true};
 ghost use Rattle.bench_model.specs.Edits.{after_edits};
-ghost use Rattle.session_reports.specs.Figures.{run_figures};
+ghost use Rattle.session_reports.specs.Figures.{run_told};
 ghost use Rattle.session_reports.specs.Reports.{run_text, runs_text};
 ghost use Rattle.program_io.specs.Outputs.{fine};
 ghost use Rattle.view_commands.specs.ReportViews.{IsReported, IsReportedAlone, IsReportedBeside};
@@ -30,7 +30,7 @@ pub(crate) fn run_reported<P: PartProgress>(
 ) -> Result<Output, AllocError>
     ensures { IfOk result (λ printed. printed
         ≡ fine (run_text form true run.now.session.header
-        (run_figures run.now.session.header run.now.session.steps run.now.left))) }
+        (run_told run.now.session.header run.now.session.steps run.now.left))) }
 {
     course.begin(Part::Measuring);
     let text = report_of_run(alloc, meter, run.session(), run.left(), true, form)?;
@@ -47,9 +47,9 @@ pub(crate) fn pair_reported<P: PartProgress>(
 ) -> Result<Output, AllocError>
     ensures { IfOk result (λ printed. printed
         ≡ fine (runs_text form true pair.now.before.session.header
-        (run_figures pair.now.before.session.header pair.now.before.session.steps
+        (run_told pair.now.before.session.header pair.now.before.session.steps
         pair.now.before.left)
-        (run_figures pair.now.after.session.header pair.now.after.session.steps
+        (run_told pair.now.after.session.header pair.now.after.session.steps
         pair.now.after.left))) }
 {
     let (before, left) = (pair.before.session(), pair.before.left());

@@ -47,7 +47,12 @@ the runs differ first at - 1 and last at 4 4
 const SETTLED: &str = "<title>Settled run of 5 steps: cores 2, tasks 3</title>
 <a href='#place-2'>2</a>
 <li id='place-2'><pre>place 2, tick 0; core 0 C; core 1 B
-<pre>     value number";
+<pre>     value number
+<caption>load</caption>
+<tr><td><meter max='1000' value='0'></meter> 0.0%</td>\
+<td><meter max='1000' value='1000'></meter> 100.0%</td><td>100.0%</td><th scope='row'>B</th></tr>
+<caption>A: response, jobs that ended: 1</caption>
+<tr><th scope='row'>0 to 0</th><td><meter max='1' value='1'></meter> 1</td></tr>";
 
 #[test]
 fn a_trace_by_places(rt: HostRuntime) -> Result<(), Fail> {
@@ -70,7 +75,7 @@ fn a_page_of_parts(rt: HostRuntime) -> Result<(), Fail> {
         "<div id='sheet'>\n<svg></svg>\n</div>",
         "<a href='#place-7'>7</a>",
         "<li id='place-7'><pre>place 7 &amp; &#39;more&#39;\n</pre></li>",
-        "<pre>a &quot;report&quot;\n</pre>",
+        "<h2>Report</h2>\n<p>a report</p>\n</section>",
     ] {
         expect_part(&rt, page.as_slice(), printed);
     }
@@ -120,7 +125,7 @@ fn sample(alloc: Global) -> Result<Vec<u8>, AllocError> {
         first: 7,
         places,
         comparison: None,
-        report: String::from_str(alloc, "a \"report\"\n")?.into_bytes(),
+        report: String::from_str(alloc, "<p>a report</p>\n")?.into_bytes(),
     };
     page(alloc, &parts)
 }

@@ -1,0 +1,2 @@
+mod PieceTexts
+mod Plain

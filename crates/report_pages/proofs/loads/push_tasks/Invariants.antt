@@ -1,0 +1,9 @@
+use Rattle.std.proofs.Common.{◌≡◌, ℕ, ◌+◌, ◌++◌, flat_map, string_bytes}
+use Rattle.list_orders.specs.Search.{numbers}
+use Rattle.run_pages.specs.Page.{pieces_text}
+use Rattle.report_pages.specs.LoadBars.{task_pieces}
+use Rattle.report_pages.proofs.loads.push_tasks.Given as goal
+
+abbrev pub invariant-loop-user : goal.invariant-loop-user
+invariant-loop-user l =
+    string_bytes l.text ≡ string_bytes l.fn.text ++ flat_map (λ (k : ℕ). pieces_text (task_pieces l.header l.figures k)) (numbers l.user)

@@ -303,6 +303,7 @@ fn report_printed(alloc: Global, view: ReportView) -> Result<String, AllocError>
     let form = match view.form {
         Form::Table => "table",
         Form::Json => "object",
+        Form::Html => "html",
     };
     format!(in alloc; "report {settled}{form}")
 }

@@ -19,6 +19,7 @@ use Rattle.smp_kernel.proofs.Counts.{counted_twice}
 use Rattle.task_programs.specs.declared.workload.Workload.{Workload}
 use Rattle.task_programs.specs.Limits.{max_ticks}
 use Rattle.task_programs.specs.Workloads.{IsCheckedWorkload}
+use Rattle.workload_runs.specs.Laws.{EachRun}
 use Rattle.workload_runs.specs.Rule.{next_step, AreNext, IsRunFrom, IsTooLong}
 use Rattle.workload_runs.specs.Situations.{Situation, after, after_steps, first_situation, span_of, units_in}
 use Rattle.workload_runs.proofs.Clocks.{no_fewer}
@@ -40,6 +41,13 @@ pub run_ends : (made : List Step) (workload : Workload) (now : Situation) → Ar
     → next_step workload (after_steps workload now made) ≡ None → IsRunFrom workload now made
 run_ends [] workload now next none = none
 run_ends (first ∷ made) workload now next none = (next.0, run_ends made workload (after workload first now) next.1 none)
+
+-- what holds of each run holds of the steps of a run that was made to its end
+pub each_made : (property : Workload → List Step → Type 0) → EachRun property → (workload : Workload) (simulation : Simulation) → IsAt workload simulation
+    → next_step workload (now_in workload simulation) ≡ None → (steps : List Step) → steps ≡ simulation.steps.items → property workload steps
+each_made property law workload simulation here none steps same =
+    let run = run_ends simulation.steps.items workload (first_situation workload) here.next none in
+    subst (property workload) (sym same) (law workload simulation.steps.items here.checked run)
 
 after_more : (workload : Workload) (now : Situation) (made : List Step) (step : Step)
     → after_steps workload now (made ++ step ∷ []) ≡ after workload step (after_steps workload now made)

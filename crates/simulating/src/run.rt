@@ -3,6 +3,7 @@ ghost use Rattle.std.specs.Prelude.{◌≡◌, [], IfOk, OnErr, Err, length};
 ghost use Rattle.bench_types.specs.Limits.{max_steps};
 ghost use Rattle.settled_runs.specs.Settled.{IsSettled};
 ghost use Rattle.smp_kernel.specs.Counting.{meter_after, CountsUpTo};
+ghost use Rattle.workload_runs.specs.Properties.{CallsAreInOrder, CallsAreThoseOfPrograms, InterruptsComeInTime, RunEndsBehindItsLastTick, TimeGoesByTicks};
 ghost use Rattle.workload_runs.specs.Rule.{IsRunOf, IsTooLong};
 
 use crate::simulation::Simulation;
@@ -46,6 +47,18 @@ pub fn simulate(
     // Settling the run changes nothing.
     ensures settled { IfOk result
         (λ session. IsSettled session.header session.steps session.steps []) }
+    // Each call is the one that the program of its task has there, and none is late.
+    ensures programs { IfOk result
+        (λ session. CallsAreThoseOfPrograms workload.now session.steps) }
+    ensures calls { IfOk result (λ session. CallsAreInOrder workload.now session.steps) }
+    // Ticks end on time, and passes where something does.
+    ensures time { IfOk result (λ session. TimeGoesByTicks workload.now session.steps) }
+    // Interrupts come at their times, and none is missed.
+    ensures interrupts { IfOk result
+        (λ session. InterruptsComeInTime workload.now session.steps) }
+    // The run ends behind its last tick, when nothing is left to do.
+    ensures end { IfOk result
+        (λ session. RunEndsBehindItsLastTick workload.now session.steps) }
     ensures long { result ≡ Err SimulateFault.TooManySteps → IsTooLong workload.now }
     ensures counted { IfOk result
         (λ session. meter.new ≡ meter_after (length session.steps) meter.old) }

@@ -9,7 +9,8 @@ use Rattle.settled_runs.specs.Settled.{is_finish}
 use Rattle.task_programs.specs.declared.workload.Workload.{Workload}
 use Rattle.task_programs.specs.Workloads.{is_interrupt, IsCheckedWorkload}
 use Rattle.workload_runs.specs.Courses.{next_call}
-use Rattle.workload_runs.specs.Laws.{comes_behind_calls, CallsAreThoseOfPrograms, CallsComeAtOnce, LeastCoreCallsFirst}
+use Rattle.workload_runs.specs.Laws.{EachRun}
+use Rattle.workload_runs.specs.Properties.{comes_behind_calls, CallsAreInOrder, CallsAreThoseOfPrograms, CallsComeAtOnce, LeastCoreCallsFirst}
 use Rattle.workload_runs.specs.Rule.{interrupt_step, program_call}
 use Rattle.workload_runs.specs.Situations.{Situation, course_at, program_at, situation_at, units_in}
 use Rattle.workload_runs.proofs.Keeps.{not_full, Keeps}
@@ -44,8 +45,8 @@ call_origin workload checked now core task call begins (inr (inr (inr (inr it)))
     which (inl tick) = absurd (let is = tick.1 in cc is)
     which (inr pass) = absurd (let is = pass.1 in cc is)
 
-pub calls_are_those_of_programs : CallsAreThoseOfPrograms
-calls_are_those_of_programs workload run place core task call checked is stands begins =
+pub calls_are_those_of_programs : EachRun CallsAreThoseOfPrograms
+calls_are_those_of_programs workload run checked is place core task call stands begins =
     let now = situation_at workload run place in
     let step = steps.Call core task call in
     let from = call_origin workload checked now core task call begins (origin_there workload run is place step stands) in
@@ -61,8 +62,8 @@ calls_are_those_of_programs workload run place core task call checked is stands 
     let by_task = subst (λ task'. next_call (program_at workload (task - users)) task' (course_at now.courses (task - users)) ≡ Some own.call) (sym made) by_user in
     by_task ∙ ap Some (sym called)
 
-pub least_core_calls_first : LeastCoreCallsFirst
-least_core_calls_first workload run place core task less call checked is stands begins low step comes =
+pub least_core_calls_first : EachRun LeastCoreCallsFirst
+least_core_calls_first workload run checked is place core task less call stands begins low step comes =
     let now = situation_at workload run place in
     let made = steps.Call core task call in
     let from = call_origin workload checked now core task call begins (origin_there workload run is place made stands) in
@@ -90,8 +91,14 @@ behind_calls workload now keeps checked step behind (inr (inr (inl it))) =
 behind_calls workload now keeps checked step behind (inr (inr (inr (inl it)))) = it.calls
 behind_calls workload now keeps checked step behind (inr (inr (inr (inr it)))) = it.calls
 
-pub calls_come_at_once : CallsComeAtOnce
-calls_come_at_once workload run place core step checked is stands behind below =
+pub calls_come_at_once : EachRun CallsComeAtOnce
+calls_come_at_once workload run checked is place core step stands behind below =
     let now = situation_at workload run place in
     no_call workload now
     (behind_calls workload now (keeps_there workload run is checked place) checked step behind (origin_there workload run is place step stands)) core below
+
+pub calls_are_in_order : EachRun CallsAreInOrder
+calls_are_in_order workload run checked is = record {
+  at_once = calls_come_at_once workload run checked is;
+  least_core_first = least_core_calls_first workload run checked is;
+}

@@ -1,3 +1,4 @@
+pub mod Arrivals
 pub mod CallLaws
 pub mod Clocks
 pub mod Going

@@ -5,7 +5,8 @@ use Rattle.std.proofs.lemmas.Option.{same_Some, slice_get-get_or, slice_get_past
 use Rattle.bench_types.specs.declared.step.Step.{Step}
 use Rattle.task_programs.specs.declared.workload.Workload.{Workload}
 use Rattle.task_programs.specs.Workloads.{IsCheckedWorkload}
-use Rattle.workload_runs.specs.Laws.{StepsAreChecked}
+use Rattle.workload_runs.specs.Laws.{EachRun}
+use Rattle.workload_runs.specs.Properties.{StepsAreChecked}
 use Rattle.workload_runs.specs.Rule.{next_step, AreNext, IsRunFrom, IsRunOf}
 use Rattle.workload_runs.specs.Situations.{Situation, after, after_steps, first_situation, situation_at}
 use Rattle.workload_runs.proofs.Keeps.{keeps_along, next_checked, Keeps}
@@ -50,7 +51,7 @@ module _ (workload : Workload) (run : List Step) (is : IsRunOf workload run) whe
   unfolding situation_at
   keeps_there checked place = keeps_along workload checked (take place run) (next_to run place workload (first_situation workload) is)
 
-pub steps_are_checked : StepsAreChecked
+pub steps_are_checked : EachRun StepsAreChecked
 steps_are_checked workload run checked is place default inside =
     let step = get_or run place default in
     let stands : slice_get run place ≡ Some step = slice_get-get_or run place default inside in

@@ -22,7 +22,7 @@ use Rattle.task_programs.specs.declared.workload.Workload.{Workload}
 use Rattle.task_programs.specs.Programs.{program_flaw, IsInstructionOfWords}
 use Rattle.task_programs.proofs.Sound.{calls_are_checked, wakes_go_on}
 use Rattle.workload_runs.specs.Courses.{Course, call_made, call_of, next_call}
-use Rattle.workload_runs.specs.Laws.{HasNoCall}
+use Rattle.workload_runs.specs.Properties.{HasNoCall}
 use Rattle.workload_runs.specs.Rule.{call_of_user, call_on, program_call}
 use Rattle.workload_runs.specs.Situations.{Situation, course_at, program_at}
 use Rattle.workload_runs.proofs.Searches.{first_found, none_comes, IsFirst}

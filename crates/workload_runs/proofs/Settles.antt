@@ -15,7 +15,8 @@ use Rattle.settled_runs.proofs.Rests.{runs_core}
 use Rattle.settled_runs.proofs.Settlings.{before}
 use Rattle.task_programs.specs.declared.workload.Workload.{Workload}
 use Rattle.task_programs.specs.Workloads.{is_interrupt, IsCheckedWorkload}
-use Rattle.workload_runs.specs.Laws.{RunIsSettled}
+use Rattle.workload_runs.specs.Laws.{EachRun}
+use Rattle.workload_runs.specs.Properties.{RunIsSettled}
 use Rattle.workload_runs.specs.Rule.{IsRunFrom}
 use Rattle.workload_runs.specs.Situations.{Situation, after, first_situation}
 use Rattle.workload_runs.proofs.CallLaws.{interrupt_kind}
@@ -134,6 +135,6 @@ module _ (workload : Workload) (checked : IsCheckedWorkload workload) where
       let later = run_settles run (after workload step now) (keeps_after workload checked now keeps step is.0) is.1 in
       step_before now keeps run step (origin workload now step is.0) later
 
-pub run_is_settled : RunIsSettled
+pub run_is_settled : EachRun RunIsSettled
 unfolding first_situation
 run_is_settled workload run checked is = run_settles workload checked run (first_situation workload) (first_keeps workload checked) is

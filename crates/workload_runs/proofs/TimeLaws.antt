@@ -15,7 +15,8 @@ use Rattle.settled_runs.specs.Settled.{quiet_step}
 use Rattle.step_times.specs.Times.{time_of}
 use Rattle.task_programs.specs.declared.workload.Workload.{Workload}
 use Rattle.task_programs.specs.Workloads.{is_interrupt, IsCheckedWorkload}
-use Rattle.workload_runs.specs.Laws.{FullTicksEnd, InterruptsAreOnTime, NoInterruptIsMissed, PassesEndWhereSomethingDoes, RunEndsBehindItsLastTick, TicksAreOnTime}
+use Rattle.workload_runs.specs.Laws.{EachRun}
+use Rattle.workload_runs.specs.Properties.{FullTicksEnd, InterruptsAreOnTime, NoInterruptIsMissed, PassesEndWhereSomethingDoes, RunEndsBehindItsLastTick, TicksAreOnTime, TimeGoesByTicks}
 use Rattle.workload_runs.specs.Rule.{pass_units, tick_end, waits_left, works_left}
 use Rattle.workload_runs.specs.Situations.{Situation, after, arrivals_after, situation_at, span_of, units_in}
 use Rattle.workload_runs.proofs.CallLaws.{interrupt_kind}
@@ -29,9 +30,9 @@ use Rattle.workload_runs.proofs.Times.{due_now, first_due, interrupt_made, none_
 
 -- ---- ticks
 
-pub ticks_are_on_time : TicksAreOnTime
+pub ticks_are_on_time : EachRun TicksAreOnTime
 unfolding after arrivals_after
-ticks_are_on_time workload run place checked is inside = (clock.from, clock.to, ends)
+ticks_are_on_time workload run checked is place inside = (clock.from, clock.to, ends)
   where
     now : Situation
     now = situation_at workload run place
@@ -79,8 +80,8 @@ after_table : (workload : Workload) (now : Situation) (units : ℕ) → (after w
 unfolding after
 after_table workload now units = pass_leaves now.table units
 
-pub full_ticks_end : FullTicksEnd
-full_ticks_end workload run place units is stands full =
+pub full_ticks_end : EachRun FullTicksEnd
+full_ticks_end workload run checked is place units stands full =
     let now = situation_at workload run place in
     let later = situation_at workload run (place + 1) in
     let same : later.table ≡ now.table = ap (λ (now : Situation). now.table) (behind workload run is place (Pass units) stands) ∙ after_table workload now units
@@ -107,8 +108,8 @@ pass_is : (workload : Workload) (now : Situation) (units : ℕ) → TimeMade wor
 pass_is workload now units (inl tick) = absurd (let is = tick.1 in cc is)
 pass_is workload now units (inr pass) = let is = pass.1 in cc is
 
-pub passes_end_where_something_does : PassesEndWhereSomethingDoes
-passes_end_where_something_does workload run place units checked is stands =
+pub passes_end_where_something_does : EachRun PassesEndWhereSomethingDoes
+passes_end_where_something_does workload run checked is place units stands =
     let now = situation_at workload run place in
     let keeps = keeps_there workload run is checked place in
     let from = pass_time workload checked now units (origin_there workload run is place (Pass units) stands) in
@@ -125,6 +126,13 @@ passes_end_where_something_does workload run place units checked is stands =
       All-from_recursion (λ left. most ≤ left) (waits_left now) fits.waits,
       fits.reached,
     )
+
+pub time_goes_by_ticks : EachRun TimeGoesByTicks
+time_goes_by_ticks workload run checked is = record {
+  on_time = ticks_are_on_time workload run checked is;
+  full_ticks_end = full_ticks_end workload run checked is;
+  passes_end = passes_end_where_something_does workload run checked is;
+}
 
 -- ---- interrupts
 
@@ -147,8 +155,8 @@ interrupt_origin workload now step is (inr (inr (inr (inr it)))) = which (time_m
     which (inl tick) = absurd (let none = sym (ap is_interrupt tick.1) ∙ is in cc none)
     which (inr pass) = absurd (let none = sym (ap is_interrupt pass.1) ∙ is in cc none)
 
-pub interrupts_are_on_time : InterruptsAreOnTime
-interrupts_are_on_time workload run place step checked is stands kind =
+pub interrupts_are_on_time : EachRun InterruptsAreOnTime
+interrupts_are_on_time workload run checked is place step stands kind =
     let now = situation_at workload run place in
     let clock = (keeps_there workload run is checked place).clock in
     let from = interrupt_origin workload now step kind (origin_there workload run is place step stands) in
@@ -163,8 +171,8 @@ interrupts_are_on_time workload run place step checked is stands kind =
           let later = not_due workload now less now.time (due.least less (omega arith) low) arrives in absurd (omega (arith, later));
     }
 
-pub no_interrupt_is_missed : NoInterruptIsMissed
-no_interrupt_is_missed workload run place index time checked is inside arrives = (keeps_there workload run is checked place).clock.comes index time arrives
+pub no_interrupt_is_missed : EachRun NoInterruptIsMissed
+no_interrupt_is_missed workload run checked is place index time inside arrives = (keeps_there workload run is checked place).clock.comes index time arrives
 
 -- ---- the end
 
@@ -173,7 +181,7 @@ none_left [] none = tt
 none_left (None ∷ arrivals) none = (refl, none_left arrivals (λ index at is. none (suc index) at is))
 none_left (Some at ∷ arrivals) none = absurd (none zero at refl)
 
-pub run_ends_behind_its_last_tick : RunEndsBehindItsLastTick
+pub run_ends_behind_its_last_tick : EachRun RunEndsBehindItsLastTick
 run_ends_behind_its_last_tick workload run checked is =
     let now = situation_at workload run (length run) in
     let clock = (keeps_there workload run is checked (length run)).clock in

@@ -1,3 +1,4 @@
+use Rattle.workload_runs.proofs.Arrivals.{interrupts_come_again}
 use Rattle.workload_runs.proofs.Keeps.{beginnings_are_in_time}
 use Rattle.workload_runs.proofs.TimeLaws.{full_ticks_end, interrupts_are_on_time, no_interrupt_is_missed, passes_end_where_something_does, run_ends_behind_its_last_tick, ticks_are_on_time}
 use Rattle.workload_runs.proofs.laws_of_workload_times.Goals as goal
@@ -22,3 +23,6 @@ returns-clause-passes_end_where_something_does c = passes_end_where_something_do
 
 pub returns-clause-run_ends_behind_its_last_tick : goal.returns-clause-run_ends_behind_its_last_tick
 returns-clause-run_ends_behind_its_last_tick c = run_ends_behind_its_last_tick
+
+pub returns-clause-interrupts_come_again : goal.returns-clause-interrupts_come_again
+returns-clause-interrupts_come_again c = interrupts_come_again

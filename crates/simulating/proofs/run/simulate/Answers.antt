@@ -4,8 +4,12 @@ use Rattle.workload_runs.specs.Rule.{IsRunOf}
 use Rattle.workload_runs.specs.Situations.{first_situation}
 use Rattle.settled_runs.specs.Settled.{IsSettled}
 use Rattle.settling.proofs.Counted.{on_err}
+use Rattle.workload_runs.specs.Properties.{CallsAreInOrder, CallsAreThoseOfPrograms, InterruptsComeInTime, RunEndsBehindItsLastTick, TimeGoesByTicks}
+use Rattle.workload_runs.proofs.Arrivals.{interrupts_come_in_time}
+use Rattle.workload_runs.proofs.CallLaws.{calls_are_in_order, calls_are_those_of_programs}
 use Rattle.workload_runs.proofs.Settles.{run_is_settled}
-use Rattle.simulating.proofs.Making.{counted_on, run_ends, too_long}
+use Rattle.workload_runs.proofs.TimeLaws.{run_ends_behind_its_last_tick, time_goes_by_ticks}
+use Rattle.simulating.proofs.Making.{counted_on, each_made, run_ends, too_long}
 use Rattle.simulating.proofs.run.simulate.Goals as goal
 
 pub returns-in_err-make-clause-long : goal.returns-in_err-make-clause-long
@@ -31,6 +35,31 @@ returns-in-Some-new-clause-settled c =
     let header = c.in_ok-header.ensures ∙ c.header.ensures.header in
     let same = c.in-Some-new.ensures.session in
     rw (ap (λ (session : Session). session.header) same ∙ header, ap (λ (session : Session). session.steps) same) settled
+
+pub returns-in-Some-new-clause-programs : goal.returns-in-Some-new-clause-programs
+returns-in-Some-new-clause-programs c =
+    each_made CallsAreThoseOfPrograms calls_are_those_of_programs c.args.workload.now c.loop-step.simulation c.loop-step.invariant.here
+    (sym c.next_step.ensures ∙ c.in_default.is) _ (ap (λ (session : Session). session.steps) c.in-Some-new.ensures.session)
+
+pub returns-in-Some-new-clause-calls : goal.returns-in-Some-new-clause-calls
+returns-in-Some-new-clause-calls c =
+    each_made CallsAreInOrder calls_are_in_order c.args.workload.now c.loop-step.simulation c.loop-step.invariant.here
+    (sym c.next_step.ensures ∙ c.in_default.is) _ (ap (λ (session : Session). session.steps) c.in-Some-new.ensures.session)
+
+pub returns-in-Some-new-clause-time : goal.returns-in-Some-new-clause-time
+returns-in-Some-new-clause-time c =
+    each_made TimeGoesByTicks time_goes_by_ticks c.args.workload.now c.loop-step.simulation c.loop-step.invariant.here
+    (sym c.next_step.ensures ∙ c.in_default.is) _ (ap (λ (session : Session). session.steps) c.in-Some-new.ensures.session)
+
+pub returns-in-Some-new-clause-interrupts : goal.returns-in-Some-new-clause-interrupts
+returns-in-Some-new-clause-interrupts c =
+    each_made InterruptsComeInTime interrupts_come_in_time c.args.workload.now c.loop-step.simulation c.loop-step.invariant.here
+    (sym c.next_step.ensures ∙ c.in_default.is) _ (ap (λ (session : Session). session.steps) c.in-Some-new.ensures.session)
+
+pub returns-in-Some-new-clause-end : goal.returns-in-Some-new-clause-end
+returns-in-Some-new-clause-end c =
+    each_made RunEndsBehindItsLastTick run_ends_behind_its_last_tick c.args.workload.now c.loop-step.simulation c.loop-step.invariant.here
+    (sym c.next_step.ensures ∙ c.in_default.is) _ (ap (λ (session : Session). session.steps) c.in-Some-new.ensures.session)
 
 pub returns-in_err-make-clause-some : goal.returns-in_err-make-clause-some
 returns-in_err-make-clause-some c =

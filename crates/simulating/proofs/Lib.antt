@@ -1,6 +1,9 @@
 pub mod Calls
+pub mod Ends
 pub mod Gone
+pub mod Grown
 pub mod Here
 pub mod Making
 pub mod Searches
 pub mod Times
+pub mod Told

@@ -1,7 +1,7 @@
 -- How the run of a workload is made further, and what it is in the end.
-use Rattle.std.proofs.Common.{◌≡◌, ℕ, suc, ◌+◌, ◌-◌, ◌*◌, ◌^◌, ◌<◌, ◌≤◌, List, [], ◌∷◌, ◌++◌, length, Option, Some, None, refl, sym, ap, subst, ◌∙◌, arith}
+use Rattle.std.proofs.Common.{◌≡◌, ℕ, suc, ◌+◌, ◌-◌, ◌*◌, ◌^◌, ◌<◌, ◌≤◌, List, [], ◌∷◌, ◌++◌, length, take, Bool, Option, Some, None, refl, sym, ap, subst, ◌∙◌, arith}
 use Rattle.std.specs.Prelude.{All, Ok}
-use Rattle.std.proofs.lemmas.List.{length-append}
+use Rattle.std.proofs.lemmas.List.{length-append, take-append-le, take_all}
 use Rattle.std.proofs.lemmas.List.Elements.{All-append, All-from_recursion}
 use Rattle.std.proofs.lemmas.List.Sums.{fold-append}
 use Rattle.bench_types.specs.declared.kernel_data.Settings.{Settings}
@@ -19,13 +19,15 @@ use Rattle.smp_kernel.proofs.Counts.{counted_twice}
 use Rattle.task_programs.specs.declared.workload.Workload.{Workload}
 use Rattle.task_programs.specs.Limits.{max_ticks}
 use Rattle.task_programs.specs.Workloads.{IsCheckedWorkload}
+use Rattle.workload_runs.specs.Ends.{ends_in, ends_of}
 use Rattle.workload_runs.specs.Laws.{EachRun}
-use Rattle.workload_runs.specs.Rule.{next_step, AreNext, IsRunFrom, IsTooLong}
-use Rattle.workload_runs.specs.Situations.{Situation, after, after_steps, first_situation, span_of, units_in}
+use Rattle.workload_runs.specs.Rule.{next_step, AreNext, IsRunFrom}
+use Rattle.workload_runs.specs.Situations.{Situation, after, after_steps, first_situation, situation_at, span_of, units_in}
 use Rattle.workload_runs.proofs.Clocks.{no_fewer}
 use Rattle.workload_runs.proofs.Keeps.{next_checked}
 use Rattle.workload_runs.proofs.Workloads.{units_fit, workload_sound}
 use Rattle.simulating.specs.declared.simulation.Simulation.{Simulation}
+use Rattle.simulating.specs.Callers.{lone_caller, IsTooLongBy}
 use Rattle.simulating.specs.Progress.{Keeps, MayGoBy}
 use Rattle.simulating.specs.Simulations.{now_in, IsAt}
 use Rattle.simulating.proofs.Here.{kept, many_programs, many_tasks}
@@ -130,12 +132,32 @@ module _ (workload : Workload) (old : Simulation) (here : IsAt workload old) whe
           room = omega (arith, ap length made, length-append old.steps.items (step ∷ []), room);
         }
 
-    pub too_long : max_steps ≤ length old.steps.items → IsTooLong workload
-    too_long long = record {
-      beginning = old.steps.items ++ step ∷ [];
-      next = are_more old.steps.items workload (first_situation workload) step here.next next;
-      longer = omega (arith, long, length-append old.steps.items (step ∷ []));
-    }
+    -- where the steps fill a session the run is too long
+    pub too_long : max_steps ≤ length old.steps.items → (caller : Option ℕ) → caller ≡ lone_caller old.steps.items → IsTooLongBy workload caller
+    too_long long caller lone =
+        let made = old.steps.items in
+        let first : take max_steps (made ++ step ∷ []) ≡ made =
+        take-append-le max_steps made (step ∷ []) long ∙ take_all max_steps made here.room in
+        record {
+          long = record {
+            beginning = made ++ step ∷ [];
+            next = are_more made workload (first_situation workload) step here.next next;
+            longer = omega (arith, long, length-append made (step ∷ []));
+          };
+          lone = lone ∙ sym (ap lone_caller first);
+        }
+
+-- ---- the end
+
+-- how far the run has come behind all its steps
+at_last : (workload : Workload) (run : List Step) → after_steps workload (first_situation workload) run ≡ situation_at workload run (length run)
+unfolding situation_at
+at_last workload run = sym (ap (after_steps workload (first_situation workload)) (take_all (length run) run (omega arith)))
+
+pub ends_there : (workload : Workload) (simulation : Simulation) (ends : List Bool) → ends ≡ ends_in workload (now_in workload simulation)
+    → (steps : List Step) → steps ≡ simulation.steps.items → ends ≡ ends_of workload steps
+ends_there workload simulation ends found steps same =
+    found ∙ ap (ends_in workload) (at_last workload simulation.steps.items) ∙ sym (ap (ends_of workload) same)
 
 -- ---- the count of the meter
 

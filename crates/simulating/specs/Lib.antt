@@ -1,2 +1,5 @@
+pub mod Callers
+pub mod Notes
 pub mod Progress
+pub mod Simulated
 pub mod Simulations

@@ -1,5 +1,5 @@
 -- What the run of a workload keeps beside the kernel, and how a step changes it.
-use Rattle.std.specs.Prelude.{◌≡◌, ◌≤◌, ◌<◌, ◌+◌, ◌^◌, ℕ, List, length, find, map, Option, None, [], option_and_then, slice_get, slice_index_or, slice_set, if◌then◌else◌, ⊤}
+use Rattle.std.specs.Prelude.{◌≡◌, ◌≤◌, ◌<◌, ◌+◌, ◌^◌, ℕ, Bool, List, length, find, map, Option, None, [], option_and_then, slice_get, slice_index_or, slice_set, if◌then◌else◌, ⊤}
 use Rattle.std.specs.Option.{option_map_or}
 use Rattle.bench_types.specs.declared.reply.Reply.{Reply}
 use Rattle.bench_types.specs.declared.step.Call.{Call}
@@ -13,6 +13,7 @@ use Rattle.task_programs.specs.declared.instruction.Instruction.{Instruction}
 use Rattle.task_programs.specs.declared.workload.Interrupt.{Interrupt}
 use Rattle.task_programs.specs.declared.workload.Workload.{Workload}
 use Rattle.workload_runs.specs.Courses.{answered, worked, Course}
+use Rattle.workload_runs.specs.Ends.{is_at_end}
 use Rattle.workload_runs.specs.Situations.{Situation, after, course_at, first_situation, has_come, is_working, next_arrival, program_at}
 use Rattle.simulating.specs.declared.progress.Progress.{Progress}
 
@@ -34,6 +35,12 @@ courses_worked table programs units courses =
     map (λ user. if is_working table (table.settings.cores + user)
     then worked (slice_index_or programs user []) units (course_at courses user)
     else course_at courses user)
+    (numbers (length courses))
+
+-- of each user task whether it is at the end of its program
+abbrev pub ends_at : List (List Instruction) → List Course → List Bool
+ends_at programs courses =
+    map (λ user. is_at_end (slice_index_or programs user []) (course_at courses user))
     (numbers (length courses))
 
 -- it keeps what is known of where the run stands

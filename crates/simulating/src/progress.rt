@@ -1,11 +1,12 @@
 //! What the run of a workload keeps beside the kernel.
-ghost use Rattle.std.specs.Prelude.{◌≡◌, ◌<◌, ◌≤◌, ◌+◌, ◌-◌, ◌^◌, ◌==◌, IfOk, IfSome, OnOk, length, map, option_and_then, slice_get, if◌then◌else◌};
+ghost use Rattle.std.specs.Prelude.{[], ◌≡◌, ◌<◌, ◌≤◌, ◌+◌, ◌-◌, ◌^◌, ◌==◌, IfOk, IfSome, OnOk, length, map, option_and_then, slice_get, slice_index_or, if◌then◌else◌};
 ghost use Rattle.bench_model.specs.Equal.{StandsFor};
 ghost use Rattle.bench_model.specs.Table.{Table};
 ghost use Rattle.task_programs.specs.Workloads.{is_interrupt};
 ghost use Rattle.workload_runs.specs.Courses.{first_course};
+ghost use Rattle.workload_runs.specs.Ends.{is_at_end};
 ghost use Rattle.workload_runs.specs.Situations.{before_end, has_come, is_working, next_arrival, span_of, ticks_after};
-ghost use Rattle.simulating.specs.Progress.{arrived, courses_worked, due_at, IsAnswered, IsAtStart, IsGone, MayGoBy};
+ghost use Rattle.simulating.specs.Progress.{arrived, courses_worked, due_at, ends_at, IsAnswered, IsAtStart, IsGone, MayGoBy};
 
 use bench_types::{Call, Reply, Step};
 use smp_kernel::Kernel;
@@ -65,6 +66,31 @@ fn first_arrivals(
         arrivals.push(before_end(end, interrupt.at))?;
     }
     Ok(arrivals)
+}
+
+// Whether the user task is at the end of its program.
+fn end_of(programs: &[Program], course: &Course, user: usize) -> bool
+    ensures { result ≡ is_at_end (slice_index_or programs.now user []) course.now }
+{
+    match programs.get(user) {
+        Some(program) => course.is_at_end(program.as_slice()),
+        None => true,
+    }
+}
+
+/// Of each user task whether it is at the end of its program.
+pub(crate) fn ends_at(
+    alloc: Global,
+    programs: &[Program],
+    courses: &[Course],
+) -> Result<Vec<bool>, AllocError>
+    ensures { IfOk result (λ ends. ends.items ≡ ends_at programs.now courses.now) }
+{
+    let mut ends = Vec::with_capacity(alloc, courses.len())?;
+    for user in 0..courses.len() {
+        ends.push(end_of(programs, &courses[user], user))?;
+    }
+    Ok(ends)
 }
 
 /// Whether the task is on a core and has no unfinished call.

@@ -1,11 +1,13 @@
 //! The run of a workload.
-ghost use Rattle.std.specs.Prelude.{◌≡◌, [], IfOk, OnErr, Err, length};
+ghost use Rattle.std.specs.Prelude.{◌≡◌, ℕ, Option, IfOk, OnErr, Err, length};
 ghost use Rattle.bench_types.specs.Limits.{max_steps};
-ghost use Rattle.settled_runs.specs.Settled.{IsSettled};
 ghost use Rattle.smp_kernel.specs.Counting.{meter_after, CountsUpTo};
-ghost use Rattle.workload_runs.specs.Properties.{CallsAreInOrder, CallsAreThoseOfPrograms, InterruptsComeInTime, RunEndsBehindItsLastTick, TimeGoesByTicks};
-ghost use Rattle.workload_runs.specs.Rule.{IsRunOf, IsTooLong};
+ghost use Rattle.workload_runs.specs.Ends.{ends_of};
+ghost use Rattle.workload_runs.specs.Properties.{CallsAreInOrder, CallsAreThoseOfPrograms, InterruptsComeInTime, RunEndsBehindItsLastTick, RunIsSettled, TimeGoesByTicks};
+ghost use Rattle.workload_runs.specs.Rule.{IsRunOf};
+ghost use Rattle.simulating.specs.Callers.{IsTooLongBy};
 
+use crate::simulated::Simulated;
 use crate::simulation::Simulation;
 use bench_types::CheckedSession;
 use smp_kernel::Meter;
@@ -18,7 +20,10 @@ use thiserror::Error;
 pub enum SimulateFault {
     /// J2: the run has more than [`MAX_STEPS`](bench_types::MAX_STEPS) steps.
     #[error("the run of the workload is too long")]
-    TooManySteps,
+    TooManySteps {
+        /// The task that makes each of the last 1000 calls of so many steps, if it is one alone.
+        caller: Option<u32>,
+    },
     /// The allocator had no memory left.
     #[error("out of memory")]
     NoMemory,
@@ -35,43 +40,50 @@ impl From<AllocError> for SimulateFault {
     }
 }
 
-/// The session that the programs and the interrupts of the workload make. The meter counts its
-/// steps.
+/// The run that the programs and the interrupts of the workload make. The meter counts its steps.
 pub fn simulate(
     alloc: Global,
     workload: &CheckedWorkload,
     meter: &mut Meter,
-) -> Result<CheckedSession, SimulateFault>
-    ensures header { IfOk result (λ session. session.header ≡ workload.now.header) }
-    ensures run { IfOk result (λ session. IsRunOf workload.now session.steps) }
+) -> Result<Simulated, SimulateFault>
+    ensures header { IfOk result
+        (λ simulated. simulated.session.header ≡ workload.now.header) }
+    ensures run { IfOk result (λ simulated. IsRunOf workload.now simulated.session.steps) }
     // Settling the run changes nothing.
     ensures settled { IfOk result
-        (λ session. IsSettled session.header session.steps session.steps []) }
+        (λ simulated. RunIsSettled workload.now simulated.session.steps) }
     // Each call is the one that the program of its task has there, and none is late.
     ensures programs { IfOk result
-        (λ session. CallsAreThoseOfPrograms workload.now session.steps) }
-    ensures calls { IfOk result (λ session. CallsAreInOrder workload.now session.steps) }
+        (λ simulated. CallsAreThoseOfPrograms workload.now simulated.session.steps) }
+    ensures calls { IfOk result
+        (λ simulated. CallsAreInOrder workload.now simulated.session.steps) }
     // Ticks end on time, and passes where something does.
-    ensures time { IfOk result (λ session. TimeGoesByTicks workload.now session.steps) }
+    ensures time { IfOk result
+        (λ simulated. TimeGoesByTicks workload.now simulated.session.steps) }
     // Interrupts come at their times, and none is missed.
     ensures interrupts { IfOk result
-        (λ session. InterruptsComeInTime workload.now session.steps) }
+        (λ simulated. InterruptsComeInTime workload.now simulated.session.steps) }
     // The run ends behind its last tick, when nothing is left to do.
     ensures end { IfOk result
-        (λ session. RunEndsBehindItsLastTick workload.now session.steps) }
-    ensures long { result ≡ Err SimulateFault.TooManySteps → IsTooLong workload.now }
+        (λ simulated. RunEndsBehindItsLastTick workload.now simulated.session.steps) }
+    ensures at_end { IfOk result
+        (λ simulated. simulated.at_end ≡ ends_of workload.now simulated.session.steps) }
+    ensures long { (caller : Option ℕ) → result ≡ Err (SimulateFault.TooManySteps caller)
+        → IsTooLongBy workload.now caller }
     ensures counted { IfOk result
-        (λ session. meter.new ≡ meter_after (length session.steps) meter.old) }
+        (λ simulated. meter.new ≡ meter_after (length simulated.session.steps) meter.old) }
     ensures some { OnErr result (CountsUpTo max_steps meter.old meter.new) }
 {
     let mut simulation = Simulation::start(alloc, workload)?;
     while let Some(step) = simulation.next_step(workload) {
+        simulation.check_room(alloc)?;
         simulation.make(workload, step, meter)?;
     }
+    let at_end = simulation.ends(alloc, workload)?;
     let header = workload.header().copy(alloc)?;
     let Simulation { steps, .. } = simulation;
     match CheckedSession::new(header, steps) {
-        Some(session) => Ok(session),
-        None => Err(SimulateFault::TooManySteps),
+        Some(session) => Ok(Simulated { session, at_end }),
+        None => Err(SimulateFault::TooManySteps { caller: None }),
     }
 }

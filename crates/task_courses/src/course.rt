@@ -1,6 +1,7 @@
 //! How far a task has come in its program.
 ghost use Rattle.std.specs.Prelude.{◌≡◌, ◌+◌, ◌-◌, ◌<◌, ◌^◌, IfOk, OnOk, length, slice_get, slice_index_or};
 ghost use Rattle.bench_model.specs.Until.{next_wake};
+ghost use Rattle.workload_runs.specs.Ends.{is_at_end};
 ghost use Rattle.workload_runs.specs.Courses.{answered, behind_work, call_made, first_course, gone_on, index_behind, is_affirmative, is_blocked, next_call, next_turn, returned, turn_at, units_next, units_of, wake_after, work_done, worked};
 
 use crate::position::Position;
@@ -99,6 +100,13 @@ impl Course {
         ensures { result ≡ self.now.left }
     {
         self.left
+    }
+
+    /// Whether the task is at the end of its program: behind the last instruction.
+    pub fn is_at_end(&self, program: &[Instruction]) -> bool
+        ensures { result ≡ is_at_end program.now self.now }
+    {
+        program.len() <= self.position.index
     }
 
     /// The call that the task makes next; none where it has work to do before.

@@ -1,4 +1,5 @@
 pub mod Courses
+pub mod Ends
 pub mod Laws
 pub mod Properties
 pub mod Rule

@@ -138,7 +138,7 @@ abbrev pub times_come : Workload → List Step → ℕ → ℕ → ℕ
 times_come workload run index place =
     count_by (is_its_place workload run index) (numbers place)
 
--- when an interrupt comes that has come so often: first at `at`, then again after each `every` units
+-- when an interrupt comes that has come so often: first at `at`, then again each `every` units
 abbrev pub time_after : Interrupt → ℕ → Option ℕ
 time_after interrupt came =
     if came == 0 then Some interrupt.at

@@ -4,6 +4,8 @@
 #[cfg(test)]
 mod faults;
 #[cfg(test)]
+mod notes;
+#[cfg(test)]
 mod programs;
 #[cfg(test)]
 mod runs;

@@ -126,11 +126,13 @@ fn check_run(
     meter: &mut Meter,
     text: &str,
     steps: &[Step],
+    at_end: &[bool],
 ) -> Result<(), Fail> {
     match read_workload(alloc, text.as_bytes()) {
         Ok(workload) => {
-            let session = simulate(alloc, &workload, meter)?;
-            assert_eq!(rt; session.steps(), steps);
+            let simulated = simulate(alloc, &workload, meter)?;
+            assert_eq!(rt; simulated.session.steps(), steps);
+            assert_eq!(rt; simulated.at_end.as_slice(), at_end);
             assert_eq!(rt; meter.count(), steps.len() as u64);
         }
         Err(fault) => assert!(rt; false, "{}", fault.path.as_str()),
@@ -147,6 +149,7 @@ fn works_in_turn_and_an_interrupt_within_a_tick(rt: HostRuntime) -> Result<(), F
         &mut Meter::new(&rt),
         text.as_str(),
         &period_run(),
+        &[false, true],
     )
 }
 
@@ -159,18 +162,44 @@ fn branches_and_an_interrupt_that_comes_again(rt: HostRuntime) -> Result<(), Fai
         &mut Meter::new(&rt),
         text.as_str(),
         &branches_run(),
+        &[true, true],
     )
+}
+
+/// The run of the text is too long, and the task alone makes its last calls.
+fn check_too_long(
+    rt: &impl Abort,
+    alloc: Global,
+    meter: &mut Meter,
+    text: &str,
+    lone: Option<u32>,
+) {
+    match read_workload(alloc, text.as_bytes()) {
+        Ok(workload) => match simulate(alloc, &workload, meter) {
+            Err(SimulateFault::TooManySteps { caller }) => assert_eq!(rt; caller, lone),
+            _ => assert!(rt; false),
+        },
+        Err(_) => assert!(rt; false),
+    }
 }
 
 #[test]
 fn calls_without_end(rt: HostRuntime) -> Result<(), Fail> {
     let text = workload(rt.alloc(), "{\"forever\":[{\"do\":\"yield\"}]}", "", "1")?;
-    match read_workload(rt.alloc(), text.as_bytes()) {
-        Ok(workload) => {
-            let made = simulate(rt.alloc(), &workload, &mut Meter::new(&rt));
-            assert!(&rt; matches!(made, Err(SimulateFault::TooManySteps)));
-        }
-        Err(_) => assert!(&rt; false),
-    }
+    check_too_long(
+        &rt,
+        rt.alloc(),
+        &mut Meter::new(&rt),
+        text.as_str(),
+        Some(CONTROL),
+    );
+    Ok(())
+}
+
+/// Both tasks suspend themselves at once, and then two steps a tick come, and no call.
+#[test]
+fn ticks_without_calls(rt: HostRuntime) -> Result<(), Fail> {
+    let text = workload(rt.alloc(), "", "", "1000000")?;
+    check_too_long(&rt, rt.alloc(), &mut Meter::new(&rt), text.as_str(), None);
     Ok(())
 }

@@ -1,22 +1,22 @@
-use Rattle.std.proofs.Common.{◌∙◌, [], ap, length, subst, sym}
+use Rattle.std.proofs.Common.{◌∙◌, ap, length, subst, sym}
 use Rattle.bench_types.specs.Session.{Session}
 use Rattle.workload_runs.specs.Rule.{IsRunOf}
 use Rattle.workload_runs.specs.Situations.{first_situation}
-use Rattle.settled_runs.specs.Settled.{IsSettled}
 use Rattle.settling.proofs.Counted.{on_err}
-use Rattle.workload_runs.specs.Properties.{CallsAreInOrder, CallsAreThoseOfPrograms, InterruptsComeInTime, RunEndsBehindItsLastTick, TimeGoesByTicks}
+use Rattle.workload_runs.specs.Properties.{CallsAreInOrder, CallsAreThoseOfPrograms, InterruptsComeInTime, RunEndsBehindItsLastTick, RunIsSettled, TimeGoesByTicks}
 use Rattle.workload_runs.proofs.Arrivals.{interrupts_come_in_time}
 use Rattle.workload_runs.proofs.CallLaws.{calls_are_in_order, calls_are_those_of_programs}
 use Rattle.workload_runs.proofs.Settles.{run_is_settled}
 use Rattle.workload_runs.proofs.TimeLaws.{run_ends_behind_its_last_tick, time_goes_by_ticks}
-use Rattle.simulating.proofs.Making.{counted_on, each_made, run_ends, too_long}
+use Rattle.simulating.proofs.Making.{counted_on, each_made, ends_there, run_ends, too_long}
 use Rattle.simulating.proofs.run.simulate.Goals as goal
 
-pub returns-in_err-make-clause-long : goal.returns-in_err-make-clause-long
-returns-in_err-make-clause-long c known =
-    let given = rw known at c.from_residual-in_err-make.ensures.1 in
+pub returns-in_err-check_room-clause-long : goal.returns-in_err-check_room-clause-long
+returns-in_err-check_room-clause-long c caller known =
+    let given = rw known at c.from_residual-in_err-check_room.ensures.1 in
     let next = sym c.next_step.ensures ∙ c.in-Some.is in
-    too_long c.args.workload.now c.loop-step.simulation c.loop-step.invariant.here c.in-Some.step next (c.in_err-make.ensures.full (cc (given)))
+    let full = c.in_err-check_room.ensures.full caller (cc (given)) in
+    too_long c.args.workload.now c.loop-step.simulation c.loop-step.invariant.here c.in-Some.step next full.0 caller full.1
 
 pub returns-in-Some-new-clause-run : goal.returns-in-Some-new-clause-run
 returns-in-Some-new-clause-run c =
@@ -27,14 +27,13 @@ returns-in-Some-new-clause-run c =
 
 pub returns-in-Some-new-clause-settled : goal.returns-in-Some-new-clause-settled
 returns-in-Some-new-clause-settled c =
-    let workload = c.args.workload.now in
-    let self = c.loop-step.simulation in
-    let here = c.loop-step.invariant.here in
-    let run = run_ends self.steps.items workload (first_situation workload) here.next (sym c.next_step.ensures ∙ c.in_default.is) in
-    let settled = run_is_settled workload self.steps.items here.checked run in
-    let header = c.in_ok-header.ensures ∙ c.header.ensures.header in
-    let same = c.in-Some-new.ensures.session in
-    rw (ap (λ (session : Session). session.header) same ∙ header, ap (λ (session : Session). session.steps) same) settled
+    each_made RunIsSettled run_is_settled c.args.workload.now c.loop-step.simulation c.loop-step.invariant.here
+    (sym c.next_step.ensures ∙ c.in_default.is) _ (ap (λ (session : Session). session.steps) c.in-Some-new.ensures.session)
+
+pub returns-in-Some-new-clause-at_end : goal.returns-in-Some-new-clause-at_end
+returns-in-Some-new-clause-at_end c =
+    ends_there c.args.workload.now c.loop-step.simulation _ c.in_ok-at_end.ensures _
+    (ap (λ (session : Session). session.steps) c.in-Some-new.ensures.session)
 
 pub returns-in-Some-new-clause-programs : goal.returns-in-Some-new-clause-programs
 returns-in-Some-new-clause-programs c =

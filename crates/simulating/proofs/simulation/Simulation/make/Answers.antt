@@ -49,7 +49,7 @@ returns-clause-made c =
     let here = c.requires.here in
     let now = now_in workload old in
     let step = c.args.step in
-    let room : length old.steps.items < max_steps = omega (arith, c.if-len.false, c.len.ensures) in
+    let room : length old.steps.items < max_steps = c.requires.room in
     elim c.match-step.branch [
       | in-Call+in_ok-answer-in-Call w ↦
           let items = rw (w.self-is, w.step-is) at c.push_reserved.ensures.items in
@@ -71,4 +71,4 @@ returns-clause-made c =
 
 pub returns-in_err-answer-in-Call-clause-some : goal.returns-in_err-answer-in-Call-clause-some
 returns-in_err-answer-in-Call-clause-some c =
-    on_err c.from_residual-in_err-answer-in-Call.result (1, omega (arith, c.if-len.false, c.len.ensures), c.step-reply.ensures.meter)
+    on_err c.from_residual-in_err-answer-in-Call.result (1, omega (arith, c.requires.room), c.step-reply.ensures.meter)

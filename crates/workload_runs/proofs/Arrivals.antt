@@ -16,17 +16,16 @@ use Rattle.task_programs.specs.declared.workload.Interrupt.{Interrupt}
 use Rattle.task_programs.specs.declared.workload.Workload.{Workload}
 use Rattle.task_programs.specs.Workloads.{is_interrupt, IsCheckedWorkload}
 use Rattle.workload_runs.specs.Laws.{EachRun}
-use Rattle.workload_runs.specs.Properties.{is_its_place, time_after, times_come, InterruptsComeAgain, InterruptsComeInTime}
+use Rattle.workload_runs.specs.Properties.{is_its_place, time_after, times_come, InterruptsComeAgain}
 use Rattle.workload_runs.specs.Rule.{IsRunOf}
 use Rattle.workload_runs.specs.Situations.{Situation, after, arrivals_after, arrivals_without, before_end, due_interrupt, first_situation, next_arrival, situation_at, span_of}
 use Rattle.workload_runs.proofs.Places.{behind, keeps_there}
-use Rattle.workload_runs.proofs.TimeLaws.{interrupts_are_on_time, no_interrupt_is_missed}
 use Rattle.workload_runs.proofs.Times.{due_now, first_due}
 
 -- ---- one time and the next
 
 -- one that comes again has come at `at`, and so often each `every` units
-repeated : (at came every : ℕ) → cond (eqb came 0) (Some at) (Some (at + came * every)) ≡ Some (at + came * every)
+pub repeated : (at came every : ℕ) → cond (eqb came 0) (Some at) (Some (at + came * every)) ≡ Some (at + came * every)
 repeated at zero every = ap Some (omega arith)
 repeated at (suc came) every = let test : eqb (suc came) 0 ≡ false = grind (arith, nat_tests) in ap (λ b. cond b (Some at) (Some (at + suc came * every))) test
 
@@ -54,13 +53,13 @@ next_time end time came interrupt comes = every interrupt.every comes
 
 module _ (workload : Workload) (run : List Step) (checked : IsCheckedWorkload workload) (is : IsRunOf workload run) where
   module _ (index : ℕ) (interrupt : Interrupt) (stands : slice_get workload.interrupts index ≡ Some interrupt) where
-    abbrev after_so_many : ℕ → Option ℕ
+    abbrev pub after_so_many : ℕ → Option ℕ
     after_so_many came = option_and_then (before_end (span_of workload)) (time_after interrupt came)
 
-    abbrev IsDue : ℕ → Type 0
+    abbrev pub IsDue : ℕ → Type 0
     IsDue place = get_or (situation_at workload run place).arrivals index None ≡ after_so_many (times_come workload run index place)
 
-    times_more : (place : ℕ)
+    pub times_more : (place : ℕ)
         → times_come workload run index (place + 1) ≡ times_come workload run index place + cond (is_its_place workload run index place) 1 0
     times_more place =
         let Comes = is_its_place workload run index in
@@ -68,7 +67,7 @@ module _ (workload : Workload) (run : List Step) (checked : IsCheckedWorkload wo
         ap (count_by Comes) (numbers_more place) ∙ sum_by-append (λ place. cond (Comes place) 1 0) (numbers place) (place ∷ []) in
         parts ∙ omega arith
 
-    inside : index < length workload.interrupts
+    pub inside : index < length workload.interrupts
     inside = slice_get_within workload.interrupts index interrupt stands
 
     at_first : IsDue 0
@@ -103,21 +102,26 @@ module _ (workload : Workload) (run : List Step) (checked : IsCheckedWorkload wo
           ∙ ap after_so_many (omega arith) ∙ sym (ap (λ b. after_so_many (came + cond b 1 0)) test)
     ]
 
+    pub due_arrives : (place : ℕ) → due_interrupt (situation_at workload run place) ≡ Some index
+        → get_or (situation_at workload run place).arrivals index None ≡ Some (situation_at workload run place).time
+    due_arrives place due =
+        let now = situation_at workload run place in
+        let clock = (keeps_there workload run is checked place).clock in
+        due_now workload now index (first_due workload now index due).passes (λ at arrives. (clock.comes index at arrives).0)
+
     step_on : (place : ℕ) (step : Step) → slice_get run place ≡ Some step → IsDue place → IsDue (place + 1)
     unfolding after arrivals_after
     step_on place step there here =
         let now = situation_at workload run place in
         let clock = (keeps_there workload run is checked place).clock in
         let came = times_come workload run index place in
-        let arrives : due_interrupt now ≡ Some index → get_or now.arrivals index None ≡ Some now.time =
-        λ due. due_now workload now index (first_due workload now index due).passes (λ at arrives. (clock.comes index at arrives).0) in
         let own : is_its_place workload run index place ≡ (is_interrupt step && option_map_or (λ due. eqb due index) (due_interrupt now) false) =
         ap (λ found. option_map_or is_interrupt found false && option_map_or (λ due. eqb due index) (due_interrupt now) false) there in
         ap (λ (now : Situation). get_or now.arrivals index None) (behind workload run is place step there)
-        ∙ moved now came (is_interrupt step) (due_interrupt now) clock.interrupts arrives here
+        ∙ moved now came (is_interrupt step) (due_interrupt now) clock.interrupts (due_arrives place) here
         ∙ sym (ap after_so_many (times_more place ∙ ap (λ b. came + cond b 1 0) own))
 
-    all_due : (place : ℕ) → place ≤ length run → IsDue place
+    pub all_due : (place : ℕ) → place ≤ length run → IsDue place
     all_due zero within = at_first
     all_due (suc place) within =
         let there = slice_get-get_or run place Tick (omega (arith, within)) in
@@ -125,10 +129,3 @@ module _ (workload : Workload) (run : List Step) (checked : IsCheckedWorkload wo
 
 pub interrupts_come_again : EachRun InterruptsComeAgain
 interrupts_come_again workload run checked is place index interrupt within stands = all_due workload run checked is index interrupt stands place within
-
-pub interrupts_come_in_time : EachRun InterruptsComeInTime
-interrupts_come_in_time workload run checked is = record {
-  on_time = interrupts_are_on_time workload run checked is;
-  none_missed = no_interrupt_is_missed workload run checked is;
-  again = interrupts_come_again workload run checked is;
-}

@@ -1,6 +1,7 @@
 pub mod Arrivals
 pub mod CallLaws
 pub mod Clocks
+pub mod Comings
 pub mod Going
 pub mod Keeps
 pub mod Origins

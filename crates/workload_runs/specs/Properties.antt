@@ -1,5 +1,5 @@
 -- What holds of the run of a workload that passed its checks.
-use Rattle.std.specs.Prelude.{◌≡◌, ◌≢◌, ◌⊎◌, ℕ, ◌+◌, ◌-◌, ◌*◌, ◌<◌, ◌≤◌, Bool, true, false, ◌==◌, ◌&&◌, List, [], length, All, Contains, count_by, slice_get, slice_index_or, Option, Some, None, option_map, option_and_then, if◌then◌else◌}
+use Rattle.std.specs.Prelude.{◌≡◌, ◌≢◌, ◌⊎◌, ◌↔◌, ℕ, ◌+◌, ◌-◌, ◌*◌, ◌<◌, ◌≤◌, Bool, true, false, ◌==◌, ◌&&◌, List, [], length, All, Contains, count_by, slice_get, slice_index_or, Option, Some, None, option_map, option_and_then, if◌then◌else◌}
 use Rattle.std.specs.Option.{option_map_or}
 use Rattle.bench_types.specs.declared.step.Step.{Step}
 use Rattle.bench_types.specs.declared.step.Step.TheVariants.{Tick, Pass}
@@ -153,11 +153,27 @@ InterruptsComeAgain workload run =
     ≡ option_and_then (before_end (span_of workload))
     (time_after interrupt (times_come workload run index place))
 
+-- that interrupt of the workload comes at the time
+pub record ComesAt (workload : Workload) (run : List Step) (index time : ℕ) : Type 0 where
+  pub place : ℕ
+  pub within : place < length run
+  pub comes : is_its_place workload run index place ≡ true
+  pub on_time : (situation_at workload run place).time ≡ time
+
+-- each interrupt comes just at those of its times that are before the end
+abbrev pub InterruptsComeAtTheirTimes : Workload → List Step → Type 0
+InterruptsComeAtTheirTimes workload run =
+    (index time : ℕ) (interrupt : Interrupt)
+    → slice_get workload.interrupts index ≡ Some interrupt →
+    (ComesAt workload run index time ↔ (time < span_of workload)
+    × ((came : ℕ) × (time_after interrupt came ≡ Some time)))
+
 -- each interrupt comes at its times, and at no others
 pub record InterruptsComeInTime (workload : Workload) (run : List Step) : Type 0 where
   pub on_time : InterruptsAreOnTime workload run
   pub none_missed : NoInterruptIsMissed workload run
   pub again : InterruptsComeAgain workload run
+  pub at_their_times : InterruptsComeAtTheirTimes workload run
 
 -- ---- the end
 

@@ -3,7 +3,7 @@
 #![tactic(auto)]
 
 ghost use Rattle.workload_runs.specs.Laws.{BeginningsAreInTime, EachRun, KernelsAreThoseOfSteps, NextCallsAreChecked, NextIsChecked, RunIsOne, StepsAreNext, ThereIsARun, TooLongIsLonger};
-ghost use Rattle.workload_runs.specs.Properties.{CallsAreThoseOfPrograms, CallsComeAtOnce, FullTicksEnd, InterruptsAreOnTime, InterruptsComeAgain, LeastCoreCallsFirst, NoInterruptIsMissed, PassesEndWhereSomethingDoes, RunEndsBehindItsLastTick, RunIsSettled, StepsAreChecked, TicksAreOnTime};
+ghost use Rattle.workload_runs.specs.Properties.{CallsAreThoseOfPrograms, CallsComeAtOnce, FullTicksEnd, InterruptsAreOnTime, InterruptsComeAgain, InterruptsComeAtTheirTimes, LeastCoreCallsFirst, NoInterruptIsMissed, PassesEndWhereSomethingDoes, RunEndsBehindItsLastTick, RunIsSettled, StepsAreChecked, TicksAreOnTime};
 
 /// The run of a workload: there is one, and one alone.
 pub fn laws_of_workload_runs()
@@ -45,6 +45,7 @@ pub fn laws_of_workload_times()
     ensures no_interrupt_is_missed { EachRun NoInterruptIsMissed }
     // Its times are `at` and then each `every` units, as far as they are before the end.
     ensures interrupts_come_again { EachRun InterruptsComeAgain }
+    ensures interrupts_come_at_their_times { EachRun InterruptsComeAtTheirTimes }
     // A pass ends where a tick or a work ends, or an interrupt comes, and nowhere else.
     ensures passes_end_where_something_does { EachRun PassesEndWhereSomethingDoes }
     // The run ends behind its last tick, when nothing is left to do.

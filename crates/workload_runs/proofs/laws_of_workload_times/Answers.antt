@@ -1,4 +1,5 @@
 use Rattle.workload_runs.proofs.Arrivals.{interrupts_come_again}
+use Rattle.workload_runs.proofs.Comings.{interrupts_come_at_their_times}
 use Rattle.workload_runs.proofs.Keeps.{beginnings_are_in_time}
 use Rattle.workload_runs.proofs.TimeLaws.{full_ticks_end, interrupts_are_on_time, no_interrupt_is_missed, passes_end_where_something_does, run_ends_behind_its_last_tick, ticks_are_on_time}
 use Rattle.workload_runs.proofs.laws_of_workload_times.Goals as goal
@@ -26,3 +27,6 @@ returns-clause-run_ends_behind_its_last_tick c = run_ends_behind_its_last_tick
 
 pub returns-clause-interrupts_come_again : goal.returns-clause-interrupts_come_again
 returns-clause-interrupts_come_again c = interrupts_come_again
+
+pub returns-clause-interrupts_come_at_their_times : goal.returns-clause-interrupts_come_at_their_times
+returns-clause-interrupts_come_at_their_times c = interrupts_come_at_their_times

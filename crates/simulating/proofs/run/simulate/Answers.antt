@@ -4,7 +4,7 @@ use Rattle.workload_runs.specs.Rule.{IsRunOf}
 use Rattle.workload_runs.specs.Situations.{first_situation}
 use Rattle.settling.proofs.Counted.{on_err}
 use Rattle.workload_runs.specs.Properties.{CallsAreInOrder, CallsAreThoseOfPrograms, InterruptsComeInTime, RunEndsBehindItsLastTick, RunIsSettled, TimeGoesByTicks}
-use Rattle.workload_runs.proofs.Arrivals.{interrupts_come_in_time}
+use Rattle.workload_runs.proofs.Comings.{interrupts_come_in_time}
 use Rattle.workload_runs.proofs.CallLaws.{calls_are_in_order, calls_are_those_of_programs}
 use Rattle.workload_runs.proofs.Settles.{run_is_settled}
 use Rattle.workload_runs.proofs.TimeLaws.{run_ends_behind_its_last_tick, time_goes_by_ticks}

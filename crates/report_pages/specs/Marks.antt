@@ -1,9 +1,10 @@
 -- Which marks of HTML stand in a report.
-use Rattle.std.specs.Prelude.{◌≡◌, ℕ, List, [], ◌∷◌, true, decimal, flat_map, All, Contains}
+use Rattle.std.specs.Prelude.{◌≡◌, ℕ, List, [], ◌∷◌, ◌++◌, true, decimal, flat_map, All, Contains}
 use Rattle.bench_types.specs.declared.header.Header.{Header}
 use Rattle.run_pictures.specs.Escape.{escaped}
-use Rattle.run_pages.specs.Marks.{has_no_mark}
-use Rattle.run_pages.specs.Page.{Piece, fixed, told, number, drawn}
+use Rattle.run_pages.specs.Marks.{fixed_texts, has_no_mark}
+use Rattle.run_pages.specs.Page.{page_text, pieces_text, Piece, fixed, told, number, drawn}
+use Rattle.run_pages.specs.Shown.{Shown}
 use Rattle.report_pages.specs.declared.texts.TheConstants.{ALL, ALL_END, CELL, CELL_BAR, CELL_END, COLON, CORE, CORE_END, COUNT, COUNT_BAR, COUNT_END, HEADS, HEADS_END}
 use Rattle.report_pages.specs.declared.texts.TheConstants.{INTERVAL, INTERVAL_END, JOBS, JOBS_END, LOAD, LOAD_END, NUMBERS, NUMBERS_END, POINT, TABLE, TABLE_END, TO}
 use Rattle.report_pages.specs.Report.{run_pieces, runs_pieces}
@@ -24,7 +25,26 @@ IsPlain (told words) = has_no_mark (flat_map escaped words) ≡ true
 IsPlain (number value) = has_no_mark (decimal value) ≡ true
 IsPlain (drawn picture) = ⊥
 
--- so are all pieces of a report, and of one of two runs
+-- a piece is the same in all pages or reports, or the picture, or has no mark of HTML
+abbrev pub IsPlainIn : List ℕ → Piece → Type 0
+IsPlainIn picture (fixed text) = Contains (fixed_texts ++ report_texts) text
+IsPlainIn picture (told words) = has_no_mark (flat_map escaped words) ≡ true
+IsPlainIn picture (number value) = has_no_mark (decimal value) ≡ true
+IsPlainIn picture (drawn part) = part ≡ picture
+
+-- the text is made of such pieces
+pub record IsMadeOfPlain (picture text : List ℕ) : Type 0 where
+  pub pieces : List Piece
+  pub plain : All (IsPlainIn picture) pieces
+  pub is : text ≡ pieces_text pieces
+
+-- so is a whole page whose report is the text of plain pieces
+abbrev pub PageIsPlain : Type 0
+PageIsPlain =
+    (shown : Shown) (report : List Piece) → All IsPlain report
+    → shown.report ≡ pieces_text report → IsMadeOfPlain shown.picture (page_text shown)
+
+-- all pieces of a report are plain, and those of one of two runs
 abbrev pub RunIsPlain : Type 0
 RunIsPlain = (header : Header) (run : Told) → All IsPlain (run_pieces header run)
 

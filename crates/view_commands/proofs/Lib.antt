@@ -8,6 +8,7 @@ mod MemoryRefused
 mod NamesFound
 mod NumberTexts
 mod OneAdvice
+mod OneCaller
 mod OneCheck
 mod OneReport
 mod OneView
@@ -19,3 +20,4 @@ mod ReportsPrinted
 mod Requests
 mod SettledPrinted
 mod Texts
+mod WorkloadsPrinted

@@ -1,5 +1,5 @@
 -- One thing alone is told of each input.
-use Rattle.std.proofs.Common.{◌≡◌, ℕ, List, [], ◌∷◌, length, Bool, true, false, Option, None, Some, Result, Ok, Err, nat_lt, inl, inr, refl, ap, ap₂, sym}
+use Rattle.std.proofs.Common.{◌≡◌, ◌≤◌, ◌<◌, ◌&&◌, arith, ℕ, List, [], ◌∷◌, ◌++◌, length, Bool, true, false, Option, None, Some, Result, Ok, Err, nat_lt, inl, inr, refl, ap, ap₂, sym}
 use Rattle.std.proofs.Common.{subst, ◌∙◌}
 use Rattle.bench_types.specs.declared.edit.Edit.{Edit}
 use Rattle.bench_types.specs.declared.header.Header.{Header}
@@ -13,7 +13,17 @@ use Rattle.session_text.specs.declared.detail.Detail.{Detail}
 use Rattle.session_text.specs.declared.fault.TextFault.{TextFault}
 use Rattle.session_text.specs.declared.fault.Why.{Why}
 use Rattle.session_text.specs.declared.fault.Why.TheVariants as why
-use Rattle.session_text.specs.Bench.{bench_text}
+use Rattle.serde_json.specs.Data.{Data}
+use Rattle.session_text.specs.Bench.{bench_at, bench_text}
+use Rattle.session_text.specs.ReadingRules.{◌>>=◌}
+use Rattle.session_text.specs.Session.{document}
+use Rattle.task_programs.specs.declared.flaw.WorkloadFlaw.{WorkloadFlaw}
+use Rattle.task_programs.specs.declared.workload.Workload.{Workload}
+use Rattle.workload_runs.specs.Ends.{ends_of}
+use Rattle.workload_runs.proofs.Runs.{run_is_one, too_long_is_longer}
+use Rattle.view_commands.proofs.OneCaller.{one_caller}
+use Rattle.workload_text.specs.Documents.{is_workload_text}
+use Rattle.workload_text.specs.Workloads.{workload_text}
 use Rattle.settled_runs.specs.declared.waiting_call.WaitingCall.{WaitingCall}
 use Rattle.settled_runs.proofs.Settlings.{settled_run_is_one}
 use Rattle.run_pictures.specs.declared.picture.Extent.{Extent}
@@ -31,12 +41,16 @@ use Rattle.program_io.specs.declared.output.OutputStatus.{OutputStatus}
 use Rattle.program_io.specs.declared.output.OutputStatus.TheVariants.{Fine, Failed, Unknown}
 use Rattle.view_commands.specs.declared.request.Command.{Command}
 use Rattle.view_commands.specs.declared.request.Command.TheVariants.{Plain, Settled, Report, Check, Advise, Page}
+use Rattle.view_commands.specs.declared.request.Documents.{Documents}
+use Rattle.view_commands.specs.declared.request.Documents.TheVariants as documents
 use Rattle.view_commands.specs.declared.request.Job.{Job}
 use Rattle.view_commands.specs.declared.request.PageView.{PageView}
 use Rattle.view_commands.specs.declared.request.SettledView.{SettledView}
 use Rattle.view_commands.specs.declared.request.SettledView.TheVariants as settled
-use Rattle.view_commands.specs.Commands.{is_json, is_json_fault, too_long_input, too_many_steps, IsDone, IsRefusedOr, IsSame, IsPrinted, IsPrintedOfBench}
+use Rattle.view_commands.specs.Commands.{is_json, is_json_fault, is_json_text, too_long_input, too_many_steps, IsDone, IsRefusedOr, IsSame, IsPrinted, IsPrintedOfBench}
 use Rattle.view_commands.specs.Commands.{IsPrintedOfText, IsView, IsWarned, ViewIsOne}
+use Rattle.view_commands.specs.Commands.{IsPrintedOfDocument, IsPrintedOfNone, IsPrintedOfOther, IsPrintedOfRun, IsPrintedOfTicked, IsPrintedOfWorkload, IsRunTold}
+use Rattle.view_commands.specs.WorkloadRuns.{ends_told, run_session, run_too_long, ticked, ticks_of}
 use Rattle.view_commands.specs.PageViews.{as_html, page_printed, IsCompared, IsComparison, IsPage, IsPictured, IsRun}
 use Rattle.view_commands.specs.SettledViews.{columns_after, columns_before, printed_of_run, IsSettledPicture, IsSettledView, IsPrintedOfComparison, IsPrintedOfPair}
 use Rattle.view_commands.specs.SettledViews.{IsPrintedOfPictures, IsPrintedOfSettled}
@@ -230,26 +244,93 @@ one_hint input why.BadShape path more hint other json one two = one ∙ sym two
 one_hint input (why.Bench fault) path more hint other json one two = one ∙ sym two
 one_hint input why.NoMemory path more hint other json one two = absurd one
 
-one_of_fault : (input : List ℕ) (fault : TextFault) (printed other : Printed) → bench_text input ≡ Err fault → IsPrintedFault refused_lines input fault printed
-    → IsPrintedFault refused_lines input fault other → IsSame input printed other
-one_of_fault input fault printed other read one two = record {
+-- of both tests
+left_of : (a b : Bool) → (a && b) ≡ true → a ≡ true
+left_of true b both = refl
+left_of false b both = absurd (cc both)
+
+right_of : (a b : Bool) → (a && b) ≡ true → b ≡ true
+right_of true b both = both
+right_of false b both = absurd (cc both)
+
+one_of_fault : (input : List ℕ) (fault : TextFault) (printed other : Printed) → (is_json_text input ≡ true → is_json_fault fault.why ≡ true)
+    → IsPrintedFault refused_lines input fault printed → IsPrintedFault refused_lines input fault other → IsSame input printed other
+one_of_fault input fault printed other told one two = record {
   status = ap (λ (t : Printed). t.status) one.is_printed ∙ sym (ap (λ (t : Printed). t.status) two.is_printed);
   text = ap (λ (t : Printed). t.text) one.is_printed ∙ sym (ap (λ (t : Printed). t.text) two.is_printed);
   note = λ json.
-      let hint = one_hint input fault.why fault.path fault.detail one.hint two.hint (sym (ap is_json read) ∙ json) one.is_hint two.is_hint in
+      let hint = one_hint input fault.why fault.path fault.detail one.hint two.hint (told json) one.is_hint two.is_hint in
       ap (λ (t : Printed). t.note) (one.is_printed
       ∙ ap (λ (h : List ℕ). warned (twice_note_of_refused input) (refused_lines (refusal_line (why_text fault.why) fault.path) h)) hint
       ∙ sym two.is_printed);
 }
 
+of_bench : (input : List ℕ) (fault : TextFault) → bench_text input ≡ Err fault → is_json_text input ≡ true → is_json_fault fault.why ≡ true
+of_bench input fault read json = sym (ap is_json read) ∙ left_of (is_json (bench_text input)) (is_json (workload_text input)) json
+
+of_workload : (input : List ℕ) (fault : TextFault) → workload_text input ≡ Err fault → is_json_text input ≡ true → is_json_fault fault.why ≡ true
+of_workload input fault read json = sym (ap is_json read) ∙ right_of (is_json (bench_text input)) (is_json (workload_text input)) json
+
 one_of_text : (job : Job) (input : List ℕ) (text : Result Bench TextFault) (printed other : Printed) → bench_text input ≡ text → IsPrintedOfText job input text
     printed → IsPrintedOfText job input text other → IsSame input printed other
 one_of_text job input (Ok bench) printed other read one two = one_of_bench (twice_note input) job input bench printed other one two
-one_of_text job input (Err fault) printed other read one two = one_of_fault input fault printed other read one two
+one_of_text job input (Err fault) printed other read one two = one_of_fault input fault printed other (of_bench input fault read) one two
+
+-- ---- workloads
+
+one_of_workload_run : (lines : List ℕ) (job : Job) (workload : Workload) (printed other : Printed) → IsPrintedOfRun lines job workload printed → IsPrintedOfRun
+    lines job workload other → printed ≡ other
+one_of_workload_run lines job workload printed other (inl one) (inl two) =
+    let same = run_is_one workload one.run two.run one.is_run two.is_run in
+    let told : List Step → Printed → Type 0 =
+    λ run shown. IsWarned (lines ++ ends_told job.documents workload (ends_of workload run)) job (run_session workload run) [] shown in
+    one_warned (lines ++ ends_told job.documents workload (ends_of workload two.run)) job (run_session workload two.run) [] printed other
+    (subst (λ (run : List Step). told run printed) same one.is_told) two.is_told
+one_of_workload_run lines job workload printed other (inl one) (inr two) =
+    let longer = too_long_is_longer workload one.run two.is_long.long one.is_run in
+    absurd (omega (arith, longer, one.few))
+one_of_workload_run lines job workload printed other (inr one) (inl two) =
+    let longer = too_long_is_longer workload two.run one.is_long.long two.is_run in
+    absurd (omega (arith, longer, two.few))
+one_of_workload_run lines job workload printed other (inr one) (inr two) =
+    one.is_told ∙ ap (λ (c : Option ℕ). warned lines (run_too_long workload.header c)) (one_caller workload one.caller two.caller one.is_long two.is_long)
+    ∙ sym two.is_told
+
+one_of_ticked : (lines : List ℕ) (job : Job) (workload : Result Workload WorkloadFlaw) (printed other : Printed) → IsPrintedOfTicked lines job workload printed
+    → IsPrintedOfTicked lines job workload other → printed ≡ other
+one_of_ticked lines job (Ok workload) printed other one two = one_of_workload_run lines job workload printed other one two
+one_of_ticked lines job (Err flaw) printed other one two = one ∙ sym two
+
+one_of_workload : (job : Job) (input : List ℕ) (text : Result Workload TextFault) (printed other : Printed) → workload_text input ≡ text → IsPrintedOfWorkload
+    job input text printed → IsPrintedOfWorkload job input text other → IsSame input printed other
+one_of_workload job input (Ok workload) printed other read one two =
+    same_printed input printed other (one_of_ticked (twice_note input) job (ticked (ticks_of job.documents) workload) printed other one two)
+one_of_workload job input (Err fault) printed other read one two = one_of_fault input fault printed other (of_workload input fault read) one two
+
+-- a text that is no JSON is none of a session
+no_bench : (input : List ℕ) (fault : TextFault) → document input ≡ Err fault → bench_text input ≡ Err fault
+unfolding bench_text
+no_bench input fault read = ap (λ (r : Result Data TextFault). r >>= (λ d. bench_at [] d)) read
+
+one_of_none : (input : List ℕ) (text : Result Data TextFault) (printed other : Printed) → document input ≡ text → IsPrintedOfNone input text printed
+    → IsPrintedOfNone input text other → IsSame input printed other
+one_of_none input (Ok d) printed other read one two = same_printed input printed other (one ∙ sym two)
+one_of_none input (Err fault) printed other read one two =
+    one_of_fault input fault printed other (of_bench input fault (no_bench input fault read)) one two
+
+one_of_other : (which : Documents) (job : Job) (input : List ℕ) (printed other : Printed) → IsPrintedOfOther which job input printed → IsPrintedOfOther which job
+    input other → IsSame input printed other
+one_of_other documents.All job input printed other one two = one_of_text job input (bench_text input) printed other refl one two
+one_of_other (documents.Workloads ticks) job input printed other one two = one_of_none input (document input) printed other refl one two
+
+one_of_document : (is : Bool) (job : Job) (input : List ℕ) (printed other : Printed) → IsPrintedOfDocument is job input printed → IsPrintedOfDocument is job
+    input other → IsSame input printed other
+one_of_document true job input printed other one two = one_of_workload job input (workload_text input) printed other refl one two
+one_of_document false job input printed other one two = one_of_other job.documents job input printed other one two
 
 pub one_view : ViewIsOne
 unfolding IsView
 one_view job input printed other one two =
-    let text = bench_text input in
-    one_or_refused (nat_lt max_input (length input)) too_long_input (IsPrintedOfText job input text printed) (IsPrintedOfText job input text other) input
-    printed other (one_of_text job input text printed other refl) one two
+    let is = is_workload_text input in
+    one_or_refused (nat_lt max_input (length input)) too_long_input (IsPrintedOfDocument is job input printed) (IsPrintedOfDocument is job input other) input
+    printed other (one_of_document is job input printed other) one two

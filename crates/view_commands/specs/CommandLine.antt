@@ -10,8 +10,10 @@ use Rattle.command_words.specs.Answered.{Answered, answered, met, said}
 use Rattle.command_words.specs.Asking.{helps, mistakes, versions}
 use Rattle.command_words.specs.Said.{IsMistake}
 use Rattle.command_words.specs.Printed.{command_app, flag_rule, option_rule, program_app, with_commands}
-use Rattle.view_commands.specs.Options.{command_of, file_in, strict_in}
+use Rattle.task_programs.specs.Limits.{max_ticks}
+use Rattle.view_commands.specs.Options.{command_of, documents_in, file_in, strict_in}
 use Rattle.view_commands.specs.declared.request.Command.{Command}
+use Rattle.view_commands.specs.declared.request.Documents.{Documents}
 use Rattle.view_commands.specs.declared.request.Job.{Job}
 use Rattle.view_commands.specs.declared.request.Request.{Request}
 use Rattle.view_commands.specs.declared.request.Request.TheVariants.{Show, Help, Version, Lacking, Bad}
@@ -85,6 +87,10 @@ over_rule = option_rule (codes "over")
 abbrev pub best_rule : Rule
 best_rule = record (option_rule (codes "best")) { parser = Some a_number }
 
+-- the option `--ticks`, a number
+abbrev pub ticks_rule : Rule
+ticks_rule = record (option_rule (codes "ticks")) { parser = Some (Signed (pos 0) (pos max_ticks)) }
+
 -- the name of a file, which may be left out
 abbrev pub file_rule : Rule
 file_rule = record (new_rule (codes "file")) { value_names = 1 }
@@ -128,15 +134,25 @@ advise_app =
     command_app (codes "advise")
     (settle_rule ∷ judged_rule ∷ less_rule ∷ over_rule ∷ best_rule ∷ strict_rule ∷ file_rule ∷ [])
 
+abbrev pub simulate_app : App
+simulate_app = command_app (codes "simulate") (ticks_rule ∷ strict_rule ∷ file_rule ∷ [])
+
 -- the program with its version and its commands
 abbrev pub versioned_app : App
 versioned_app = on_top (λ shape. record shape { has_version = true }) (program_app (codes "smp_view"))
 
+-- with those that show runs step by step
+abbrev pub showing_app : App
+showing_app =
+    with_commands versioned_app
+    (trace_app ∷ session_app ∷ settle_app ∷ compare_app ∷ timeline_app ∷ [])
+
+-- with all of them
 abbrev pub view_app : App
 view_app =
     with_commands versioned_app
     (trace_app ∷ session_app ∷ settle_app ∷ compare_app ∷ timeline_app ∷ report_app
-    ∷ check_app ∷ advise_app ∷ page_app ∷ [])
+    ∷ check_app ∷ advise_app ∷ page_app ∷ simulate_app ∷ [])
 
 -- ---- what it answers
 
@@ -167,15 +183,16 @@ lacking_text name =
     else (if bytes_eq name (codes "page") then no_axis else no_families))
 
 -- a command with the flag `--strict` or without, and the name of a file; or this is told
-abbrev asked_with : List ℕ → Option Command → Bool → Option Text → Asked
-asked_with lack (Some command) strict file =
-    a_view (record { command = command; strict = strict }) file
-asked_with lack None strict file = lacks lack
+abbrev asked_with : List ℕ → Option Command → Documents → Bool → Option Text → Asked
+asked_with lack (Some command) documents strict file =
+    a_view (record { command = command; documents = documents; strict = strict }) file
+asked_with lack None documents strict file = lacks lack
 
 -- what a command with this name and these options asks for
 abbrev pub asked_for : Text → List Row → Asked
 asked_for name options =
-    asked_with (lacking_text name) (command_of name options) (strict_in options) (file_in options)
+    asked_with (lacking_text name) (command_of name options) (documents_in name options)
+    (strict_in options) (file_in options)
 
 -- by what clap answers
 abbrev pub asked_by : Answered → Asked

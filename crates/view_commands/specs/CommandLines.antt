@@ -9,17 +9,20 @@ use Rattle.run_views.specs.declared.places.Places.{Places}
 use Rattle.session_reports.specs.Asked as limit
 use Rattle.view_commands.specs.declared.request.Command.{Command}
 use Rattle.view_commands.specs.declared.request.Command.TheVariants.{Plain, Settled, Check, Advise, Page}
+use Rattle.view_commands.specs.declared.request.Documents.TheVariants as documents
 use Rattle.view_commands.specs.declared.request.SettledView.TheVariants as settled
 use Rattle.view_commands.specs.declared.request.View.TheVariants as view
 use Rattle.view_commands.specs.CommandLine.{Asked, a_view, help, version, lacks, a_mistake, asked, no_axis, no_families, no_limits}
 
 -- a command without the flag `--strict`, of a file or of standard input
 abbrev pub a_lenient : Command → Option Text → Asked
-a_lenient command = a_view (record { command = command; strict = false })
+a_lenient command =
+    a_view (record { command = command; documents = documents.All; strict = false })
 
 -- the same with the flag
 abbrev pub a_strict : Command → Option Text → Asked
-a_strict command = a_view (record { command = command; strict = true })
+a_strict command =
+    a_view (record { command = command; documents = documents.All; strict = true })
 
 -- by the words after the program's name
 abbrev pub asked_after : List Text → Asked

@@ -17,3 +17,4 @@ pub mod Source
 pub mod Strict
 pub mod ViewProgram
 pub mod Views
+pub mod WorkloadRuns

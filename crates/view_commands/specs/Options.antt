@@ -18,10 +18,13 @@ use Rattle.report_figures.specs.declared.limits.Bound.TheVariants.{AtMost, AtLea
 use Rattle.run_views.specs.declared.places.Places.{Places}
 use Rattle.session_reports.specs.Asked.{Asked}
 use Rattle.session_reports.specs.declared.report.Form.TheVariants.{Json, Table}
+use Rattle.task_programs.specs.Limits.{max_ticks}
 use Rattle.view_commands.specs.Families.{family_of}
 use Rattle.view_commands.specs.Selected.{Selected}
 use Rattle.view_commands.specs.declared.request.Command.{Command}
 use Rattle.view_commands.specs.declared.request.Command.TheVariants.{Plain, Settled, Report, Check, Advise, Page}
+use Rattle.view_commands.specs.declared.request.Documents.{Documents}
+use Rattle.view_commands.specs.declared.request.Documents.TheVariants.{All, Workloads}
 use Rattle.view_commands.specs.declared.request.SettledView.TheVariants as settled
 use Rattle.view_commands.specs.declared.request.View.TheVariants as view
 
@@ -32,6 +35,10 @@ is_number = is_unsigned_in 0 (2 ^ 32 - 1)
 -- below 2^64, as a value of a number of a run
 abbrev pub is_amount : Text → Bool
 is_amount = is_unsigned_in 0 (2 ^ 64 - 1)
+
+-- at most the ticks that a workload may have
+abbrev pub is_ticks : Text → Bool
+is_ticks = is_unsigned_in 0 max_ticks
 
 -- ---- each option
 
@@ -63,6 +70,10 @@ tasks_in options = texts_in (codes "task") options
 -- the numbers of cores, likewise
 abbrev pub cores_in : List Row → List ℕ
 cores_in options = map number_of (unwrap_or (many_of (codes "core") options) [])
+
+-- the number of ticks, where one is given
+abbrev pub ticks_in : List Row → Option ℕ
+ticks_in options = option_map number_of (one_of (codes "ticks") options)
 
 -- the name of a file; none, where that is `-`, which stands for standard input
 abbrev pub file_named : Text → Option Text
@@ -172,6 +183,7 @@ abbrev pub view_of : Text → List Row → Command
 view_of name options =
     if bytes_eq name (codes "trace") then trace_of options
     else if bytes_eq name (codes "session") then Plain view.Session
+    else if bytes_eq name (codes "simulate") then Plain view.Session
     else if bytes_eq name (codes "settle") then Settled settled.Session
     else if bytes_eq name (codes "compare") then comparison_of options
     else report_of options
@@ -224,6 +236,11 @@ command_of name options =
     else if bytes_eq name (codes "page") then page_of options
     else Some (view_of name options)
 
+-- by the name of a command, which documents it reads
+abbrev pub documents_in : Text → List Row → Documents
+documents_in name options =
+    if bytes_eq name (codes "simulate") then Workloads (ticks_in options) else All
+
 -- ---- what clap takes as a value
 
 -- options whose values clap took
@@ -234,4 +251,5 @@ pub record AreTaken (options : List Row) : Type 0 where
   pub from : IfSome (one_of (codes "from") options) (λ text. is_number text ≡ true)
   pub to : IfSome (one_of (codes "to") options) (λ text. is_number text ≡ true)
   pub best : IfSome (one_of (codes "best") options) (λ text. is_number text ≡ true)
+  pub ticks : IfSome (one_of (codes "ticks") options) (λ text. is_ticks text ≡ true)
   pub cores : IfSome (many_of (codes "core") options) (λ texts. list_all is_number texts ≡ true)

@@ -4,7 +4,7 @@ ghost use Rattle.clap.specs.Words.{app_of, rule_of};
 ghost use Rattle.command_words.specs.Answered.{said};
 ghost use Rattle.command_words.specs.Said.{SaysMistake, class_in, text_in};
 ghost use Rattle.command_words.specs.Printed.{IsPrinted};
-ghost use Rattle.view_commands.specs.CommandLine.{advise_app, asked, asked_by, asked_in, at_least_rule, at_most_rule, axis_rule, best_rule, check_app, compare_app, core_rule, file_rule, from_rule, json_rule, judged_rule, less_rule, over_rule, page_app, report_app, session_app, settle_app, settle_rule, strict_rule, task_rule, TellsMistake, text_told, timeline_app, to_rule, trace_app, view_app};
+ghost use Rattle.view_commands.specs.CommandLine.{advise_app, asked, asked_by, asked_in, at_least_rule, at_most_rule, axis_rule, best_rule, check_app, compare_app, core_rule, file_rule, from_rule, json_rule, judged_rule, less_rule, over_rule, page_app, report_app, session_app, settle_app, settle_rule, showing_app, simulate_app, strict_rule, task_rule, TellsMistake, text_told, ticks_rule, timeline_app, to_rule, trace_app, view_app};
 
 use crate::options::asked_for;
 use crate::request::Request;
@@ -12,6 +12,7 @@ use clap::{Arg, ArgAction, Command, value_parser};
 use command_words::{Parsed, Saying, flag, option, parse_line, program};
 use std::alloc::{AllocError, Global};
 use std::convert::AsStr;
+use task_programs::MAX_TICKS;
 
 /// What `--version` prints behind the program's name.
 pub(crate) const VERSION: &str = "0.1.0";
@@ -21,6 +22,8 @@ const DOCUMENTS: &str = r#"Documents, each a JSON text, in FILE or on standard i
   session         the cores, priorities and tasks, and the steps of a run
   bench document  a session, and edits of it: they are made one after another, and those that are
                   refused are passed over
+  workload        what each task does, and the interrupts that come: it stands for the session that
+                  is its run
 
 Exit status:
   0  it was shown
@@ -98,6 +101,13 @@ what it costs the other tasks.
 
 Example: smp_view advise --settle --task control --less blocked.mutex --over priority \
     examples/settled/mutex-events.json";
+
+// Below the options of a simulation.
+const SIMULATIONS: &str =
+    "A workload says what each task does, which interrupts come, and for how many ticks. Its run is
+settled. Every other command shows a workload by its run, too.
+
+Example: smp_view simulate --ticks 100 examples/workloads/two-periods.json";
 
 fn settle_flag<'a>(alloc: Global) -> Arg<'a>
     ensures { rule_of result ≡ settle_rule }
@@ -206,6 +216,14 @@ fn best_option<'a>(alloc: Global) -> Arg<'a>
     option(alloc, "best", "COUNT")
         .help("How many of the best are printed, or 10 if left out")
         .value_parser(value_parser!(u32))
+}
+
+fn ticks_option<'a>(alloc: Global) -> Arg<'a>
+    ensures { rule_of result ≡ ticks_rule }
+{
+    option(alloc, "ticks", "TICKS")
+        .help("How many ticks the workload goes on for, 0 to 1000000, or as it says if left out")
+        .value_parser(value_parser!(u32).range(0..=i64::from(MAX_TICKS)))
 }
 
 fn file_argument<'a>(alloc: Global) -> Arg<'a>
@@ -330,19 +348,26 @@ fn advise_command<'a>(alloc: Global) -> Result<Command<'a>, AllocError>
         .arg(file_argument(alloc))
 }
 
-// The program with its commands.
-fn program_command<'a>(alloc: Global) -> Result<Command<'a>, AllocError>
-    ensures { IfOk result (λ command. app_of command ≡ view_app) }
+fn simulate_command<'a>(alloc: Global) -> Result<Command<'a>, AllocError>
+    ensures { IfOk result (λ command. IsPrinted command simulate_app) }
+{
+    Command::new(alloc, "simulate")
+        .after_help(SIMULATIONS)
+        .about("Prints the run of a workload, as the document of a session")
+        .arg(ticks_option(alloc))?
+        .arg(strict_flag(alloc))?
+        .arg(file_argument(alloc))
+}
+
+// The program with the commands that show runs step by step.
+fn showing_command<'a>(alloc: Global) -> Result<Command<'a>, AllocError>
+    ensures { IfOk result (λ command. app_of command ≡ showing_app) }
 {
     let trace = trace_command(alloc)?;
     let session = session_command(alloc)?;
     let settle = settle_command(alloc)?;
     let compare = compare_command(alloc)?;
     let timeline = timeline_command(alloc)?;
-    let report = report_command(alloc)?;
-    let check = check_command(alloc)?;
-    let advise = advise_command(alloc)?;
-    let page = page_command(alloc)?;
     program(alloc, "smp_view")
         .version(VERSION)
         .about("Shows what a run of a scheduling session does, and why")
@@ -351,11 +376,24 @@ fn program_command<'a>(alloc: Global) -> Result<Command<'a>, AllocError>
         .subcommand(session)?
         .subcommand(settle)?
         .subcommand(compare)?
-        .subcommand(timeline)?
+        .subcommand(timeline)
+}
+
+// The program with its commands.
+fn program_command<'a>(alloc: Global) -> Result<Command<'a>, AllocError>
+    ensures { IfOk result (λ command. app_of command ≡ view_app) }
+{
+    let report = report_command(alloc)?;
+    let check = check_command(alloc)?;
+    let advise = advise_command(alloc)?;
+    let page = page_command(alloc)?;
+    let simulate = simulate_command(alloc)?;
+    showing_command(alloc)?
         .subcommand(report)?
         .subcommand(check)?
         .subcommand(advise)?
-        .subcommand(page)
+        .subcommand(page)?
+        .subcommand(simulate)
 }
 
 // What clap says asks for this.

@@ -22,6 +22,7 @@ mod settled;
 mod settled_pictures;
 mod source;
 mod strict;
+mod workloads;
 
 pub use answer::law_of_views;
 pub use command_line::request_of;
@@ -32,6 +33,7 @@ pub use parts::{Part, PartProgress};
 pub use program::{carry_out, run_program};
 pub use progress::Telling;
 pub use request::{
-    CheckView, Command, FileName, Job, PageView, ReportView, Request, Selection, SettledView, View,
+    CheckView, Command, Documents, FileName, Job, PageView, ReportView, Request, Selection,
+    SettledView, View,
 };
 pub use source::{DocumentSource, Folder, Source};

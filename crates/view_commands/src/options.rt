@@ -4,12 +4,13 @@ ghost use Rattle.std.specs.Option.{IsSomeAnd};
 ghost use Rattle.clap.specs.Words.{found_of, rows_of, subcommand_rows_of};
 ghost use Rattle.command_words.specs.Asking.{number_in};
 ghost use Rattle.view_commands.specs.CommandLine.{TellsMistake, asked_for, asked_in, lacking_text};
-ghost use Rattle.view_commands.specs.Options.{AreTaken, advice_of, advice_with, axis_in, axis_of, check_of, command_of, comparison_of, cores_in, extent_by, family_in, file_in, json_in, number_name, page_by, page_of, picture_by, picture_of, places_in, report_of, selection_in, settle_in, strict_in, tasks_in, texts_in, trace_of, usual_best, view_of};
+ghost use Rattle.view_commands.specs.Options.{AreTaken, advice_of, advice_with, axis_in, axis_of, check_of, command_of, comparison_of, cores_in, documents_in, extent_by, family_in, file_in, json_in, number_name, page_by, page_of, picture_by, picture_of, places_in, report_of, selection_in, settle_in, strict_in, tasks_in, texts_in, ticks_in, trace_of, usual_best, view_of};
 
 use crate::families::family_of;
 use crate::limits::{are_limits, limits_in};
 use crate::request::{
-    CheckView, Command, FileName, Job, PageView, ReportView, Request, Selection, SettledView, View,
+    CheckView, Command, Documents, FileName, Job, PageView, ReportView, Request, Selection,
+    SettledView, View,
 };
 use clap::ArgMatches;
 use ranked_changes::Family;
@@ -145,6 +146,24 @@ fn file_in(alloc: Global, options: &ArgMatches) -> Result<Option<FileName>, Allo
     }
     let text = String::from_str(alloc, name)?;
     Ok(Some(FileName { text }))
+}
+
+fn ticks_in(options: &ArgMatches) -> Option<u32>
+    requires { AreTaken (rows_of (found_of options.now)) }
+    ensures { result ≡ ticks_in (rows_of (found_of options.now)) }
+{
+    options.get_one::<u32>("ticks")
+}
+
+// Which documents the command of this name reads.
+fn documents_in(name: &str, options: &ArgMatches) -> Documents
+    requires { AreTaken (rows_of (found_of options.now)) }
+    ensures { result ≡ documents_in name.now (rows_of (found_of options.now)) }
+{
+    if name == "simulate" {
+        return Documents::Workloads(ticks_in(options));
+    }
+    Documents::All
 }
 
 fn selection_in(alloc: Global, options: &ArgMatches) -> Result<Selection, AllocError>
@@ -384,6 +403,9 @@ fn view_of(alloc: Global, name: &str, options: &ArgMatches) -> Result<Command, A
     if name == "session" {
         return Ok(Command::Plain(View::Session));
     }
+    if name == "simulate" {
+        return Ok(Command::Plain(View::Session));
+    }
     if name == "settle" {
         return Ok(Command::Settled(SettledView::Session));
     }
@@ -419,6 +441,10 @@ pub(crate) fn asked_for(alloc: Global, matches: &ArgMatches) -> Result<Request, 
         return Ok(Request::Lacking(String::from_str(alloc, lacking(name))?));
     };
     let file = file_in(alloc, options)?;
-    let strict = strict_in(options);
-    Ok(Request::Show(Job { command, strict }, file))
+    let job = Job {
+        command,
+        documents: documents_in(name, options),
+        strict: strict_in(options),
+    };
+    Ok(Request::Show(job, file))
 }

@@ -124,10 +124,36 @@ impl Command {
     }
 }
 
-/// What is to be shown of a document, and whether refusals count.
+/// Which documents are read.
+#[derive(Clone, Copy, Debug, PartialEq, Eq)]
+pub enum Documents {
+    /// Sessions, sessions with edits, and workloads.
+    All,
+    /// Workloads alone; each goes on for so many ticks, or for as many as it says.
+    Workloads(Option<u32>),
+}
+
+impl Documents {
+    ghost use Rattle.std.specs.Prelude.{◌≡◌};
+    ghost use Rattle.view_commands.specs.WorkloadRuns.{ticks_of};
+
+    /// For how many ticks workloads go on, if not for as many as they say.
+    pub fn ticks(self) -> Option<u32>
+        ensures { result ≡ ticks_of self }
+    {
+        match self {
+            Documents::All => None,
+            Documents::Workloads(ticks) => ticks,
+        }
+    }
+}
+
+/// What is to be shown of a document, and whether refusals count. A workload stands for the session
+/// that is its run.
 #[derive(Drop)]
 pub struct Job {
     pub command: Command,
+    pub documents: Documents,
     /// Whether the exit status tells that an edit is refused, or a step of the run.
     pub strict: bool,
 }

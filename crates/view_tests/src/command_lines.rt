@@ -9,8 +9,8 @@ use std::alloc::{AllocError, Global};
 use std::process::Abort;
 use std::test::Fail;
 use view_commands::{
-    CheckView, Command, FileName, Job, PageView, ReportView, Request, Selection, SettledView, View,
-    request_of,
+    CheckView, Command, Documents, FileName, Job, PageView, ReportView, Request, Selection,
+    SettledView, View, request_of,
 };
 
 /// Command lines, and what each asks for: a trace with its first place, its last, its tasks and its
@@ -77,6 +77,9 @@ smp_view trace -- - => 0 4294967295
 smp_view trace -- -x => 0 4294967295 file -x
 smp_view session - => session
 smp_view session run.json => session file run.json
+smp_view simulate => simulated session
+smp_view simulate --ticks 0 run.json => simulated for 0 session file run.json
+smp_view simulate --strict --ticks=1000000 => strict simulated for 1000000 session
 smp_view settle run.json => settled file run.json
 smp_view compare ./- => compare file ./-
 smp_view compare --settle run.json => settled compare file run.json
@@ -122,6 +125,12 @@ smp_view --strict session => bad
 smp_view session --from 3 => bad
 smp_view session --settle => bad
 smp_view settle --settle => bad
+smp_view settle --ticks 3 => bad
+smp_view simulate --ticks 1000001 => bad
+smp_view simulate --ticks -1 => bad
+smp_view simulate --ticks x => bad
+smp_view simulate --ticks 3 --ticks 3 => bad
+smp_view simulate --settle => bad
 smp_view settle --from 3 => bad
 smp_view settle run.json other.json => bad
 smp_view compare run.json other.json => bad
@@ -244,12 +253,21 @@ fn view_printed(alloc: Global, job: &Job, file: Option<&FileName>) -> Result<Str
     if job.strict {
         text.push_str("strict ")?;
     }
+    text.push_str(documents_printed(alloc, job.documents)?.as_str())?;
     text.push_str(command_printed(alloc, &job.command)?.as_str())?;
     if let Some(file) = file {
         text.push_str(" file ")?;
         text.push_str(file.text.as_str())?;
     }
     Ok(text)
+}
+
+fn documents_printed(alloc: Global, documents: Documents) -> Result<String, AllocError> {
+    match documents {
+        Documents::All => Ok(String::new(alloc)),
+        Documents::Workloads(None) => String::from_str(alloc, "simulated "),
+        Documents::Workloads(Some(ticks)) => format!(in alloc; "simulated for {ticks} "),
+    }
 }
 
 fn command_printed(alloc: Global, command: &Command) -> Result<String, AllocError> {

@@ -11,7 +11,9 @@ use std::io::ErrorKind;
 use std::process::Abort;
 use std::test::Fail;
 use std::thread::Threads;
-use view_commands::{Command, DocumentSource, FileName, Folder, Job, Request, View, carry_out};
+use view_commands::{
+    Command, DocumentSource, Documents, FileName, Folder, Job, Request, View, carry_out,
+};
 
 /// A folder with one file.
 #[derive(Drop)]
@@ -73,6 +75,7 @@ fn expect<R: Threads + Abort + Sync>(
     let mut writer = Counted::new(&mut shown);
     let job = Job {
         command: Command::Plain(View::Session),
+        documents: Documents::All,
         strict: false,
     };
     let request = Request::Show(job, file_named(host, name)?);

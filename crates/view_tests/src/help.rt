@@ -19,6 +19,7 @@ Commands:
   check     Says whether numbers of the run after the edits keep limits
   advise    Tries changes of the session, and prints those that make a number lowest
   page      Writes one HTML file of the runs: picture, trace, comparison and report
+  simulate  Prints the run of a workload, as the document of a session
 
 Options:
   -h, --help     Print help
@@ -29,6 +30,9 @@ Documents, each a JSON text, in FILE or on standard input:
   bench document  a session, and edits of it: they are made one after another, and those that \
     are
                   refused are passed over
+  workload        what each task does, and the interrupts that come: it stands for the session \
+    that
+                  is its run
 
 Exit status:
   0  it was shown
@@ -235,8 +239,27 @@ needs nothing from elsewhere, and shows at most 4000 places. Its picture is that
 Example: smp_view page examples/questions/shared-mutex.json > page.html
 ";
 
+const SIMULATE: &str = "Prints the run of a workload, as the document of a session
+
+Usage: smp_view simulate [OPTIONS] [FILE]
+
+Arguments:
+  [FILE]  The file of the document; standard input if it is - or left out
+
+Options:
+      --ticks <TICKS>  How many ticks the workload goes on for, 0 to 1000000, or as it says if \
+    left out
+      --strict         Ends with status 1 where an edit or a step of the run is refused
+  -h, --help           Print help
+
+A workload says what each task does, which interrupts come, and for how many ticks. Its run is
+settled. Every other command shows a workload by its run, too.
+
+Example: smp_view simulate --ticks 100 examples/workloads/two-periods.json
+";
+
 /// Command lines, and the whole text of each.
-const HELPS: [(&str, &str); 10] = [
+const HELPS: [(&str, &str); 11] = [
     ("smp_view --help", HELP),
     ("smp_view trace --help", TRACE),
     ("smp_view session --help", SESSION),
@@ -247,6 +270,7 @@ const HELPS: [(&str, &str); 10] = [
     ("smp_view check --help", CHECK),
     ("smp_view advise --help", ADVISE),
     ("smp_view page --help", PAGE),
+    ("smp_view simulate --help", SIMULATE),
 ];
 
 #[test]

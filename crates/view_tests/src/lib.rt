@@ -44,3 +44,5 @@ mod traces;
 mod views;
 #[cfg(test)]
 mod words;
+#[cfg(test)]
+mod workloads;

@@ -13,7 +13,7 @@ use std::alloc::{AllocError, Global};
 use std::process::Abort;
 use std::test::Fail;
 use std::thread::Threads;
-use view_commands::{Command, Job, PageView, run};
+use view_commands::{Command, Documents, Job, PageView, run};
 
 /// What the trace tells of place 2 of the first run, where place 3 is shown too.
 const SECOND: &str = "place 2, tick 0; core 0 C; core 1 B
@@ -173,6 +173,7 @@ fn page_of<R: Threads + Abort + Sync>(
 ) -> Vec<u8> {
     let job = Job {
         command: Command::Page(PageView { settled, extent }),
+        documents: Documents::All,
         strict: false,
     };
     let mut shown = Vec::new(host.alloc());

@@ -127,7 +127,7 @@ pub(crate) fn check_program<R: Threads + Abort + Sync>(
 }
 
 /// The exit status of the program with these words.
-fn status_of<T: Threads + Sync>(
+pub(crate) fn status_of<T: Threads + Sync>(
     rt: &T,
     host: &HostRuntime,
     words: io::Result<Args>,

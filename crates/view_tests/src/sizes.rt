@@ -8,7 +8,7 @@ use std::alloc::{AllocError, Global};
 use std::process::Abort;
 use std::test::Fail;
 use std::thread::Threads;
-use view_commands::{Command, Job, Selection, View};
+use view_commands::{Command, Documents, Job, Selection, View};
 
 /// More than a thousand.
 const TICKS: u32 = 1_500;
@@ -79,6 +79,7 @@ fn push_tick(text: &mut String, at: u32) -> Result<(), AllocError> {
 fn lenient(view: View) -> Job {
     Job {
         command: Command::Plain(view),
+        documents: Documents::All,
         strict: false,
     }
 }

@@ -8,7 +8,7 @@ use std::alloc::{AllocError, Global};
 use std::process::Abort;
 use std::test::Fail;
 use std::thread::Threads;
-use view_commands::{Command, Job, Selection, View, run};
+use view_commands::{Command, Documents, Job, Selection, View, run};
 
 const COMPARED: &str =
     "  0 0 mutex_take core 1 by logger mutex 0 ticks 0: true: the mutex was taken; control logger
@@ -89,6 +89,7 @@ fn expect<R: Threads + Abort + Sync>(
 ) {
     let job = Job {
         command: Command::Plain(view),
+        documents: Documents::All,
         strict: false,
     };
     let mut shown = Vec::new(host.alloc());

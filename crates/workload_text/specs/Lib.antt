@@ -1,3 +1,4 @@
+pub mod Documents
 pub mod Heads
 pub mod Interrupts
 pub mod Items

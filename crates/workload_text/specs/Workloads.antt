@@ -1,6 +1,7 @@
 -- A workload document: a session's header, a program in each task, the interrupts, and the ticks.
 use Rattle.std.specs.Prelude.{ℕ, List, [], ◌∷◌, ◌==◌, codes, get_or, Option, Some, None, Result, Ok, Err, if◌then◌else◌, ⊤}
 use Rattle.serde_json.specs.Data.{Data}
+use Rattle.serde_json.specs.Find.{get}
 use Rattle.bench_types.specs.declared.flaw.HeaderFlaw.{HeaderFlaw}
 use Rattle.bench_types.specs.declared.header.Header.{Header}
 use Rattle.bench_types.specs.declared.header.TaskArgs.{TaskArgs}
@@ -161,13 +162,32 @@ accepted_under at (Ok header) programs interrupts ticks =
 abbrev pub workload_accepted : List ℕ → Shapes → Result Workload TextFault
 workload_accepted at shapes = accepted_under at shapes.0 shapes.1 shapes.2 shapes.3
 
--- the workload that a text spells, or its first fault
 unfoldable pub workload_at : List ℕ → Data → Result Workload TextFault
 workload_at at d = do
   shapes ← shapes_at at d
   workload_accepted at shapes
 
+abbrev pub holder_members : List (List ℕ)
+holder_members = codes "workload" ∷ []
+
+-- the workload that was found as the only member of an object
+unfoldable pub held_at : List ℕ → Data → Data → Result Workload TextFault
+held_at at d inner = do
+  members ← object_at at d
+  shapes ← shapes_at (member_path at (codes "workload")) inner
+  only ← only_at at holder_members members
+  workload_accepted (member_path at (codes "workload")) shapes
+
+abbrev workload_with : List ℕ → Data → Option Data → Result Workload TextFault
+workload_with at d (Some inner) = held_at at d inner
+workload_with at d None = workload_at at d
+
+-- what has no member `workload` is read as a workload
+abbrev pub document_at : List ℕ → Data → Result Workload TextFault
+document_at at d = workload_with at d (get (codes "workload") d)
+
+-- the workload that a text spells, or its first fault
 unfoldable pub workload_text : List ℕ → Result Workload TextFault
 workload_text text = do
   d ← document text
-  workload_at [] d
+  document_at [] d

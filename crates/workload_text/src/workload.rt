@@ -1,7 +1,7 @@
 //! Workload documents.
 ghost use Rattle.std.specs.Prelude.{◌≡◌, [], codes, get_or, IfOk};
 ghost use Rattle.std.specs.Result.{ForOk};
-ghost use Rattle.json_data.specs.View.{document_view};
+ghost use Rattle.json_data.specs.View.{document_view, view};
 ghost use Rattle.bench_types.specs.Header.{IsCheckedHeader};
 ghost use Rattle.session_text.specs.Array.{list_at};
 ghost use Rattle.session_text.specs.Names.{known_names};
@@ -13,7 +13,7 @@ ghost use Rattle.session_text.specs.Path.{item_path, member_path, path_of, path_
 ghost use Rattle.task_programs.specs.Flaw.{instruction_fault, interrupt_fault};
 ghost use Rattle.workload_text.specs.Places.{place_in};
 ghost use Rattle.workload_text.specs.ShapesView.{shapes_view};
-ghost use Rattle.workload_text.specs.Workloads.{accepted_under, contents_at, flaw_told, format_at, header_at, instruction_detail, instruction_path, interrupt_detail, judged, most_lists, program_at, shapes_at, workload_at, workload_text};
+ghost use Rattle.workload_text.specs.Workloads.{accepted_under, contents_at, document_at, flaw_told, format_at, header_at, held_at, instruction_detail, instruction_path, interrupt_detail, judged, most_lists, program_at, shapes_at, workload_at, workload_text};
 
 use crate::interrupt::interrupts_at;
 use crate::item::{ItemReader, branch_at};
@@ -34,7 +34,7 @@ use task_programs::{
 const MOST_LISTS: u32 = 17;
 
 /// Reads a workload from a JSON text: a session of format 3 with `program` in its tasks,
-/// `interrupts` and `ticks`, and no `steps`.
+/// `interrupts` and `ticks`, and no `steps`; or an object with `workload` alone.
 ///
 /// F5 at an item in which items stand that have more loops and calls with branches around them than
 /// may be is told before other faults F1 to F5.
@@ -51,13 +51,43 @@ pub fn read_workload(alloc: Global, text: &[u8]) -> Result<CheckedWorkload, Text
 
 /// The workload that is the document.
 fn workload_in(alloc: Global, document: &Document<'_>) -> Result<CheckedWorkload, ReadFault>
-    ensures { Gives (λ workload. workload) result (workload_at [] (document_view document.now)) }
+    ensures { Gives (λ workload. workload) result (document_at [] (document_view document.now)) }
 {
-    workload_at(&Node {
+    document_at(&Node {
         alloc,
         location: &Location::Top,
         value: &Gathered::of(document.root()),
     })
+}
+
+fn document_at(node: &Node<'_, '_, '_>) -> Result<CheckedWorkload, ReadFault>
+    ensures { Gives (λ workload. workload) result
+        (document_at (location_of node.now) (data_of node.now)) }
+{
+    match node.value.item().get("workload") {
+        Some(workload) => held_at(node, &Gathered::of(workload)),
+        None => workload_at(node),
+    }
+}
+
+/// The workload, which was found as the member `workload`.
+#[tactic(auto, unfolding(crate::specs::Workloads::held_at))]
+fn held_at(
+    node: &Node<'_, '_, '_>,
+    workload: &Gathered<'_, '_>,
+) -> Result<CheckedWorkload, ReadFault>
+    ensures { Gives (λ workload. workload) result
+        (held_at (location_of node.now) (data_of node.now) (view workload.now)) }
+{
+    let members = node.object()?;
+    let inner = Node {
+        alloc: node.alloc,
+        location: &Location::Member(node.location, "workload"),
+        value: workload,
+    };
+    let shapes = shapes_at(&inner)?;
+    node.only(&["workload"], &members)?;
+    accepted_under(&inner, shapes)
 }
 
 #[tactic(auto, unfolding(crate::specs::Workloads::workload_at))]

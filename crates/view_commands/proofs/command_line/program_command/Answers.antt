@@ -1,31 +1,17 @@
-use Rattle.std.proofs.Common.{◌≡◌, ◌∙◌, ap, true}
 use Rattle.std.proofs.lemmas.Result.{IfOk-weaker}
-use Rattle.clap.specs.Simple.{app_of_fields}
-use Rattle.clap.specs.Words.{App, app_of}
 use Rattle.command_words.proofs.Printed.{one_more}
-use Rattle.view_commands.specs.CommandLine.{versioned_app}
+use Rattle.view_commands.specs.CommandLine.{showing_app}
 use Rattle.view_commands.proofs.command_line.program_command.Goals as goal
 
 pub returns : goal.returns
 returns c =
-    let versioned : app_of c.version.result ≡ versioned_app = ap app_of_fields c.version.ensures ∙ ap
-    (λ (a : App). record a { top = record a.top { has_version = true } }) c.program.ensures in
-    let bare : app_of c.after_help.result ≡ versioned_app = ap app_of_fields c.after_help.ensures ∙ ap app_of_fields c.about.ensures ∙ versioned in
-    let traces = one_more c.after_help.result c.in_ok-subcommand.field-0 versioned_app c.in_ok-trace.trace _ bare c.in_ok-trace.ensures
-    c.in_ok-subcommand.ensures in
-    let sessions = one_more c.in_ok-subcommand.field-0 c.in_ok-subcommand-2.field-0 _ c.in_ok-session.session _ traces c.in_ok-session.ensures
+    let reports = one_more c.in_ok-showing_command.field-0 c.in_ok-subcommand.field-0 showing_app c.in_ok-report.report _ c.in_ok-showing_command.ensures
+    c.in_ok-report.ensures c.in_ok-subcommand.ensures in
+    let checks = one_more c.in_ok-subcommand.field-0 c.in_ok-subcommand-2.field-0 _ c.in_ok-check.check _ reports c.in_ok-check.ensures
     c.in_ok-subcommand-2.ensures in
-    let settles = one_more c.in_ok-subcommand-2.field-0 c.in_ok-subcommand-3.field-0 _ c.in_ok-settle.settle _ sessions c.in_ok-settle.ensures
+    let advices = one_more c.in_ok-subcommand-2.field-0 c.in_ok-subcommand-3.field-0 _ c.in_ok-advise.advise _ checks c.in_ok-advise.ensures
     c.in_ok-subcommand-3.ensures in
-    let compares = one_more c.in_ok-subcommand-3.field-0 c.in_ok-subcommand-4.field-0 _ c.in_ok-compare.compare _ settles c.in_ok-compare.ensures
-    c.in_ok-subcommand-4.ensures in
-    let timelines = one_more c.in_ok-subcommand-4.field-0 c.in_ok-subcommand-5.field-0 _ c.in_ok-timeline.timeline _ compares c.in_ok-timeline.ensures
-    c.in_ok-subcommand-5.ensures in
-    let reports = one_more c.in_ok-subcommand-5.field-0 c.in_ok-subcommand-6.field-0 _ c.in_ok-report.report _ timelines c.in_ok-report.ensures
-    c.in_ok-subcommand-6.ensures in
-    let checks = one_more c.in_ok-subcommand-6.field-0 c.in_ok-subcommand-7.field-0 _ c.in_ok-check.check _ reports c.in_ok-check.ensures
-    c.in_ok-subcommand-7.ensures in
-    let advices = one_more c.in_ok-subcommand-7.field-0 c.in_ok-subcommand-8.field-0 _ c.in_ok-advise.advise _ checks c.in_ok-advise.ensures
-    c.in_ok-subcommand-8.ensures in
-    IfOk-weaker c.subcommand-9.result _ _ (λ command added. one_more c.in_ok-subcommand-8.field-0 command _ c.in_ok-page.page _ advices c.in_ok-page.ensures
-    added) c.subcommand-9.ensures
+    let pages = one_more c.in_ok-subcommand-3.field-0 c.in_ok-subcommand-4.field-0 _ c.in_ok-page.page _ advices c.in_ok-page.ensures c.in_ok-subcommand-4.ensures
+    in
+    IfOk-weaker c.subcommand-5.result _ _ (λ command added. one_more c.in_ok-subcommand-4.field-0 command _ c.in_ok-simulate.simulate _ pages
+    c.in_ok-simulate.ensures added) c.subcommand-5.ensures

@@ -52,6 +52,7 @@ check-schemas.sh smp_bench python3-jsonschema python3-referencing
 check-settled.py smp_view python3
 check-reports.py smp_view python3
 check-advice.py smp_view python3
+check-workloads.py smp_view python3
 check-pictures.sh smp_view python3
 check-page.sh smp_view chromium node
 program-statuses.sh smp_bench smp_view prlimit

@@ -1,7 +1,8 @@
 #!/usr/bin/env bash
 # Runs the built program over every document of examples/ and compares its whole output with the file beside it: NAME.out for
-# `replay`, NAME.tally, where there is one, for `replay --tally`, and NAME.whatif, NAME.settled and NAME.compare, which may stand
-# alone, for `whatif`, for `smp_view settle` and a replay of what it writes, and for `smp_view compare --settle`. A rig
+# `replay`, NAME.tally, where there is one, for `replay --tally`, and NAME.whatif, NAME.settled, NAME.compare and NAME.run, which may
+# stand alone, for `whatif`, for `smp_view settle` and a replay of what it writes, for `smp_view compare --settle`, and for `smp_view
+# simulate`. A rig
 # document is recorded, and the recording replayed. Then it
 # looks at what README.md and docs/ show of these documents and outputs, and at the texts and refusals of docs/FORMATS.md. One line where something differs, then a total;
 # status 1 where something does.
@@ -83,6 +84,9 @@ settled() {
 compared() {
     "$viewer" compare --settle
 }
+simulated() {
+    "$viewer" simulate
+}
 
 # The kinds of steps or actions, one a line, as they stand.
 kinds() {
@@ -120,7 +124,7 @@ while IFS= read -r -d '' document; do
         continue
     fi
     alone=no
-    for kind in whatif settled compare; do
+    for kind in whatif settled compare run; do
         ! [ -e "${document%.json}.$kind" ] || alone=yes
     done
     if [ -e "${document%.json}.out" ] || [ "$alone" = no ]; then
@@ -128,13 +132,14 @@ while IFS= read -r -d '' document; do
     fi
     ! [ -e "${document%.json}.settled" ] || hold_view "$document" "${document%.json}.settled" settled
     ! [ -e "${document%.json}.compare" ] || hold_view "$document" "${document%.json}.compare" compared
+    ! [ -e "${document%.json}.run" ] || hold_view "$document" "${document%.json}.run" simulated
     ! [ -e "${document%.json}.tally" ] || hold "$document" "${document%.json}.tally" replay --tally
     ! [ -e "${document%.json}.whatif" ] || hold "$document" "${document%.json}.whatif" whatif
 done < <(find examples -name '*.json' -print0 | sort -z)
 
 while IFS= read -r -d '' file; do
     [ -e "${file%.*}.json" ] || wrong "$file: no such document"
-done < <(find examples \( -name '*.out' -o -name '*.tally' -o -name '*.whatif' -o -name '*.settled' -o -name '*.compare' \) -print0 | sort -z)
+done < <(find examples \( -name '*.out' -o -name '*.tally' -o -name '*.whatif' -o -name '*.settled' -o -name '*.compare' -o -name '*.run' \) -print0 | sort -z)
 
 # A table of a folder names each document in it.
 while IFS= read -r -d '' document; do

@@ -312,7 +312,7 @@ class Check:
 
         def validator(place):
             return Draft202012Validator({"$ref": base + place}, registry=registry)
-        self.valid = {name: validator(name + ".schema.json").is_valid for name in ("session", "bench", "rig")}
+        self.valid = {name: validator(name + ".schema.json").is_valid for name in ("session", "bench", "rig", "workload")}
         self.valid_step = validator("session.schema.json#/$defs/step").is_valid
         self.valid_edit = validator("bench.schema.json#/$defs/edit").is_valid
 
@@ -326,7 +326,8 @@ class Check:
         return run.stdout.split(b"\n")[0].decode()
 
     def hold(self, kind, text, line, valid):
-        if not re.match(line, self.first_line(kind, text)):
+        # No command of this program reads workloads.
+        if kind != "workload" and not re.match(line, self.first_line(kind, text)):
             self.fault("%s, which the program answers otherwise than %s" % (kind, line), text)
         if self.valid[kind](json.loads(text)) != valid:
             self.fault("%s %s" % (kind, "not valid" if valid else "valid"), text)
@@ -346,7 +347,8 @@ def described(name, schema, check):
 
 
 def kind_of(value):
-    return "rig" if "scripts" in value else "bench" if "session" in value else "session"
+    names = {"scripts": "rig", "session": "bench", "ticks": "workload"}
+    return next((kind for member, kind in names.items() if member in value), "session")
 
 
 def written(check):
@@ -356,7 +358,10 @@ def written(check):
         output = path.with_suffix(".out")
         if not (output.exists() and output.read_text().startswith("refused ")):
             value = json.loads(path.read_text())
-            check.hold(kind_of(value), path.read_text(), FINE, True)
+            if "workloads" not in path.parts:
+                check.hold(kind_of(value), path.read_text(), FINE, True)
+            elif not check.valid["workload"](value):
+                check.fault("workload not valid", path.read_text())
             count += 1
     for path in sorted(pathlib.Path("docs").glob("*.md")):
         text = path.read_text()

@@ -20,6 +20,7 @@ PICTURES = {
     "shorter-timeout": ["--settle", "examples/settled/shorter-timeout.json"],
     "shorter-timeout-by-ticks": ["--settle", "--axis", "tick", "examples/settled/shorter-timeout.json"],
     "producer-and-consumer": ["--settle", "examples/settled/producer-and-consumer.json"],
+    "first-design": ["--axis", "time", "examples/workloads/first-design.json"],
     "time-stamps-by-time": ["--settle", "--axis", "time", "examples/settled/time-stamps.json"],
 }
 # And of other examples that a browser is shown.
@@ -533,7 +534,7 @@ def main():
             path.write_text(drawn)
         hold(f"{path} is not what is drawn", path.exists() and path.read_text() == drawn)
     hold("docs/pictures", {p.stem for p in pathlib.Path("docs/pictures").glob("*.svg")} == set(PICTURES))
-    documents = sorted(p for p in pathlib.Path("examples").rglob("*.json") if not {"rigs", "refusals"} & set(p.parts))
+    documents = sorted(p for p in pathlib.Path("examples").rglob("*.json") if not {"rigs", "refusals", "workloads"} & set(p.parts))
     for path in documents:
         check_document(str(path), json.loads(path.read_text()), MODES)
     check_document("200 steps", long_session(200, 7), MODES)

@@ -970,6 +970,7 @@ Commands:
   check     Says whether numbers of the run after the edits keep limits
   advise    Tries changes of the session, and prints those that make a number lowest
   page      Writes one HTML file of the runs: picture, trace, comparison and report
+  simulate  Prints the run of a workload, as the document of a session
 
 Options:
   -h, --help     Print help
@@ -979,6 +980,8 @@ Documents, each a JSON text, in FILE or on standard input:
   session         the cores, priorities and tasks, and the steps of a run
   bench document  a session, and edits of it: they are made one after another, and those that are
                   refused are passed over
+  workload        what each task does, and the interrupts that come: it stands for the session that
+                  is its run
 
 Exit status:
   0  it was shown
@@ -1162,6 +1165,23 @@ needs nothing from elsewhere, and shows at most 4000 places. Its picture is that
 
 Example: smp_view page examples/questions/shared-mutex.json > page.html
 '
+simulate_help='Prints the run of a workload, as the document of a session
+
+Usage: smp_view simulate [OPTIONS] [FILE]
+
+Arguments:
+  [FILE]  The file of the document; standard input if it is - or left out
+
+Options:
+      --ticks <TICKS>  How many ticks the workload goes on for, 0 to 1000000, or as it says if left out
+      --strict         Ends with status 1 where an edit or a step of the run is refused
+  -h, --help           Print help
+
+A workload says what each task does, which interrupts come, and for how many ticks. Its run is
+settled. Every other command shows a workload by its run, too.
+
+Example: smp_view simulate --ticks 100 examples/workloads/two-periods.json
+'
 run '--help' 0 "$view_help" '' --help
 run '-h' 0 "$view_help" '' -h
 run '--help, then more words' 0 "$view_help" '' --help trace
@@ -1179,6 +1199,7 @@ run 'report --help' 0 "$report_help" '' report --help
 run 'check --help' 0 "$check_help" '' check --help
 run 'advise --help' 0 "$advise_help" '' advise --help
 run 'page --help' 0 "$page_help" '' page --help
+run 'simulate --help' 0 "$simulate_help" '' simulate --help
 
 # ---- bad command lines
 
@@ -1251,6 +1272,7 @@ bad_line 'advice on no changes' '--over takes priority, mask and order, with com
 bad_line 'advice with a count that is no number' "invalid value 'x' for '--best <COUNT>'" advise --task A --less run --best x
 bad_line '--json twice' "the argument '--json' cannot be used multiple times" report --json --json
 bad_line 'a settled picture of a task' "unexpected argument '--task' found" timeline --settle --task A
+bad_line 'a run of too many ticks' "invalid value '1000001' for '--ticks <TICKS>'" simulate --ticks 1000001
 bad_line 'a word that is not UTF-8' 'invalid UTF-8 was detected in one or more arguments' $'\377'
 bad_line 'a file whose name is not UTF-8' 'invalid UTF-8 was detected in one or more arguments' trace $'run\300'
 for words in '' --help 'trace --from' 'session a b'; do
@@ -1264,7 +1286,7 @@ done
 
 # ---- devices that fail
 
-for command in trace session settle compare timeline page report 'check --at-least A.run=1' 'advise --task A --less run'; do
+for command in trace session settle simulate compare timeline page report 'check --at-least A.run=1' 'advise --task A --less run'; do
     read -ra words <<<"$command"
     : >"$folder/out"
     "$program" "${words[@]}" </ >"$folder/out" 2>"$folder/err"

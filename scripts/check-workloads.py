@@ -127,7 +127,8 @@ def hold(rng, workload):
 def branch(rng, workload, depth, in_loop):
     """The items of a branch, of which the last may end a loop."""
     leave = ["break"] if in_loop and rng.random() < 0.4 else []
-    return items(rng, workload, depth - 1, in_loop) + leave if rng.random() < 0.8 else leave
+    found = items(rng, workload, depth - 1, in_loop) if rng.random() < 0.8 else []
+    return found + leave if all(map(goes_on, found)) else found
 
 
 def call_with_branches(rng, workload, depth, in_loop):

@@ -123,8 +123,10 @@ while IFS= read -r -d '' document; do
         hold_rig "$document"
         continue
     fi
+    # Workloads are held by check-workloads.py, and here where their run stands beside them.
     alone=no
-    for kind in whatif settled compare run; do
+    [ "${document%/*}" != examples/workloads ] || alone=yes
+    for kind in whatif settled compare; do
         ! [ -e "${document%.json}.$kind" ] || alone=yes
     done
     if [ -e "${document%.json}.out" ] || [ "$alone" = no ]; then

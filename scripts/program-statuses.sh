@@ -1288,6 +1288,8 @@ done
 
 for command in trace session settle simulate compare timeline page report 'check --at-least A.run=1' 'advise --task A --less run'; do
     read -ra words <<<"$command"
+    document="$first"
+    [ "$command" != simulate ] || document=examples/workloads/two-periods.json
     : >"$folder/out"
     "$program" "${words[@]}" </ >"$folder/out" 2>"$folder/err"
     status=$?
@@ -1296,10 +1298,10 @@ for command in trace session settle simulate compare timeline page report 'check
     status=$?
     compare "$command with closed input" 3 '' $'fault read\n'
     : >"$folder/out"
-    "$program" "${words[@]}" <"$first" >/dev/full 2>"$folder/err"
+    "$program" "${words[@]}" <"$document" >/dev/full 2>"$folder/err"
     status=$?
     compare "$command to a full device" 3 '' $'fault write\n'
-    "$program" "${words[@]}" <"$first" >&- 2>"$folder/err"
+    "$program" "${words[@]}" <"$document" >&- 2>"$folder/err"
     status=$?
     compare "$command with closed output" 3 '' $'fault write\n'
 done

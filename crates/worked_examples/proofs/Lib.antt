@@ -1,5 +1,6 @@
 pub mod Examples
 pub mod HoldExamples
+pub mod KeptExamples
 pub mod MeetingExamples
 pub mod MutexExamples
 pub mod NoteExamples

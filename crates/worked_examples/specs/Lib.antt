@@ -1,6 +1,7 @@
 pub mod ChangeExamples
 pub mod Examples
 pub mod HoldExamples
+pub mod KeptExamples
 pub mod MeetingExamples
 pub mod MutexExamples
 pub mod NoteExamples

@@ -5,6 +5,7 @@
 ghost use Rattle.worked_examples.specs.ChangeExamples.{WorkedChanges};
 ghost use Rattle.worked_examples.specs.Examples.{WorkedSessions, TimedSessions, EndlessWaits, EqualTables, AlikeTables};
 ghost use Rattle.worked_examples.specs.HoldExamples.{WorkedHolds, WorkedUntils};
+ghost use Rattle.worked_examples.specs.KeptExamples.{WorkedKeptRuns};
 ghost use Rattle.worked_examples.specs.MeetingExamples.{WorkedOpenings, WorkedMeetings, WorkedCheckpoints};
 ghost use Rattle.worked_examples.specs.MutexExamples.{WorkedMutexes};
 ghost use Rattle.worked_examples.specs.NoteExamples.{WorkedNotes, WorkedWaits, WorkedTakes, WorkedClears, WorkedNotifies, WorkedCalls, WorkedIndexes};
@@ -119,6 +120,12 @@ pub fn examples_of_tallies()
 pub fn examples_of_quiet_work()
     // The next of several pieces that can be made, as it was worked out by hand.
     ensures { WorkedQuietWork }
+{}
+
+/// Runs that keep work.
+pub fn examples_of_kept_runs()
+    // The definitions give the runs after edits that were worked out by hand.
+    ensures { WorkedKeptRuns }
 {}
 
 /// Edits of sessions with checkpoints: which steps are replayed for them, and where the checkpoints

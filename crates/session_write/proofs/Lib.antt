@@ -3,4 +3,4 @@ mod Plain
 mod ReadBack
 mod Rereading
 mod TaskNames
-mod Values
+mod Tokens

@@ -1,8 +1,7 @@
 -- What a checked step says of its numbers.
-use Rattle.std.proofs.Common.{◌≡◌, ℕ, ◌+◌, ◌<◌, ◌≤◌, ◌==◌, Bool, true, false, cond, List, length, Option, Some, None, Ok, Err, arith, refl, subst}
+use Rattle.std.proofs.Common.{◌≡◌, ℕ, ◌+◌, ◌<◌, ◌≤◌, Bool, true, false, cond, List, length, Option, Some, None, Ok, Err, arith, refl, subst}
 use Rattle.std.proofs.lemmas.Bool.Decides.{nat_tests}
 use Rattle.bench_types.specs.declared.fault.Fault.TheVariants.{BadArgument}
-use Rattle.bench_types.specs.declared.flaw.HeaderFlaw.{HeaderFlaw}
 use Rattle.bench_types.specs.declared.flaw.HeaderFlaw.TheVariants.{Units}
 use Rattle.bench_types.specs.Flaw.{limits_flaw, units_flaw}
 use Rattle.bench_types.specs.Name.{is_within}

@@ -20,7 +20,7 @@ use Rattle.json.proofs.Printed.Utf8.{are_ascii, IsUtf8-are_ascii, IsUtf8-quoted}
 use Rattle.serde_json.specs.Data.{Num, unsigned, negative, float, Data, null, boolean, number, string, array, object, Items, no_items, item, Members}
 use Rattle.serde_json.specs.Data.{no_members, member, put, depth, items_depth, members_depth}
 use Rattle.serde_json.specs.Read.{read, of_json, of_items, of_members, max_depth}
-use Rattle.serde_json.specs.Written.{outline, items_outline, members_outline, has_float, items_have_float, members_have_float, comma_if, compact_text}
+use Rattle.serde_json.specs.Written.{outline, items_outline, members_outline, comma_if, compact_text}
 use Rattle.serde_json.specs.Written.{items_text, members_text}
 use Rattle.serde_json.proofs.Numbers.{number_of-decimal}
 use Rattle.serde_json.proofs.Texts.{print-outline}
@@ -214,24 +214,3 @@ read-compact_text d h shallow =
 -- the reading of the text of a plain value is the value
 pub document-compact_text : (d : Data) → IsPlain d → depth d ≤ max_depth → document (compact_text d) ≡ Ok d
 document-compact_text d h shallow = document_read (compact_text d) d (utf8-text d h) (read-compact_text d h shallow)
-
--- ---- it has no float
-
-mutual
-  pub no_float : (d : Data) → IsPlain d → has_float d ≡ false
-  no_float null h = refl
-  no_float (boolean b) h = refl
-  no_float (number (unsigned n)) h = refl
-  no_float (number (negative z)) h = absurd h
-  no_float (number (float x)) h = absurd h
-  no_float (string s) h = refl
-  no_float (array ds) h = no_float_items ds h
-  no_float (object ms) h = no_float_members ms h
-
-  no_float_items : (ds : Items) → ArePlain ds → items_have_float ds ≡ false
-  no_float_items no_items h = refl
-  no_float_items (item d ds) h = rw (no_float d h.0) (no_float_items ds h.1)
-
-  no_float_members : (ms : Members) → MembersArePlain ms → members_have_float ms ≡ false
-  no_float_members no_members h = refl
-  no_float_members (member k d ms) h = rw (no_float d h.2) (no_float_members ms h.3)

@@ -1,7 +1,7 @@
 -- A session that is written is read back.
 use Rattle.std.proofs.Common.{◌≡◌, ℕ, suc, ◌-◌, ◌^◌, ◌<◌, ◌≤◌, ◌==◌, Bool, true, false, cond, List, [], ◌∷◌, map, codes, refl, sym, ap, arith, ltb, lt-ltb}
 use Rattle.std.proofs.Common.{Option, Some, None, Result, Ok}
-use Rattle.std.specs.Prelude.{All, IsTrue, is_some, ⊤}
+use Rattle.std.specs.Prelude.{All, IsTrue, is_some}
 use Rattle.std.specs.List.{list_all, AllByRecursion}
 use Rattle.std.proofs.lemmas.Bool.{and_parts}
 use Rattle.std.proofs.lemmas.Bool.Decides.{nat_tests}

@@ -1,7 +1,7 @@
 -- A session as it is written: a JSON value, whose members stand in ascending byte order, in its
 -- compact text.
 use Rattle.std.specs.Prelude.{◌≡◌, ◌-◌, ℕ, ◌==◌, Bool, List, [], ◌∷◌, ◌++◌, map, codes, Option, Some, None, Ok, is_some, slice_index_or, unwrap_or, if◌then◌else◌}
-use Rattle.serde_json.specs.Data.{Data, Members, number, unsigned, string, boolean, array, object, no_members, member, put}
+use Rattle.serde_json.specs.Data.{Data, Members, number, unsigned, string, boolean, array, object, no_members, member}
 use Rattle.serde_json.specs.View.{items_of}
 use Rattle.serde_json.specs.Written.{compact_text}
 use Rattle.bench_types.specs.declared.note.NotifyAction.{NotifyAction}
@@ -29,11 +29,6 @@ members (first ∷ others) = member first.0 first.1 (members others)
 -- an object with these members, in this order
 abbrev pub object_with : List (List ℕ × Data) → Data
 object_with all = object (members all)
-
--- an object's members, with these put among them
-abbrev pub with_members : List (List ℕ × Data) → Members → Members
-with_members [] old = old
-with_members (first ∷ others) old = with_members others (put first.0 first.1 old)
 
 abbrev pub whole : ℕ → Data
 whole n = number (unsigned n)

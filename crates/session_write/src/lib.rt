@@ -4,7 +4,7 @@
 mod caller;
 pub mod laws;
 mod notes;
-mod object;
+mod scribe;
 mod session;
 mod step;
 

@@ -1,14 +1,15 @@
 //! The objects of notifications.
-ghost use Rattle.std.specs.Prelude.{◌≡◌, IfOk};
-ghost use Rattle.serde_json.specs.View.{view};
+#![tactic(auto, using(crate::proofs::Tokens::members_joined))]
+
+ghost use Rattle.std.specs.Prelude.{◌≡◌, OnOk};
+ghost use Rattle.session_write.specs.Tokens.{with_value};
 ghost use Rattle.session_write.specs.Written.{action_word, interrupt_data, notify_data, state_clear_data, take_data, value_clear_data, wait_data};
 
 use crate::caller::Caller;
-use crate::object::{put_flag, put_index, put_text, put_value, put_whole};
+use crate::scribe::Scribe;
 use bench_types::{Note, NotifyAction};
-use serde_json::{Map, Value};
 use session_text::Format;
-use std::alloc::{AllocError, Global};
+use std::alloc::AllocError;
 
 fn action_word(action: NotifyAction) -> &'static str
     ensures { result.now ≡ action_word action }
@@ -22,101 +23,122 @@ fn action_word(action: NotifyAction) -> &'static str
     }
 }
 
-pub(crate) fn interrupt_value(
-    alloc: Global,
+pub(crate) fn write_interrupt(
+    scribe: &mut Scribe,
     format: Format,
     core: u32,
     to: &str,
     note: Note,
-) -> Result<Value, AllocError>
-    ensures { IfOk result
-        (λ value. view value ≡ interrupt_data format core to.now note.action note.index) }
+) -> Result<(), AllocError>
+    ensures { OnOk result
+        (scribe.new
+        ≡ with_value (interrupt_data format core to.now note.action note.index) scribe.old) }
 {
-    let mut object = Map::new(alloc);
-    put_text(&mut object, alloc, "action", action_word(note.action))?;
-    put_whole(&mut object, alloc, "core", core)?;
-    put_text(&mut object, alloc, "do", "isr_notify")?;
-    put_text(&mut object, alloc, "to", to)?;
-    put_value(&mut object, alloc, note.action)?;
-    put_index(&mut object, alloc, format, note.index)?;
-    Ok(Value::Object(object))
+    scribe.begin_object()?;
+    scribe.text("action", action_word(note.action))?;
+    scribe.whole("core", core)?;
+    scribe.text("do", "isr_notify")?;
+    scribe.index(format, note.index)?;
+    scribe.text("to", to)?;
+    scribe.value(note.action)?;
+    scribe.end_object()
 }
 
 impl Caller<'_> {
-    pub(crate) fn notify(&self, to: &str, note: Note) -> Result<Value, AllocError>
-        ensures { IfOk result
-            (λ value. view value
-            ≡ notify_data self.now.format self.now.by.now self.now.core to.now note.action
-            note.index) }
+    pub(crate) fn notify(&self, scribe: &mut Scribe, to: &str, note: Note) -> Result<(), AllocError>
+        ensures { OnOk result
+            (scribe.new
+            ≡ with_value (notify_data self.now.format self.now.by.now self.now.core to.now
+            note.action note.index) scribe.old) }
     {
-        let mut object = Map::new(self.alloc);
-        put_text(&mut object, self.alloc, "action", action_word(note.action))?;
-        put_text(&mut object, self.alloc, "by", self.by)?;
-        put_whole(&mut object, self.alloc, "core", self.core)?;
-        put_text(&mut object, self.alloc, "do", "notify")?;
-        put_text(&mut object, self.alloc, "to", to)?;
-        put_value(&mut object, self.alloc, note.action)?;
-        put_index(&mut object, self.alloc, self.format, note.index)?;
-        Ok(Value::Object(object))
+        scribe.begin_object()?;
+        scribe.text("action", action_word(note.action))?;
+        self.members(scribe, "notify")?;
+        scribe.index(self.format, note.index)?;
+        scribe.text("to", to)?;
+        scribe.value(note.action)?;
+        scribe.end_object()
     }
 
     pub(crate) fn wait(
         &self,
+        scribe: &mut Scribe,
         entry: u32,
         exit: u32,
         ticks: u32,
         index: u32,
-    ) -> Result<Value, AllocError>
-        ensures { IfOk result
-            (λ value. view value
-            ≡ wait_data self.now.format self.now.by.now self.now.core entry exit ticks index) }
+    ) -> Result<(), AllocError>
+        ensures { OnOk result
+            (scribe.new
+            ≡ with_value (wait_data self.now.format self.now.by.now self.now.core entry exit ticks
+            index) scribe.old) }
     {
-        let mut object = self.members("notify_wait")?;
-        put_whole(&mut object, self.alloc, "entry", entry)?;
-        put_whole(&mut object, self.alloc, "exit", exit)?;
-        put_whole(&mut object, self.alloc, "ticks", ticks)?;
-        put_index(&mut object, self.alloc, self.format, index)?;
-        Ok(Value::Object(object))
+        scribe.begin_object()?;
+        self.members(scribe, "notify_wait")?;
+        scribe.whole("entry", entry)?;
+        scribe.whole("exit", exit)?;
+        scribe.index(self.format, index)?;
+        scribe.whole("ticks", ticks)?;
+        scribe.end_object()
     }
 
-    pub(crate) fn take(&self, clear: bool, ticks: u32, index: u32) -> Result<Value, AllocError>
-        ensures { IfOk result
-            (λ value. view value
-            ≡ take_data self.now.format self.now.by.now self.now.core clear ticks index) }
+    pub(crate) fn take(
+        &self,
+        scribe: &mut Scribe,
+        clear: bool,
+        ticks: u32,
+        index: u32,
+    ) -> Result<(), AllocError>
+        ensures { OnOk result
+            (scribe.new
+            ≡ with_value (take_data self.now.format self.now.by.now self.now.core clear ticks
+            index) scribe.old) }
     {
-        let mut object = Map::new(self.alloc);
-        put_text(&mut object, self.alloc, "by", self.by)?;
-        put_flag(&mut object, self.alloc, "clear", clear)?;
-        put_whole(&mut object, self.alloc, "core", self.core)?;
-        put_text(&mut object, self.alloc, "do", "notify_take")?;
-        put_whole(&mut object, self.alloc, "ticks", ticks)?;
-        put_index(&mut object, self.alloc, self.format, index)?;
-        Ok(Value::Object(object))
+        scribe.begin_object()?;
+        scribe.text("by", self.by)?;
+        scribe.flag("clear", clear)?;
+        scribe.whole("core", self.core)?;
+        scribe.text("do", "notify_take")?;
+        scribe.index(self.format, index)?;
+        scribe.whole("ticks", ticks)?;
+        scribe.end_object()
     }
 
-    pub(crate) fn state_clear(&self, to: &str, index: u32) -> Result<Value, AllocError>
-        ensures { IfOk result
-            (λ value. view value
-            ≡ state_clear_data self.now.format self.now.by.now self.now.core to.now index) }
+    pub(crate) fn state_clear(
+        &self,
+        scribe: &mut Scribe,
+        to: &str,
+        index: u32,
+    ) -> Result<(), AllocError>
+        ensures { OnOk result
+            (scribe.new
+            ≡ with_value (state_clear_data self.now.format self.now.by.now self.now.core to.now
+            index) scribe.old) }
     {
-        let mut object = self.members("state_clear")?;
-        put_text(&mut object, self.alloc, "to", to)?;
-        put_index(&mut object, self.alloc, self.format, index)?;
-        Ok(Value::Object(object))
+        scribe.begin_object()?;
+        self.members(scribe, "state_clear")?;
+        scribe.index(self.format, index)?;
+        scribe.text("to", to)?;
+        scribe.end_object()
     }
 
-    pub(crate) fn value_clear(&self, to: &str, bits: u32, index: u32) -> Result<Value, AllocError>
-        ensures { IfOk result
-            (λ value. view value
-            ≡ value_clear_data self.now.format self.now.by.now self.now.core to.now bits index) }
+    pub(crate) fn value_clear(
+        &self,
+        scribe: &mut Scribe,
+        to: &str,
+        bits: u32,
+        index: u32,
+    ) -> Result<(), AllocError>
+        ensures { OnOk result
+            (scribe.new
+            ≡ with_value (value_clear_data self.now.format self.now.by.now self.now.core to.now
+            bits index) scribe.old) }
     {
-        let mut object = Map::new(self.alloc);
-        put_whole(&mut object, self.alloc, "bits", bits)?;
-        put_text(&mut object, self.alloc, "by", self.by)?;
-        put_whole(&mut object, self.alloc, "core", self.core)?;
-        put_text(&mut object, self.alloc, "do", "value_clear")?;
-        put_text(&mut object, self.alloc, "to", to)?;
-        put_index(&mut object, self.alloc, self.format, index)?;
-        Ok(Value::Object(object))
+        scribe.begin_object()?;
+        scribe.whole("bits", bits)?;
+        self.members(scribe, "value_clear")?;
+        scribe.index(self.format, index)?;
+        scribe.text("to", to)?;
+        scribe.end_object()
     }
 }

@@ -1,14 +1,15 @@
 //! A session as a JSON text.
-ghost use Rattle.std.specs.Prelude.{◌≡◌, IfOk, Ok, Some};
-ghost use Rattle.serde_json.specs.View.{view};
+ghost use Rattle.std.specs.Prelude.{◌≡◌, [], ◌∷◌, All, IfOk, Ok, OnOk, Some, codes};
+ghost use Rattle.serde_json.specs.Data.{boolean};
 ghost use Rattle.bench_types.specs.Session.{IsSession};
+ghost use Rattle.bench_types.specs.Step.{IsCheckedStep, settings_of};
 ghost use Rattle.session_text.specs.Session.{session};
-ghost use Rattle.session_write.specs.Written.{first_data, format_for, queue_data, queues_data, second_data, session_data, task_data, tasks_data, third_data, written};
+ghost use Rattle.session_write.specs.Tokens.{with_members, with_value};
+ghost use Rattle.session_write.specs.Written.{first_data, format_for, members, queue_data, queues_data, second_data, session_data, steps_data, task_data, tasks_data, third_data, whole, written};
 
-use crate::object::{put_flag, put_units, put_whole};
-use crate::step::steps_value;
+use crate::scribe::Scribe;
+use crate::step::write_steps;
 use bench_types::{Config, Header, Items, QueueArgs, Step, TaskArgs};
-use serde_json::{Map, Value, json, put};
 use session_text::Format;
 use std::alloc::{AllocError, Global};
 
@@ -23,7 +24,9 @@ pub fn write_session(alloc: Global, header: &Header, steps: &[Step]) -> Result<V
     // So `read_session` gives the session back.
     ensures reads_back { IfOk result (λ text. session text.items ≡ Ok (header.now, steps.now)) }
 {
-    session_value(alloc, header, steps)?.to_vec(alloc)
+    let mut scribe = Scribe::new(alloc);
+    write_object(&mut scribe, header, steps)?;
+    Ok(scribe.into_text())
 }
 
 /// The format that a session of the header is written in.
@@ -40,129 +43,150 @@ fn format_for(header: &Header) -> Format
 }
 
 #[tactic(auto, unfolding(crate::specs::Written::data_in))]
-fn session_value(alloc: Global, header: &Header, steps: &[Step]) -> Result<Value, AllocError>
-    requires { IsSession (record { header = header.now; steps = steps.now }) }
-    ensures { IfOk result (λ value. view value ≡ session_data header.now steps.now) }
+fn write_object(scribe: &mut Scribe, header: &Header, steps: &[Step]) -> Result<(), AllocError>
+    requires { All (IsCheckedStep (settings_of header.now)) steps.now }
+    ensures { OnOk result
+        (scribe.new ≡ with_value (session_data header.now steps.now) scribe.old) }
 {
     let format = format_for(header);
-    let steps = steps_value(alloc, format, header, steps)?;
-    let tasks = tasks_value(alloc, header.tasks.as_slice())?;
     match format {
-        Format::One => first_value(alloc, header.config, steps, tasks),
-        Format::Two => second_value(alloc, header.config, steps, tasks),
-        Format::Three => {
-            let queues = queues_value(alloc, &header.queues)?;
-            third_value(alloc, header.config, queues, steps, tasks)
-        }
+        Format::One => write_first(scribe, header, steps),
+        Format::Two => write_second(scribe, header, steps),
+        Format::Three => write_third(scribe, header, steps),
     }
 }
 
-/// A session of format 1, with these steps and tasks.
-fn first_value(
-    alloc: Global,
-    config: Config,
-    steps: Value,
-    tasks: Value,
-) -> Result<Value, AllocError>
-    ensures { IfOk result (λ value. view value ≡ first_data config (view steps) (view tasks)) }
+/// A session of format 1.
+fn write_first(scribe: &mut Scribe, header: &Header, steps: &[Step]) -> Result<(), AllocError>
+    requires { All (IsCheckedStep (settings_of header.now)) steps.now }
+    ensures { OnOk result
+        (scribe.new
+        ≡ with_value (first_data header.now.config (steps_data Format.One header.now steps.now)
+        (tasks_data header.now.tasks)) scribe.old) }
 {
-    json!(in alloc; {
-        "cores": config.cores,
-        "format": 1u32,
-        "mutexes": config.mutexes,
-        "priorities": config.priorities,
-        "slicing": config.slicing,
-        "steps": steps,
-        "tasks": tasks,
-        "tick": config.tick
-    })
+    scribe.begin_object()?;
+    write_head(scribe, header.config, 1)?;
+    scribe.whole("priorities", header.config.priorities)?;
+    write_tail(scribe, Format::One, header, steps)?;
+    scribe.end_object()
 }
 
-/// The same of format 2.
-fn second_value(
-    alloc: Global,
-    config: Config,
-    steps: Value,
-    tasks: Value,
-) -> Result<Value, AllocError>
-    ensures { IfOk result (λ value. view value ≡ second_data config (view steps) (view tasks)) }
+/// A session of format 2.
+fn write_second(scribe: &mut Scribe, header: &Header, steps: &[Step]) -> Result<(), AllocError>
+    requires { All (IsCheckedStep (settings_of header.now)) steps.now }
+    ensures { OnOk result
+        (scribe.new
+        ≡ with_value (second_data header.now.config (steps_data Format.Two header.now steps.now)
+        (tasks_data header.now.tasks)) scribe.old) }
 {
-    json!(in alloc; {
-        "cores": config.cores,
-        "format": 2u32,
-        "mutexes": config.mutexes,
-        "notes": config.notes,
-        "priorities": config.priorities,
-        "slicing": config.slicing,
-        "steps": steps,
-        "tasks": tasks,
-        "tick": config.tick
-    })
+    scribe.begin_object()?;
+    write_head(scribe, header.config, 2)?;
+    scribe.whole("notes", header.config.notes)?;
+    scribe.whole("priorities", header.config.priorities)?;
+    write_tail(scribe, Format::Two, header, steps)?;
+    scribe.end_object()
 }
 
-/// The same of format 3, with these queues.
-fn third_value(
-    alloc: Global,
-    config: Config,
-    queues: Value,
-    steps: Value,
-    tasks: Value,
-) -> Result<Value, AllocError>
-    ensures { IfOk result
-        (λ value. view value ≡ third_data config (view queues) (view steps) (view tasks)) }
+/// A session of format 3.
+fn write_third(scribe: &mut Scribe, header: &Header, steps: &[Step]) -> Result<(), AllocError>
+    requires { All (IsCheckedStep (settings_of header.now)) steps.now }
+    ensures { OnOk result
+        (scribe.new
+        ≡ with_value (third_data header.now.config (queues_data header.now.queues)
+        (steps_data Format.Three header.now steps.now) (tasks_data header.now.tasks))
+        scribe.old) }
 {
-    let mut object = Map::new(alloc);
-    put_whole(&mut object, alloc, "cores", config.cores)?;
-    put_whole(&mut object, alloc, "format", 3)?;
-    put_whole(&mut object, alloc, "mutexes", config.mutexes)?;
-    put_whole(&mut object, alloc, "notes", config.notes)?;
-    put_whole(&mut object, alloc, "priorities", config.priorities)?;
-    put(&mut object, alloc, "queues", queues)?;
-    put_flag(&mut object, alloc, "slicing", config.slicing)?;
-    put(&mut object, alloc, "steps", steps)?;
-    put(&mut object, alloc, "tasks", tasks)?;
-    put_whole(&mut object, alloc, "tick", config.tick)?;
-    put_units(&mut object, alloc, config.units)?;
-    Ok(Value::Object(object))
+    scribe.begin_object()?;
+    write_head(scribe, header.config, 3)?;
+    scribe.whole("notes", header.config.notes)?;
+    scribe.whole("priorities", header.config.priorities)?;
+    scribe.name("queues")?;
+    write_queues(scribe, &header.queues)?;
+    write_tail(scribe, Format::Three, header, steps)?;
+    scribe.units(header.config.units)?;
+    scribe.end_object()
 }
 
-fn queue_value(alloc: Global, queue: QueueArgs) -> Result<Value, AllocError>
-    ensures { IfOk result (λ value. view value ≡ queue_data queue) }
+/// The first members of every format.
+fn write_head(scribe: &mut Scribe, config: Config, format: u32) -> Result<(), AllocError>
+    ensures { OnOk result
+        (scribe.new
+        ≡ with_members (members ((codes "cores", whole config.cores)
+        ∷ (codes "format", whole format)
+        ∷ (codes "mutexes", whole config.mutexes) ∷ [])) scribe.old) }
 {
-    json!(in alloc; {"length": queue.length, "messages": queue.messages})
+    scribe.whole("cores", config.cores)?;
+    scribe.whole("format", format)?;
+    scribe.whole("mutexes", config.mutexes)
 }
 
-fn queue_values(alloc: Global, queues: &[QueueArgs]) -> Result<Value, AllocError>
-    ensures { IfOk result (λ value. view value ≡ queues_data (Some queues.now)) }
+/// The members from `slicing` to `tick`, which every format has.
+fn write_tail(
+    scribe: &mut Scribe,
+    format: Format,
+    header: &Header,
+    steps: &[Step],
+) -> Result<(), AllocError>
+    requires { All (IsCheckedStep (settings_of header.now)) steps.now }
+    ensures { OnOk result
+        (scribe.new
+        ≡ with_members (members ((codes "slicing", boolean header.now.config.slicing)
+        ∷ (codes "steps", steps_data format header.now steps.now)
+        ∷ (codes "tasks", tasks_data header.now.tasks)
+        ∷ (codes "tick", whole header.now.config.tick) ∷ [])) scribe.old) }
 {
-    let mut values = Vec::with_capacity(alloc, queues.len())?;
-    for queue in queues {
-        values.push(queue_value(alloc, *queue)?)?;
-    }
-    Ok(Value::Array(values))
+    scribe.flag("slicing", header.config.slicing)?;
+    scribe.name("steps")?;
+    write_steps(scribe, format, header, steps)?;
+    scribe.name("tasks")?;
+    write_tasks(scribe, header.tasks.as_slice())?;
+    scribe.whole("tick", header.config.tick)
 }
 
-fn queues_value(alloc: Global, queues: &Option<Items<QueueArgs>>) -> Result<Value, AllocError>
-    ensures { IfOk result (λ value. view value ≡ queues_data queues.now) }
+fn write_queues(scribe: &mut Scribe, queues: &Option<Items<QueueArgs>>) -> Result<(), AllocError>
+    ensures { OnOk result (scribe.new ≡ with_value (queues_data queues.now) scribe.old) }
 {
     match queues {
-        Some(queues) => queue_values(alloc, queues.as_slice()),
-        None => queue_values(alloc, &[]),
+        Some(queues) => write_each_queue(scribe, queues.as_slice()),
+        None => write_each_queue(scribe, &[]),
     }
 }
 
-fn tasks_value(alloc: Global, tasks: &[TaskArgs]) -> Result<Value, AllocError>
-    ensures { IfOk result (λ value. view value ≡ tasks_data tasks.now) }
+fn write_each_queue(scribe: &mut Scribe, queues: &[QueueArgs]) -> Result<(), AllocError>
+    ensures { OnOk result (scribe.new ≡ with_value (queues_data (Some queues.now)) scribe.old) }
 {
-    let mut values = Vec::with_capacity(alloc, tasks.len())?;
+    scribe.begin_array()?;
+    for queue in queues {
+        write_queue(scribe, *queue)?;
+    }
+    scribe.end_array()
+}
+
+fn write_queue(scribe: &mut Scribe, queue: QueueArgs) -> Result<(), AllocError>
+    ensures { OnOk result (scribe.new ≡ with_value (queue_data queue) scribe.old) }
+{
+    scribe.begin_object()?;
+    scribe.whole("length", queue.length)?;
+    scribe.whole("messages", queue.messages)?;
+    scribe.end_object()
+}
+
+fn write_tasks(scribe: &mut Scribe, tasks: &[TaskArgs]) -> Result<(), AllocError>
+    ensures { OnOk result (scribe.new ≡ with_value (tasks_data tasks.now) scribe.old) }
+{
+    scribe.begin_array()?;
     for task in tasks {
-        values.push(task_value(alloc, task)?)?;
+        write_task(scribe, task)?;
     }
-    Ok(Value::Array(values))
+    scribe.end_array()
 }
 
-fn task_value(alloc: Global, task: &TaskArgs) -> Result<Value, AllocError>
-    ensures { IfOk result (λ value. view value ≡ task_data task.now) }
+fn write_task(scribe: &mut Scribe, task: &TaskArgs) -> Result<(), AllocError>
+    ensures { OnOk result (scribe.new ≡ with_value (task_data task.now) scribe.old) }
 {
-    json!(in alloc; {"mask": task.mask, "name": task.name.as_str(), "priority": task.priority})
+    scribe.begin_object()?;
+    scribe.whole("mask", task.mask)?;
+    scribe.text("name", task.name.as_str())?;
+    scribe.whole("priority", task.priority)?;
+    scribe.end_object()
 }

@@ -1,66 +1,90 @@
 //! The objects of steps.
-ghost use Rattle.std.specs.Prelude.{◌≡◌, ◌+◌, ◌<◌, ◌≤◌, All, IfOk, Ok, length};
-ghost use Rattle.serde_json.specs.View.{view};
+ghost use Rattle.std.specs.Prelude.{◌≡◌, ◌+◌, ◌<◌, ◌≤◌, [], ◌∷◌, All, Ok, OnOk, codes, length};
+ghost use Rattle.serde_json.specs.Data.{string};
 ghost use Rattle.bench_types.specs.Step.{IsCheckedStep, call_check, settings_of, step_check};
-ghost use Rattle.session_write.specs.Written.{call_data, queue_interrupt_data, queue_interrupt_word, resume_interrupt_data, step_data, steps_data, task_name};
+ghost use Rattle.session_write.specs.Tokens.{with_value};
+ghost use Rattle.session_write.specs.Written.{call_data, object_with, pass_data, queue_interrupt_data, queue_interrupt_word, resume_interrupt_data, step_data, steps_data, task_name, whole};
 
 use crate::caller::Caller;
-use crate::notes::interrupt_value;
+use crate::notes::write_interrupt;
+use crate::scribe::Scribe;
 use bench_types::{Call, Direction, Header, Step};
-use serde_json::{Value, json};
 use session_text::Format;
-use std::alloc::{AllocError, Global};
+use std::alloc::AllocError;
 
-pub(crate) fn steps_value(
-    alloc: Global,
+pub(crate) fn write_steps(
+    scribe: &mut Scribe,
     format: Format,
     header: &Header,
     steps: &[Step],
-) -> Result<Value, AllocError>
+) -> Result<(), AllocError>
     requires { All (IsCheckedStep (settings_of header.now)) steps.now }
-    ensures { IfOk result (λ value. view value ≡ steps_data format header.now steps.now) }
+    ensures { OnOk result
+        (scribe.new ≡ with_value (steps_data format header.now steps.now) scribe.old) }
 {
-    let mut values = Vec::with_capacity(alloc, steps.len())?;
+    scribe.begin_array()?;
     for step in steps {
-        values.push(step_value(alloc, format, header, step)?)?;
+        write_step(scribe, format, header, step)?;
     }
-    Ok(Value::Array(values))
+    scribe.end_array()
 }
 
-fn step_value(
-    alloc: Global,
+fn write_step(
+    scribe: &mut Scribe,
     format: Format,
     header: &Header,
     step: &Step,
-) -> Result<Value, AllocError>
+) -> Result<(), AllocError>
     requires { step_check (settings_of header.now) step.now ≡ Ok tt }
-    ensures { IfOk result (λ value. view value ≡ step_data format header.now step.now) }
+    ensures { OnOk result
+        (scribe.new ≡ with_value (step_data format header.now step.now) scribe.old) }
 {
     match step {
-        Step::Tick => json!(in alloc; {"do": "tick"}),
-        Step::Switch { core } => json!(in alloc; {"core": *core, "do": "switch"}),
+        Step::Tick => write_tick(scribe),
+        Step::Switch { core } => write_switch(scribe, *core),
         Step::Call { core, task, call } => {
             let caller = Caller {
-                alloc,
                 format,
                 by: task_name(header, *task),
                 core: *core,
             };
-            call_value(header, &caller, *call)
+            write_call(scribe, header, &caller, *call)
         }
         Step::Interrupt { core, note } => {
-            interrupt_value(alloc, format, *core, task_name(header, note.task), *note)
+            write_interrupt(scribe, format, *core, task_name(header, note.task), *note)
         }
         Step::QueueInterrupt {
             core,
             queue,
             direction,
-        } => queue_interrupt_value(alloc, *core, *queue, *direction),
+        } => write_queue_interrupt(scribe, *core, *queue, *direction),
         Step::ResumeInterrupt { core, task } => {
-            resume_interrupt_value(alloc, *core, task_name(header, *task))
+            write_resume_interrupt(scribe, *core, task_name(header, *task))
         }
-        Step::Pass { units } => json!(in alloc; {"do": "pass", "units": *units}),
+        Step::Pass { units } => write_pass(scribe, *units),
     }
+}
+
+fn write_tick(scribe: &mut Scribe) -> Result<(), AllocError>
+    ensures { OnOk result
+        (scribe.new
+        ≡ with_value (object_with ((codes "do", string (codes "tick")) ∷ [])) scribe.old) }
+{
+    scribe.begin_object()?;
+    scribe.text("do", "tick")?;
+    scribe.end_object()
+}
+
+fn write_switch(scribe: &mut Scribe, core: u32) -> Result<(), AllocError>
+    ensures { OnOk result
+        (scribe.new
+        ≡ with_value (object_with ((codes "core", whole core)
+        ∷ (codes "do", string (codes "switch")) ∷ [])) scribe.old) }
+{
+    scribe.begin_object()?;
+    scribe.whole("core", core)?;
+    scribe.text("do", "switch")?;
+    scribe.end_object()
 }
 
 fn queue_interrupt_word(direction: Direction) -> &'static str
@@ -72,64 +96,95 @@ fn queue_interrupt_word(direction: Direction) -> &'static str
     }
 }
 
-fn queue_interrupt_value(
-    alloc: Global,
+fn write_queue_interrupt(
+    scribe: &mut Scribe,
     core: u32,
     queue: u32,
     direction: Direction,
-) -> Result<Value, AllocError>
-    ensures { IfOk result (λ value. view value ≡ queue_interrupt_data core queue direction) }
+) -> Result<(), AllocError>
+    ensures { OnOk result
+        (scribe.new ≡ with_value (queue_interrupt_data core queue direction) scribe.old) }
 {
-    json!(in alloc; {"core": core, "do": queue_interrupt_word(direction), "queue": queue})
+    scribe.begin_object()?;
+    scribe.whole("core", core)?;
+    scribe.text("do", queue_interrupt_word(direction))?;
+    scribe.whole("queue", queue)?;
+    scribe.end_object()
 }
 
-fn resume_interrupt_value(alloc: Global, core: u32, to: &str) -> Result<Value, AllocError>
-    ensures { IfOk result (λ value. view value ≡ resume_interrupt_data core to.now) }
+fn write_resume_interrupt(scribe: &mut Scribe, core: u32, to: &str) -> Result<(), AllocError>
+    ensures { OnOk result
+        (scribe.new ≡ with_value (resume_interrupt_data core to.now) scribe.old) }
 {
-    json!(in alloc; {"core": core, "do": "isr_resume", "to": to})
+    scribe.begin_object()?;
+    scribe.whole("core", core)?;
+    scribe.text("do", "isr_resume")?;
+    scribe.text("to", to)?;
+    scribe.end_object()
 }
 
-fn call_value(header: &Header, caller: &Caller<'_>, call: Call) -> Result<Value, AllocError>
+fn write_pass(scribe: &mut Scribe, units: u32) -> Result<(), AllocError>
+    ensures { OnOk result (scribe.new ≡ with_value (pass_data units) scribe.old) }
+{
+    scribe.begin_object()?;
+    scribe.text("do", "pass")?;
+    scribe.whole("units", units)?;
+    scribe.end_object()
+}
+
+fn write_call(
+    scribe: &mut Scribe,
+    header: &Header,
+    caller: &Caller<'_>,
+    call: Call,
+) -> Result<(), AllocError>
     requires { call_check (settings_of header.now) call ≡ Ok tt }
-    ensures { IfOk result
-        (λ value. view value
-        ≡ call_data caller.now.format header.now caller.now.by.now caller.now.core call) }
+    ensures { OnOk result
+        (scribe.new
+        ≡ with_value (call_data caller.now.format header.now caller.now.by.now caller.now.core
+        call) scribe.old) }
 {
     match call {
-        Call::Yield => caller.bare("yield"),
-        Call::Delay(ticks) => caller.delay(ticks),
-        Call::DelayUntil { prev, inc } => caller.delay_until(prev, inc),
+        Call::Yield => caller.bare(scribe, "yield"),
+        Call::Delay(ticks) => caller.delay(scribe, ticks),
+        Call::DelayUntil { prev, inc } => caller.delay_until(scribe, prev, inc),
         Call::PrioritySet { task, priority } => {
-            caller.priority_set(task_name(header, task), priority)
+            caller.priority_set(scribe, task_name(header, task), priority)
         }
-        Call::AffinitySet { task, mask } => caller.affinity_set(task_name(header, task), mask),
-        Call::PreemptOff(task) => caller.call_for("preempt_off", task_name(header, task)),
-        Call::PreemptOn(task) => caller.call_for("preempt_on", task_name(header, task)),
-        Call::Notify(note) => caller.notify(task_name(header, note.task), note),
+        Call::AffinitySet { task, mask } => {
+            caller.affinity_set(scribe, task_name(header, task), mask)
+        }
+        Call::PreemptOff(task) => caller.call_for(scribe, "preempt_off", task_name(header, task)),
+        Call::PreemptOn(task) => caller.call_for(scribe, "preempt_on", task_name(header, task)),
+        Call::Notify(note) => caller.notify(scribe, task_name(header, note.task), note),
         Call::NotifyWait {
             entry,
             exit,
             ticks,
             index,
-        } => caller.wait(entry, exit, ticks, index),
+        } => caller.wait(scribe, entry, exit, ticks, index),
         Call::NotifyTake {
             clear,
             ticks,
             index,
-        } => caller.take(clear, ticks, index),
-        Call::StateClear { task, index } => caller.state_clear(task_name(header, task), index),
-        Call::ValueClear { task, bits, index } => {
-            caller.value_clear(task_name(header, task), bits, index)
+        } => caller.take(scribe, clear, ticks, index),
+        Call::StateClear { task, index } => {
+            caller.state_clear(scribe, task_name(header, task), index)
         }
-        Call::MutexTake { mutex, ticks } => caller.mutex_take(mutex, ticks),
-        Call::MutexGive(mutex) => caller.mutex_give(mutex),
-        Call::QueueSend { queue, ticks } => caller.transfer("queue_send", queue, ticks),
-        Call::QueueReceive { queue, ticks } => caller.transfer("queue_receive", queue, ticks),
-        Call::Suspend(task) => caller.call_for("suspend", task_name(header, task)),
-        Call::Resume(task) => caller.call_for("resume", task_name(header, task)),
-        Call::Finish => caller.bare("finish"),
-        Call::HoldOpen => caller.bare("hold_open"),
-        Call::HoldClose => caller.bare("hold_close"),
+        Call::ValueClear { task, bits, index } => {
+            caller.value_clear(scribe, task_name(header, task), bits, index)
+        }
+        Call::MutexTake { mutex, ticks } => caller.mutex_take(scribe, mutex, ticks),
+        Call::MutexGive(mutex) => caller.mutex_give(scribe, mutex),
+        Call::QueueSend { queue, ticks } => caller.transfer(scribe, "queue_send", queue, ticks),
+        Call::QueueReceive { queue, ticks } => {
+            caller.transfer(scribe, "queue_receive", queue, ticks)
+        }
+        Call::Suspend(task) => caller.call_for(scribe, "suspend", task_name(header, task)),
+        Call::Resume(task) => caller.call_for(scribe, "resume", task_name(header, task)),
+        Call::Finish => caller.bare(scribe, "finish"),
+        Call::HoldOpen => caller.bare(scribe, "hold_open"),
+        Call::HoldClose => caller.bare(scribe, "hold_close"),
     }
 }
 

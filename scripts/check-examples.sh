@@ -2,8 +2,7 @@
 # Runs the built program over every document of examples/ and compares its whole output with the file beside it: NAME.out for
 # `replay`, NAME.tally, where there is one, for `replay --tally`, and NAME.whatif, NAME.settled, NAME.compare and NAME.run, which may
 # stand alone, for `whatif`, for `smp_view settle` and a replay of what it writes, for `smp_view compare --settle`, and for `smp_view
-# simulate`. A rig
-# document is recorded, and the recording replayed. Then it
+# simulate`. Beside a workload stands its page, NAME.html. A rig document is recorded, and the recording replayed. Then it
 # looks at what README.md and docs/ show of these documents and outputs, and at the texts and refusals of docs/FORMATS.md. One line where something differs, then a total;
 # status 1 where something does.
 # With --write it writes the outputs anew instead; look at what `git diff` shows before you keep them.
@@ -87,6 +86,9 @@ compared() {
 simulated() {
     "$viewer" simulate
 }
+paged() {
+    "$viewer" page --axis time --to 60
+}
 
 # The kinds of steps or actions, one a line, as they stand.
 kinds() {
@@ -135,13 +137,16 @@ while IFS= read -r -d '' document; do
     ! [ -e "${document%.json}.settled" ] || hold_view "$document" "${document%.json}.settled" settled
     ! [ -e "${document%.json}.compare" ] || hold_view "$document" "${document%.json}.compare" compared
     ! [ -e "${document%.json}.run" ] || hold_view "$document" "${document%.json}.run" simulated
+    if [ "${document%/*}" = examples/workloads ]; then
+        hold_view "$document" "${document%.json}.html" paged
+    fi
     ! [ -e "${document%.json}.tally" ] || hold "$document" "${document%.json}.tally" replay --tally
     ! [ -e "${document%.json}.whatif" ] || hold "$document" "${document%.json}.whatif" whatif
 done < <(find examples -name '*.json' -print0 | sort -z)
 
 while IFS= read -r -d '' file; do
     [ -e "${file%.*}.json" ] || wrong "$file: no such document"
-done < <(find examples \( -name '*.out' -o -name '*.tally' -o -name '*.whatif' -o -name '*.settled' -o -name '*.compare' -o -name '*.run' \) -print0 | sort -z)
+done < <(find examples \( -name '*.out' -o -name '*.tally' -o -name '*.whatif' -o -name '*.settled' -o -name '*.compare' -o -name '*.run' -o -name '*.html' \) -print0 | sort -z)
 
 # A table of a folder names each document in it.
 while IFS= read -r -d '' document; do

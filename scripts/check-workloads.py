@@ -7,8 +7,8 @@ loads that the table there tells, by scripts/report.py. Then come 2,000 random w
 as the first argument says. They have calls and interrupts of every kind, loops, branches and lists
 of works, and tick counts at both ends of 32 bits. Each run has to be right. Then up to six other
 runs are made of it by damage, and each has to be refused. Every other damaged run is settled, so
-that its switches and returns are right again. A line where something is wrong, then totals; status
-1 where something is. The second argument is the first number of the random workloads. SMP_VIEW
+that its switches and returns are right again. Then the workload is edited, and the run of what that
+leaves has to be right. A line where something is wrong, then totals; status 1 where something is. The second argument is the first number of the random workloads. SMP_VIEW
 names another program.
 """
 
@@ -204,6 +204,53 @@ def workload_of(rng):
     return workload
 
 
+# Edits.
+
+
+def paths(items, path=()):
+    """Each item of a program with its path."""
+    for index, item in enumerate(items):
+        here = (*path, index)
+        yield item, here
+        for word in filter(item.__contains__, workloads.LISTS if isinstance(item, dict) else ()):
+            yield from paths(item[word], here + (word,) * (word in workloads.BRANCHES))
+
+
+def change(rng, workload, task):
+    """Another priority and mask of a task."""
+    priority = rng.randrange(workload["priorities"])
+    mask = rng.randint(1, (1 << workload["cores"]) - 1)
+    return {"edit": "change", "task": task["name"], "priority": priority, "mask": mask}
+
+
+def is_plain(item):
+    """Whether no loop ends by an item and no hold: a work, or another call without branches."""
+    if item == "break" or item.get("do") in NO_PLAIN_CALL:
+        return False
+    return not any(word in item for word in workloads.LISTS)
+
+
+def other_item(rng, workload, task):
+    """Another work in place of one, or a delay in place of a call, if the task has one."""
+    may = [(item, path) for item, path in paths(task.get("program", [])) if is_plain(item)]
+    if not may:
+        return change(rng, workload, task)
+    item, path = rng.choice(may)
+    delay = {"do": "delay", "ticks": rng.randint(1, 4)}
+    new = work(rng, workload) if "work" in item else delay
+    return {"edit": "set", "task": task["name"], "item": list(path)} | new
+
+
+def with_edits(rng, workload):
+    """A document with edits of a workload."""
+    document = {"workload": workload, "edits": []}
+    for _ in range(rng.randint(1, 3)):
+        left = workloads.edited(document)
+        edit = rng.choice((change, other_item))(rng, left, rng.choice(left["tasks"]))
+        document["edits"].append(edit)
+    return document
+
+
 # Damage.
 
 
@@ -367,10 +414,10 @@ class Count:
         self.right, self.wrong, self.passed = 0, 0, 0
         self.kinds, self.refused, self.properties = Counter(), Counter(), Counter()
 
-    def hold(self, what, workload):
-        """Hold the run of a workload to it, and give it where it is right."""
-        session, told, why = simulated(workload)
-        why = why or workloads.fault(workload, session, told)
+    def hold(self, what, document):
+        """Hold the run of a workload, or of what its edits leave, and give it where it is right."""
+        session, told, why = simulated(document)
+        why = why or workloads.fault(workloads.edited(document), session, told)
         if why:
             self.wrong += 1
             print(f"WRONG {what}: {why}")
@@ -434,6 +481,7 @@ def main():
         session = count.hold(f"workload {number}", workload)
         if session is not None:
             count.damage(rng, number, session, workload)
+        count.hold(f"workload {number} with edits", with_edits(rng, workload))
     steps = f"{sum(count.kinds.values())} steps of {len(count.kinds)} kinds"
     print(f"{count.right} runs right, {count.wrong} wrong, {steps}")
     by = ", ".join(f"{name} {of}" for name, of in sorted(count.properties.items()))

@@ -312,9 +312,11 @@ class Check:
 
         def validator(place):
             return Draft202012Validator({"$ref": base + place}, registry=registry)
-        self.valid = {name: validator(name + ".schema.json").is_valid for name in ("session", "bench", "rig", "workload")}
+        kinds = ("session", "bench", "rig", "workload", "edited-workload")
+        self.valid = {name: validator(name + ".schema.json").is_valid for name in kinds}
         self.valid_step = validator("session.schema.json#/$defs/step").is_valid
-        self.valid_edit = validator("bench.schema.json#/$defs/edit").is_valid
+        edits = [validator(name + ".schema.json#/$defs/edit") for name in ("bench", "edited-workload")]
+        self.valid_edit = lambda value: any(edit.is_valid(value) for edit in edits)
 
     def fault(self, why, text):
         self.faults += 1
@@ -327,7 +329,7 @@ class Check:
 
     def hold(self, kind, text, line, valid):
         # No command of this program reads workloads.
-        if kind != "workload" and not re.match(line, self.first_line(kind, text)):
+        if "workload" not in kind and not re.match(line, self.first_line(kind, text)):
             self.fault("%s, which the program answers otherwise than %s" % (kind, line), text)
         if self.valid[kind](json.loads(text)) != valid:
             self.fault("%s %s" % (kind, "not valid" if valid else "valid"), text)
@@ -347,7 +349,7 @@ def described(name, schema, check):
 
 
 def kind_of(value):
-    names = {"scripts": "rig", "session": "bench", "ticks": "workload"}
+    names = {"scripts": "rig", "session": "bench", "workload": "edited-workload", "ticks": "workload"}
     return next((kind for member, kind in names.items() if member in value), "session")
 
 
@@ -360,7 +362,7 @@ def written(check):
             value = json.loads(path.read_text())
             if "workloads" not in path.parts:
                 check.hold(kind_of(value), path.read_text(), FINE, True)
-            elif not check.valid["workload"](value):
+            elif not check.valid[kind_of(value)](value):
                 check.fault("workload not valid", path.read_text())
             count += 1
     for path in sorted(pathlib.Path("docs").glob("*.md")):

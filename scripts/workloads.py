@@ -3,8 +3,8 @@
 
     workloads.py WORKLOAD RUN
 
-WORKLOAD is a file with a workload document, RUN one with a session. Both are taken to be well
-formed. The kernel is that of settle.py. The run is gone through once. Nowhere is the next step
+WORKLOAD is a file with a workload document, with edits or without, RUN one with a session. Both are
+taken to be well formed. The kernel is that of settle.py. The run is gone through once. Nowhere is the next step
 worked out: at each place it is asked of the step that stands there whether it may.
 
 - header: the session has the settings and the tasks of the workload
@@ -24,6 +24,7 @@ A task works while it is on a core and has no unfinished call. Nothing is printe
 right. Else the first place where one fails is, with the first that does, and the status is 1.
 """
 
+import copy
 import heapq
 import itertools
 import json
@@ -35,6 +36,7 @@ import settle
 
 NOT_IN_HEADER = ("interrupts", "ticks", "steps")
 OF_CALLERS = ("core", "by")
+OF_EDITS = ("edit", "task", "item")
 BRANCHES = ("then", "else")
 LOOPS = {"repeat", "forever"}
 LISTS = (*BRANCHES, "of", "forever")
@@ -171,12 +173,43 @@ def answer_of_finish(table, task):
     return call["do"] == "delay" or is_affirmative(table, task, call)
 
 
-# The run so far.
+# Edits.
 
 
 def without(members, left_out):
     """An object without some members."""
     return {name: value for name, value in members.items() if name not in left_out}
+
+
+def place_of(items, path):
+    """The list in which the item at a path stands, and its index there."""
+    parts = iter(path)
+    index = next(parts)
+    for part in parts:
+        item = items[index]
+        word = part if part in BRANCHES else next(filter(item.__contains__, LISTS))
+        items, index = item[word], next(parts) if part in BRANCHES else part
+    return items, index
+
+
+def edited(document):
+    """The workload that a document is, or what its edits leave of it, made one after another."""
+    if "workload" not in document:
+        return document
+    workload = copy.deepcopy(document["workload"])
+    tasks = {task["name"]: task for task in workload["tasks"]}
+    for edit in document.get("edits", []):
+        task = tasks[edit["task"]]
+        if edit["edit"] == "change":
+            task.update(priority=edit["priority"], mask=edit["mask"])
+        else:
+            items, index = place_of(task["program"], edit["item"])
+            items[index] = without(edit, OF_EDITS)
+    return workload
+
+
+# The run so far.
+
 
 
 def alike(one, other):
@@ -445,7 +478,7 @@ def main():
         print("usage: workloads.py WORKLOAD RUN", file=sys.stderr)
         return 2
     workload, session = (json.loads(pathlib.Path(path).read_bytes()) for path in sys.argv[1:])
-    found = fault(workload, session)
+    found = fault(edited(workload), session)
     if found:
         print(found)
     return int(found != "")

@@ -28,6 +28,7 @@ use Rattle.session_text.specs.declared.rig.RigScript.{RigScript}
 use Rattle.session_text.specs.Bench.{bench_text}
 use Rattle.session_text.specs.Rig.{rig_text}
 use Rattle.program_io.specs.Placed.{fault_location, flaw_path, location_suffix}
+use Rattle.program_io.specs.Rule.{rule_text}
 
 -- ---- H1
 
@@ -270,6 +271,7 @@ shape_text (detail.Step flaw) = step_flaw_text flaw
 shape_text (detail.NoTask name nearest) = no_name_text name ++ nearest_name_text nearest
 shape_text (detail.Limit limit) =
     codes "limit is " ++ decimal limit ++ codes ", and may be 0 to " ++ decimal max_steps
+shape_text (detail.Rule rule) = rule_text rule
 
 -- F1 of the header has no path
 abbrev pub fault_line : List ℕ → List ℕ → Detail → List ℕ

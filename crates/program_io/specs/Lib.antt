@@ -5,4 +5,5 @@ pub mod Outputs
 pub mod Placed
 pub mod Prompt
 pub mod Refusal
+pub mod Rule
 pub mod Twice

@@ -8,6 +8,7 @@ ghost use Rattle.session_text.specs.declared.fault.Why.TheVariants.{NoMemory};
 ghost use Rattle.program_io.specs.Hint.{bad_name_text, header_line, IsFaultHint, IsNotJsonHint, IsShortTextHint, TellsLocation, expected_text, fault_line, flaw_text, found_text, limits_text, line_at, mask_text, member_text, mutex_text, nearest_name_text, nearest_text, no_name_text, no_queue_text, no_word_text, none_of_text, number_text, queue_text, quoted, shape_text, step_flaw_text, task_limit_text, task_text, too_long_line, too_many_steps_line, units_text, unknown_text, whole_text, word_text, words_text, wrong_text};
 
 use crate::placed::{fault_location, flaw_path, push_location};
+use crate::rule::push_rule;
 use bench_types::{
     HeaderFlaw, MAX_CORES, MAX_INPUT, MAX_MUTEXES, MAX_NAME, MAX_NOTES, MAX_PRIORITIES, MAX_QUEUES,
     MAX_STEPS, MAX_TASKS, MAX_UNITS, MIN_CORES, StepFlaw,
@@ -459,6 +460,7 @@ fn push_shape(text: &mut String, detail: &Detail) -> Result<(), AllocError>
         Detail::Step(flaw) => push_step_flaw(text, *flaw),
         Detail::NoTask { name, nearest } => push_no_task(text, name, nearest),
         Detail::Limit(limit) => push_limit(text, *limit),
+        Detail::Rule(rule) => push_rule(text, *rule),
     }
 }
 
@@ -503,7 +505,8 @@ fn bench_fault_hint(
         | Detail::OnePerCore(_)
         | Detail::Step(_)
         | Detail::NoTask { .. }
-        | Detail::Limit(_) => shape_hint(alloc, input, path, detail),
+        | Detail::Limit(_)
+        | Detail::Rule(_) => shape_hint(alloc, input, path, detail),
     }
 }
 

@@ -10,6 +10,7 @@ mod output;
 mod placed;
 mod prompt;
 mod refusal;
+mod rule;
 mod telling;
 mod writing;
 

@@ -1,11 +1,11 @@
--- A change of a session is what edits make of it, and leaves a session.
+-- A change of a session is what edits make of it, and leaves a session; so is one of a header alone.
 use Rattle.std.proofs.Common.{◌≡◌, ℕ, ◌+◌, ◌-◌, ◌<◌, ◌^◌, Bool, true, cond, List, [], ◌∷◌, length, get_or, set, Result, Ok, Err, refl, ap, ap₂, ◌∙◌, arith}
 use Rattle.std.specs.Prelude.{is_ok, nat_lt, swap}
 use Rattle.std.specs.Result.{result_map_both}
 use Rattle.std.proofs.lemmas.Bool.{and_parts}
 use Rattle.std.proofs.lemmas.Bool.Decides.{nat_tests}
 use Rattle.std.proofs.lemmas.List.{get_or_default, length-set}
-use Rattle.std.proofs.lemmas.List.Elements.{All-from_recursion}
+use Rattle.std.proofs.lemmas.List.Elements.{All-from_recursion, All-nil}
 use Rattle.std.proofs.lemmas.List.Sorted.{All-permutation, IsPermutation-swap}
 use Rattle.bench_types.specs.declared.edit.Edit.{Edit}
 use Rattle.bench_types.specs.declared.edit.Edit.TheVariants.{Replace, ChangeTask}
@@ -18,7 +18,7 @@ use Rattle.bench_types.specs.declared.header.TaskArgs.{TaskArgs}
 use Rattle.bench_types.specs.declared.step.Step.{Step}
 use Rattle.bench_types.specs.declared.step.Step.TheVariants.{Tick}
 use Rattle.bench_types.specs.Edit.{edit_check, numbers_check}
-use Rattle.bench_types.specs.Header.{cores_of_mask, has_valid_numbers}
+use Rattle.bench_types.specs.Header.{cores_of_mask, has_valid_numbers, IsCheckedHeader}
 use Rattle.bench_types.specs.Session.{Session, IsSession}
 use Rattle.bench_types.specs.Step.{settings_of, task_check, IsCheckedStep, ◌>>◌}
 use Rattle.bench_types.proofs.Passes.{checked_header, has_valid_args}
@@ -27,8 +27,8 @@ use Rattle.bench_model.specs.Edits.{accepted, after_edit, after_edits, args_of, 
 use Rattle.session_laws.proofs.EditedSessions.{edited_session}
 use Rattle.ranked_changes.specs.declared.change.Change.{Change}
 use Rattle.ranked_changes.specs.declared.change.Change.TheVariants as change
-use Rattle.ranked_changes.specs.Changed.{changed, changed_header, changed_steps, IsUserTask}
-use Rattle.ranked_changes.specs.ChangeLaws.{edits_of, step_at, ChangesAreEdits, ChangesKeepSessions}
+use Rattle.ranked_changes.specs.Changed.{changed_header, changed_session, changed_steps, IsHeaderChange, IsStepChange, IsUserTask}
+use Rattle.ranked_changes.specs.ChangeLaws.{edits_of, step_at, ChangesAreEdits}
 
 -- ---- accepted edits
 
@@ -111,7 +111,7 @@ replaced session at step checked within =
     after session (Replace at step) (accepts session (Replace at step) checked.passes (grind (arith, nat_tests, within)) refl)
 
 exchanged : (session : Session) (first second : ℕ) → IsSession session → first < length session.steps → second < length session.steps
-    → after_edits session (edits_of session (change.Order first second)) ≡ changed session (change.Order first second)
+    → after_edits session (edits_of session (change.Order first second)) ≡ changed_session session (change.Order first second)
 exchanged session first second is one two =
     let there = step_at session.steps second in
     let here = step_at session.steps first in
@@ -132,18 +132,29 @@ changes_are_edits session (change.Mask task mask) is (allowed, _) =
     (task_accepted session is task allowed.0 (args_of session.header task).priority mask (own_priority session is task allowed.0) allowed.1)
 changes_are_edits session (change.Order first second) is (_, places) = exchanged session first second is places.0 places.1
 
-pub changed_session : ChangesKeepSessions
-changed_session session (change.Priority task priority) is (allowed, _) =
+pub session_kept : (session : Session) (made : Change) → IsSession session → IsHeaderChange session.header made → IsStepChange session.steps made
+    → IsSession (changed_session session made)
+session_kept session (change.Priority task priority) is allowed any =
     edited_session session (ChangeTask task priority (args_of session.header task).mask) is (own_word session is task allowed.0)
     (task_accepted session is task allowed.0 priority (args_of session.header task).mask allowed.1 (own_mask session is task allowed.0))
-changed_session session (change.Mask task mask) is (allowed, _) =
+session_kept session (change.Mask task mask) is allowed any =
     edited_session session (ChangeTask task (args_of session.header task).priority mask) is allowed.2
     (task_accepted session is task allowed.0 (args_of session.header task).priority mask (own_priority session is task allowed.0) allowed.1)
-changed_session session (change.Order first second) is (_, places) = record {
+session_kept session (change.Order first second) is any places = record {
   header = is.header;
   steps = All-permutation (IsCheckedStep (settings_of session.header)) session.steps (swap session.steps first second)
       (IsPermutation-swap session.steps (swap session.steps first second) first second places.0 places.1 refl) is.steps;
 }
+
+-- a header with a change made is one
+pub header_kept : (header : Header) (made : Change) → IsCheckedHeader header → IsHeaderChange header made → IsCheckedHeader (changed_header header made)
+header_kept header (change.Priority task priority) is allowed =
+    (session_kept (record { header = header; steps = [] }) (change.Priority task priority)
+    (record { header = is; steps = All-nil (IsCheckedStep (settings_of header)) }) allowed tt).header
+header_kept header (change.Mask task mask) is allowed =
+    (session_kept (record { header = header; steps = [] }) (change.Mask task mask)
+    (record { header = is; steps = All-nil (IsCheckedStep (settings_of header)) }) allowed tt).header
+header_kept header (change.Order first second) is allowed = is
 
 -- ---- what stays
 
@@ -163,3 +174,14 @@ steps_kept [] (change.Order first second) = refl
 steps_kept (step ∷ steps) (change.Order first second) =
     let all : List Step = step ∷ steps in
     length-set (set all first (get_or all second step)) second (get_or all first step) ∙ length-set all first (get_or all second step)
+
+pub tasks_kept : (header : Header) (made : Change) → length (changed_header header made).tasks ≡ length header.tasks
+tasks_kept header (change.Priority task priority) =
+    length-set header.tasks (task - header.config.cores) (record (args_of header task) { priority = priority })
+tasks_kept header (change.Mask task mask) = length-set header.tasks (task - header.config.cores) (record (args_of header task) { mask = mask })
+tasks_kept header (change.Order first second) = refl
+
+pub queues_kept : (header : Header) (made : Change) → (changed_header header made).queues ≡ header.queues
+queues_kept header (change.Priority task priority) = refl
+queues_kept header (change.Mask task mask) = refl
+queues_kept header (change.Order first second) = refl

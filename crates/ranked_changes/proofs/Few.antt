@@ -7,17 +7,18 @@ use Rattle.std.proofs.Math.Nat.{pow-le-pow_right}
 use Rattle.std.proofs.lemmas.Bool.Decides.{nat_tests}
 use Rattle.std.proofs.lemmas.List.{length-map}
 use Rattle.std.proofs.lemmas.List.FromFn.{length-range_with_len}
-use Rattle.bench_types.specs.Header.{cores_of_mask}
+use Rattle.bench_types.specs.Header.{cores_of_mask, IsCheckedHeader}
 use Rattle.bench_types.specs.Limits.{max_steps}
-use Rattle.bench_types.specs.Session.{Session, IsSession}
 use Rattle.bench_types.proofs.Passes.{checked_header}
 use Rattle.bench_model.specs.Edits.{args_of}
 use Rattle.list_orders.specs.Search.{numbers}
 use Rattle.list_orders.proofs.Stamped.{length_filter}
+use Rattle.run_sources.specs.declared.source.Source.{Source}
+use Rattle.run_sources.specs.Sources.{header_of, steps_of}
 use Rattle.ranked_changes.specs.declared.change.Change.{Change}
 use Rattle.ranked_changes.specs.declared.change.Change.TheVariants as change
 use Rattle.ranked_changes.specs.declared.change.Family.{Family}
-use Rattle.ranked_changes.specs.Changes.{all_cores, changes_of, exchange_at, mask_changes, masks_of, order_changes, other_masks, other_priorities, priority_changes}
+use Rattle.ranked_changes.specs.Changes.{all_cores, changes_of, each_mask, exchange_at, mask_changes, masks_of, order_changes, other_masks, other_priorities, priority_changes, single_masks}
 use Rattle.ranked_changes.specs.Changes.{user_tasks}
 
 -- each of some numbers has so many at most
@@ -33,77 +34,80 @@ filtered_few h (x ∷ xs) =
       | Some y ↦ omega (arith, filtered_few h xs)
     ]
 
-masks_few : (cores : ℕ) → cores ≤ 32 → length (masks_of cores) ≤ 33
-masks_few cores few = at (nat_le cores 4) refl
+singles_few : (cores : ℕ) → cores ≤ 32 → length (single_masks cores) ≤ 32
+singles_few cores few = omega (arith, length-map (numbers cores) (λ core. 2 ^ core), length-range_with_len 0 cores, few)
+
+each_few : (cores : ℕ) → cores ≤ 32 → length (each_mask cores) ≤ 33
+each_few cores few = at (nat_le cores 4) refl
   where
-    at : (small : Bool) → nat_le cores 4 ≡ small → length (cond small (range_with_len 1 (all_cores cores))
-        (map (λ core. 2 ^ core) (numbers cores) ++ all_cores cores ∷ [])) ≤ 33
+    at : (small : Bool) → nat_le cores 4 ≡ small → length (cond small (range_with_len 1 (all_cores cores)) (single_masks cores ++ all_cores cores ∷ [])) ≤ 33
     at true is_small =
         let low : cores ≤ 4 = grind (arith, nat_tests, is_small) in
         let some : zero < 2 = omega arith in
         let most : 2 ^ cores ≤ 2 ^ 4 = pow-le-pow_right some low in
         omega (arith, length-range_with_len 1 (all_cores cores), most)
-    at false is_large =
-        omega (
-          arith,
-          length-append (map (λ core. 2 ^ core) (numbers cores)) (all_cores cores ∷ []),
-          length-map (numbers cores) (λ core. 2 ^ core),
-          length-range_with_len 0 cores,
-          few,
-        )
+    at false is_large = omega (arith, length-append (single_masks cores) (all_cores cores ∷ []), singles_few cores few)
+
+masks_few : (family : Family) (cores : ℕ) → cores ≤ 32 → length (masks_of family cores) ≤ 33
+masks_few family cores few = at family.mask family.pin
+  where
+    at : (mask pin : Bool) → length (cond mask (each_mask cores) (cond pin (single_masks cores) [])) ≤ 33
+    at true pin = each_few cores few
+    at false true = omega (arith, singles_few cores few)
+    at false false = omega arith
 
 if_few : (wanted : Bool) (changes : List Change) (most : ℕ) → length changes ≤ most → length (cond wanted changes []) ≤ most
 if_few true changes most few = few
 if_few false changes most few = omega arith
 
-module _ (session : Session) (is : IsSession session) (few : length session.steps ≤ max_steps) where
-  tasks_few : length (user_tasks session.header) ≤ 512
+module _ (source : Source) (is : IsCheckedHeader (header_of source)) (few : length (steps_of source) ≤ max_steps) where
+  tasks_few : length (user_tasks (header_of source)) ≤ 512
   tasks_few = omega (
     arith,
-    length-range_with_len session.header.config.cores (length session.header.tasks),
-    (checked_header session.header is.header.passes).few_tasks,
+    length-range_with_len (header_of source).config.cores (length (header_of source).tasks),
+    (checked_header (header_of source) is.passes).few_tasks,
   )
 
-  priorities_few : length (priority_changes session.header) ≤ 32 * 512
+  priorities_few : length (priority_changes (header_of source)) ≤ 32 * 512
   priorities_few =
-      omega (arith, flat_few (λ task. map (change.Priority task) (other_priorities session.header task)) 32 each (user_tasks session.header), tasks_few)
+      omega (arith, flat_few (λ task. map (change.Priority task) (other_priorities (header_of source) task)) 32 each (user_tasks (header_of source)), tasks_few)
     where
-      each : (task : ℕ) → length (map (change.Priority task) (other_priorities session.header task)) ≤ 32
+      each : (task : ℕ) → length (map (change.Priority task) (other_priorities (header_of source) task)) ≤ 32
       each task =
           omega (
             arith,
-            length-map (other_priorities session.header task) (change.Priority task),
-            length_filter (λ priority. not (priority == (args_of session.header task).priority)) (numbers session.header.config.priorities),
-            length-range_with_len 0 session.header.config.priorities,
-            (checked_header session.header is.header.passes).few_priorities,
+            length-map (other_priorities (header_of source) task) (change.Priority task),
+            length_filter (λ priority. not (priority == (args_of (header_of source) task).priority)) (numbers (header_of source).config.priorities),
+            length-range_with_len 0 (header_of source).config.priorities,
+            (checked_header (header_of source) is.passes).few_priorities,
           )
 
-  other_masks_few : length (mask_changes session.header) ≤ 33 * 512
-  other_masks_few = omega (arith, flat_few (λ task. map (change.Mask task) (other_masks session.header task)) 33 each (user_tasks session.header), tasks_few)
+  other_masks_few : (family : Family) → length (mask_changes family (header_of source)) ≤ 33 * 512
+  other_masks_few family = omega (arith, flat_few (λ task. map (change.Mask task) (other_masks family (header_of source) task)) 33 each (user_tasks (header_of source)), tasks_few)
     where
-      each : (task : ℕ) → length (map (change.Mask task) (other_masks session.header task)) ≤ 33
+      each : (task : ℕ) → length (map (change.Mask task) (other_masks family (header_of source) task)) ≤ 33
       each task =
           omega (
             arith,
-            length-map (other_masks session.header task) (change.Mask task),
-            length_filter (λ mask. not (cores_of_mask session.header.config.cores mask == cores_of_mask session.header.config.cores
-                (args_of session.header task).mask)) (masks_of session.header.config.cores),
-            masks_few session.header.config.cores (checked_header session.header is.header.passes).few_cores,
+            length-map (other_masks family (header_of source) task) (change.Mask task),
+            length_filter (λ mask. not (cores_of_mask (header_of source).config.cores mask == cores_of_mask (header_of source).config.cores
+                (args_of (header_of source) task).mask)) (masks_of family (header_of source).config.cores),
+            masks_few family (header_of source).config.cores (checked_header (header_of source) is.passes).few_cores,
           )
 
-  orders_few : length (order_changes session.steps) ≤ max_steps
-  orders_few = omega (arith, filtered_few (exchange_at session.steps) (numbers (length session.steps)), length-range_with_len 0 (length session.steps), few)
+  orders_few : length (order_changes (steps_of source)) ≤ max_steps
+  orders_few = omega (arith, filtered_few (exchange_at (steps_of source)) (numbers (length (steps_of source))), length-range_with_len 0 (length (steps_of source)), few)
 
-  pub changes_few : (family : Family) → length (changes_of session family) < 2 ^ 32
+  pub changes_few : (family : Family) → length (changes_of source family) < 2 ^ 32
   changes_few family =
-      let priorities = cond family.priority (priority_changes session.header) [] in
-      let masks = cond family.mask (mask_changes session.header) [] in
-      let orders = cond family.order (order_changes session.steps) [] in
+      let priorities = cond family.priority (priority_changes (header_of source)) [] in
+      let masks = mask_changes family (header_of source) in
+      let orders = cond family.order (order_changes (steps_of source)) [] in
       omega (
         arith,
         length-append (priorities ++ masks) orders,
         length-append priorities masks,
-        if_few family.priority (priority_changes session.header) (32 * 512) priorities_few,
-        if_few family.mask (mask_changes session.header) (33 * 512) other_masks_few,
-        if_few family.order (order_changes session.steps) max_steps orders_few,
+        if_few family.priority (priority_changes (header_of source)) (32 * 512) priorities_few,
+        other_masks_few family,
+        if_few family.order (order_changes (steps_of source)) max_steps orders_few,
       )

@@ -1,7 +1,6 @@
--- The changes of a session have one ranking alone.
+-- The changes of a source have one ranking alone.
 use Rattle.std.proofs.Common.{◌≡◌, ℕ, zero, suc, ◌<◌, Bool, true, false, cond, List, [], ◌∷◌, length, get_or, refl, sym, ap, ap₂, ◌∙◌, arith}
 use Rattle.std.specs.Prelude.{AllPairs}
-use Rattle.std.specs.Bool.{MatchBool}
 use Rattle.std.specs.List.{sum_by}
 use Rattle.std.specs.Ordering.{is_lt, nat_cmp, ordering_reverse, ordering_then}
 use Rattle.std.specs.declared.cmp.Ordering.{Ordering}
@@ -11,10 +10,9 @@ use Rattle.std.proofs.lemmas.Cmp.{tied_itself}
 use Rattle.std.proofs.lemmas.List.{same_lists}
 use Rattle.std.proofs.lemmas.List.Sorted.{sum_by-IsPermutation}
 use Rattle.std.proofs.lemmas.List.Sums.{sum_by-cons}
-use Rattle.bench_types.specs.declared.step.Step.{Step}
-use Rattle.bench_types.specs.Session.{Session}
-use Rattle.settled_runs.specs.declared.waiting_call.WaitingCall.{WaitingCall}
-use Rattle.settled_runs.proofs.Settlings.{settled_run_is_one}
+use Rattle.run_sources.specs.declared.source.Source.{Source}
+use Rattle.run_sources.specs.Sources.{header_of}
+use Rattle.run_sources.proofs.SourceRuns.{source_run_is_one, source_too_long_is_longer}
 use Rattle.ranked_changes.specs.declared.change.Change.{Change}
 use Rattle.ranked_changes.specs.declared.change.Change.TheVariants.{Order}
 use Rattle.ranked_changes.specs.declared.judge.Judge.{Judge}
@@ -26,7 +24,7 @@ use Rattle.ranked_changes.specs.declared.rank.Size.TheVariants as size
 use Rattle.ranked_changes.specs.ChangeLaws.{RankingsAreOne}
 use Rattle.ranked_changes.specs.Changed.{changed}
 use Rattle.ranked_changes.specs.Ranking.{is_before, ranked_cmp, size_cmp, verdict_cmp, AreEntries, IsEntry}
-use Rattle.ranked_changes.specs.Verdicts.{number_in, IsPlainVerdict, IsSettledVerdict, IsVerdict}
+use Rattle.ranked_changes.specs.Verdicts.{number_in, IsVerdict}
 use Rattle.ranked_changes.specs.contracts.rank.RankedOrd.TheImpl.Laws.{total-law}
 use Rattle.ranked_changes.proofs.Orders.{entries_same}
 
@@ -127,48 +125,38 @@ neither_before one other low high = tied_entries one other (no_order (ranked_cmp
 
 -- ---- verdicts
 
-settled_one : (judge : Judge) (session : Session) (one other : Verdict) → IsSettledVerdict judge session one → IsSettledVerdict judge session other → one ≡
-    other
-settled_one judge session (Number one) (Number other) is too =
-    let same = settled_run_is_one session.header session.steps is.0 too.0 is.1 too.1 is.2 too.2 in
-    ap Number (is.4 ∙ ap₂ (λ (run : List Step) (left : List WaitingCall). number_in judge session.header run left) same.0 same.1 ∙ sym too.4)
-settled_one judge session (Number one) TooLong is long = absurd (omega (arith, long (record { run = is.0; left = is.1; settled = is.2 }), is.3))
-settled_one judge session TooLong (Number other) long is = absurd (omega (arith, long (record { run = is.0; left = is.1; settled = is.2 }), is.3))
-settled_one judge session TooLong TooLong long too = refl
-
-pub verdict_one : (judge : Judge) (session : Session) (one other : Verdict) → IsVerdict judge session one → IsVerdict judge session other → one ≡ other
-verdict_one judge session one other = at judge.settled
-  where
-    at : (settled : Bool) → MatchBool settled (IsSettledVerdict judge session one) (IsPlainVerdict judge session one) → MatchBool settled
-        (IsSettledVerdict judge session other) (IsPlainVerdict judge session other) → one ≡ other
-    at true is too = settled_one judge session one other is too
-    at false is too = is ∙ sym too
+pub verdict_one : (judge : Judge) (source : Source) (one other : Verdict) → IsVerdict judge source one → IsVerdict judge source other → one ≡ other
+verdict_one judge source (Number one) (Number other) is too =
+    let same : is.0 ≡ too.0 = source_run_is_one source is.0 too.0 is.1 too.1 in ap Number (is.3 ∙ ap (number_in judge) same ∙ sym too.3)
+verdict_one judge source (Number one) TooLong is long = absurd (omega (arith, source_too_long_is_longer source is.0 long is.1, is.2))
+verdict_one judge source TooLong (Number other) long is = absurd (omega (arith, source_too_long_is_longer source is.0 long is.1, is.2))
+verdict_one judge source TooLong TooLong long too = refl
 
 -- ---- rankings
 
-entry_one : (judge : Judge) (session : Session) (place : ℕ) (made : Change) (one other : Ranked) → IsEntry judge session place made one → IsEntry judge session
+entry_one : (judge : Judge) (source : Source) (place : ℕ) (made : Change) (one other : Ranked) → IsEntry judge source place made one → IsEntry judge source
     place made other → one ≡ other
-entry_one judge session place made one other is too =
-    let verdict = verdict_one judge (changed session made) one.verdict other.verdict is.verdict too.verdict in
+entry_one judge source place made one other is too =
+    let verdict = verdict_one judge (changed source made) one.verdict other.verdict is.verdict too.verdict in
     let size = is.size ∙ sym too.size in
     let index = is.index ∙ sym too.index in
     λ i. record { verdict = verdict i; size = size i; index = index i }
 
-entries_one : (judge : Judge) (session : Session) (changes : List Change) (entries others : List Ranked) → AreEntries judge session changes entries → AreEntries
-    judge session changes others → entries ≡ others
-entries_one judge session changes entries others are too =
+entries_one : (judge : Judge) (source : Source) (changes : List Change) (entries others : List Ranked) → AreEntries judge source changes entries → AreEntries
+    judge source changes others → entries ≡ others
+entries_one judge source changes entries others are too =
     same_lists entries others (are.count ∙ sym too.count)
     (λ place d within.
     let there : place < length changes = omega (arith, are.count) in
-    entry_one judge session place (get_or changes place some) (get_or entries place d) (get_or others place d) (are.each place some d there)
+    entry_one judge source place (get_or changes place some) (get_or entries place d) (get_or others place d) (are.each place some d there)
     (too.each place some d there))
   where
     some : Change
     some = Order 0 0
 
 pub rankings_are_one : RankingsAreOne
-rankings_are_one judge session changes ranked others is too =
-    let same : is.entries ≡ too.entries = entries_one judge session changes is.entries too.entries is.judged too.judged in
+rankings_are_one judge source changes ranked others is too =
+    let same : is.entries ≡ too.entries = entries_one judge source changes is.entries too.entries is.judged too.judged in
     one_order is_before not_before_itself neither_before ranked others
     (λ p.
     let one = one_if is_before not_before_itself neither_before p in

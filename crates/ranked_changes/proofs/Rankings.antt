@@ -4,7 +4,8 @@ use Rattle.std.specs.Prelude.{All, IfOk, IsPermutation}
 use Rattle.std.specs.List.{AllZip}
 use Rattle.std.specs.declared.alloc.AllocError.{AllocError}
 use Rattle.std.proofs.lemmas.List.Sorted.{All-permutation}
-use Rattle.bench_types.specs.Session.{Session}
+use Rattle.run_sources.specs.declared.source.Source.{Source}
+use Rattle.run_sources.specs.Sources.{header_of}
 use Rattle.ranked_changes.specs.declared.change.Change.{Change}
 use Rattle.ranked_changes.specs.declared.change.Change.TheVariants.{Order}
 use Rattle.ranked_changes.specs.declared.judge.Judge.{Judge}
@@ -28,16 +29,16 @@ zip_length R [] (y ∷ ys) all = absurd all
 zip_length R (x ∷ xs) [] all = absurd all
 zip_length R (x ∷ xs) (y ∷ ys) all = ap suc (zip_length R xs ys all.1)
 
-module _ (judge : Judge) (session : Session) (changes : List Change) (verdicts : List (Result Verdict AllocError)) where
-  entries_are : (entries : List Ranked) → AreVerdicts judge session changes verdicts → AreRead session.header changes verdicts entries → length entries ≡ length
+module _ (judge : Judge) (source : Source) (changes : List Change) (verdicts : List (Result Verdict AllocError)) where
+  entries_are : (entries : List Ranked) → AreVerdicts judge source changes verdicts → AreRead (header_of source) changes verdicts entries → length entries ≡ length
       changes
-      → AreEntries judge session changes entries
+      → AreEntries judge source changes entries
   entries_are entries judged read count = record {
     count = count;
     each = λ place made entry within.
         let there : place < length entries = omega arith in
         record {
-          verdict = subst (λ (verdict : Result Verdict AllocError). IfOk verdict (IsVerdict judge (changed session (get_or changes place made))))
+          verdict = subst (λ (verdict : Result Verdict AllocError). IfOk verdict (IsVerdict judge (changed source (get_or changes place made))))
               (read.judged place (Ok entry.verdict) entry there)
               (zip_at _ changes verdicts judged place made (Ok entry.verdict) within);
           size = read.sizes place made entry there;
@@ -45,9 +46,9 @@ module _ (judge : Judge) (session : Session) (changes : List Change) (verdicts :
         };
   }
 
-  pub ranking : (entries ranked : List Ranked) → AreVerdicts judge session changes verdicts → AreRead session.header changes verdicts entries → length entries ≡
+  pub ranking : (entries ranked : List Ranked) → AreVerdicts judge source changes verdicts → AreRead (header_of source) changes verdicts entries → length entries ≡
       length changes
-      → IsPermutation entries ranked → AreBestFirst ranked → IsRanking judge session changes ranked
+      → IsPermutation entries ranked → AreBestFirst ranked → IsRanking judge source changes ranked
   ranking entries ranked judged read count moved ordered = record {
     entries = entries;
     judged = entries_are entries judged read count;
@@ -56,9 +57,9 @@ module _ (judge : Judge) (session : Session) (changes : List Change) (verdicts :
   }
 
 -- each entry has its change
-pub places_there : (judge : Judge) (session : Session) (changes : List Change) (ranked : List Ranked) → IsRanking judge session changes ranked → All
+pub places_there : (judge : Judge) (source : Source) (changes : List Change) (ranked : List Ranked) → IsRanking judge source changes ranked → All
     (λ entry. entry.index < length changes) ranked
-places_there judge session changes ranked is =
+places_there judge source changes ranked is =
     All-permutation (λ (entry : Ranked). entry.index < length changes) is.entries ranked is.moved
     (λ place entry within.
     let there : place < length changes = omega (arith, is.judged.count) in

@@ -6,12 +6,15 @@ use Rattle.bench_types.specs.declared.step.Step.{Step}
 use Rattle.bench_types.specs.declared.step.Step.TheVariants.{Tick}
 use Rattle.bench_types.specs.Session.{Session, IsSession}
 use Rattle.bench_model.specs.Edits.{after_edits, args_of}
+use Rattle.run_sources.specs.declared.source.Source.{Source}
+use Rattle.run_sources.specs.declared.source.Source.TheVariants as source
+use Rattle.run_sources.specs.Sources.{IsCheckedSource}
 use Rattle.ranked_changes.specs.declared.change.Change.{Change}
 use Rattle.ranked_changes.specs.declared.change.Change.TheVariants as change
 use Rattle.ranked_changes.specs.declared.change.Family.{Family}
 use Rattle.ranked_changes.specs.declared.judge.Judge.{Judge}
 use Rattle.ranked_changes.specs.declared.rank.Ranked.{Ranked}
-use Rattle.ranked_changes.specs.Changed.{changed, IsChangeOf}
+use Rattle.ranked_changes.specs.Changed.{changed, changed_session, IsChangeOf}
 use Rattle.ranked_changes.specs.Changes.{changes_of}
 use Rattle.ranked_changes.specs.Ranking.{is_before, AreBestFirst, IsRanking}
 
@@ -32,20 +35,21 @@ edits_of session (change.Order first second) =
 -- edits make the same session of a session
 abbrev pub ChangesAreEdits : Type 0
 ChangesAreEdits =
-    (session : Session) (made : Change) → IsSession session → IsChangeOf session made
-    → after_edits session (edits_of session made) ≡ changed session made
+    (session : Session) (made : Change) → IsSession session
+    → IsChangeOf (source.Session session) made
+    → after_edits session (edits_of session made) ≡ changed_session session made
 
--- a session with a change made is a session
-abbrev pub ChangesKeepSessions : Type 0
-ChangesKeepSessions =
-    (session : Session) (made : Change) → IsSession session → IsChangeOf session made
-    → IsSession (changed session made)
+-- a source with a change made passes the checks of its kind
+abbrev pub ChangesKeepSources : Type 0
+ChangesKeepSources =
+    (source : Source) (made : Change) → IsCheckedSource source → IsChangeOf source made
+    → IsCheckedSource (changed source made)
 
 -- each change of a family may be made
 abbrev pub FamiliesAreAllowed : Type 0
 FamiliesAreAllowed =
-    (session : Session) (family : Family) → IsSession session
-    → All (IsChangeOf session) (changes_of session family)
+    (source : Source) (family : Family) → IsCheckedSource source
+    → All (IsChangeOf source) (changes_of source family)
 
 -- no entry that is not among the best is better than one that is
 abbrev pub OthersAreNoBetter : Type 0
@@ -54,9 +58,9 @@ OthersAreNoBetter =
     → All (λ kept. All (λ other. is_before other kept ≡ false) (drop best ranked))
     (take best ranked)
 
--- by a judge the changes of a session have one ranking alone
+-- by a judge the changes of a source have one ranking alone
 abbrev pub RankingsAreOne : Type 0
 RankingsAreOne =
-    (judge : Judge) (session : Session) (changes : List Change) (ranked others : List Ranked)
-    → IsRanking judge session changes ranked → IsRanking judge session changes others
+    (judge : Judge) (source : Source) (changes : List Change) (ranked others : List Ranked)
+    → IsRanking judge source changes ranked → IsRanking judge source changes others
     → ranked ≡ others

@@ -1,10 +1,14 @@
--- What a change makes of a session.
+-- What a change makes of a source.
 use Rattle.std.specs.Prelude.{ℕ, ◌+◌, ◌<◌, ◌≤◌, ◌^◌, List, length, swap, ⊤}
 use Rattle.bench_types.specs.declared.header.Header.{Header}
 use Rattle.bench_types.specs.declared.step.Step.{Step}
 use Rattle.bench_types.specs.Header.{cores_of_mask}
 use Rattle.bench_types.specs.Session.{Session}
 use Rattle.bench_model.specs.Edits.{args_of, changed as with_numbers}
+use Rattle.run_sources.specs.declared.source.Source.{Source}
+use Rattle.run_sources.specs.declared.source.Source.TheVariants as source
+use Rattle.run_sources.specs.Sources.{header_of, steps_of}
+use Rattle.task_programs.specs.declared.workload.Workload.{Workload}
 use Rattle.ranked_changes.specs.declared.change.Change.{Change}
 use Rattle.ranked_changes.specs.declared.change.Change.TheVariants as change
 
@@ -23,11 +27,22 @@ changed_steps steps (change.Mask task mask) = steps
 changed_steps steps (change.Order first second) = swap steps first second
 
 -- the session with the change made
-abbrev pub changed : Session → Change → Session
-changed session made = record {
+abbrev pub changed_session : Session → Change → Session
+changed_session session made = record {
   header = changed_header session.header made;
   steps = changed_steps session.steps made;
 }
+
+-- the workload with the change made
+abbrev pub changed_workload : Workload → Change → Workload
+changed_workload workload made =
+    record workload { header = changed_header workload.header made }
+
+-- the source with the change made
+abbrev pub changed : Source → Change → Source
+changed (source.Session session) made = source.Session (changed_session session made)
+changed (source.Settled session) made = source.Settled (changed_session session made)
+changed (source.Workload workload) made = source.Workload (changed_workload workload made)
 
 -- it is a user task of the header
 abbrev pub IsUserTask : Header → ℕ → Type 0
@@ -49,7 +64,7 @@ IsStepChange steps (change.Mask task mask) = ⊤
 IsStepChange steps (change.Order first second) =
     (first < length steps) × (second < length steps)
 
--- a change that the session allows
-abbrev pub IsChangeOf : Session → Change → Type 0
-IsChangeOf session made =
-    IsHeaderChange session.header made × IsStepChange session.steps made
+-- a change that the source allows; an exchange is one of the steps of a session
+abbrev pub IsChangeOf : Source → Change → Type 0
+IsChangeOf source made =
+    IsHeaderChange (header_of source) made × IsStepChange (steps_of source) made

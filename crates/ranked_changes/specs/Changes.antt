@@ -1,4 +1,4 @@
--- The changes of a session that a family has.
+-- The changes of a source that a family has.
 use Rattle.std.specs.Prelude.{ℕ, ◌+◌, ◌-◌, ◌^◌, ◌==◌, List, [], ◌∷◌, ◌++◌, length, map, drop, filter, filter_map, flat_map, position, Bool, false, not, nat_le}
 use Rattle.std.specs.Prelude.{Option, Some, None, option_map, option_and_then, if◌then◌else◌, slice_get}
 use Rattle.std.specs.List.{range_with_len}
@@ -6,7 +6,8 @@ use Rattle.bench_types.specs.declared.header.Header.{Header}
 use Rattle.bench_types.specs.declared.step.Step.{Step}
 use Rattle.bench_types.specs.declared.step.Step.TheVariants as step
 use Rattle.bench_types.specs.Header.{cores_of_mask}
-use Rattle.bench_types.specs.Session.{Session}
+use Rattle.run_sources.specs.declared.source.Source.{Source}
+use Rattle.run_sources.specs.Sources.{header_of, steps_of}
 use Rattle.list_orders.specs.Search.{numbers}
 use Rattle.bench_model.specs.Edits.{args_of}
 use Rattle.settled_runs.specs.Settled.{is_event, is_finish}
@@ -38,26 +39,35 @@ priority_changes header =
 abbrev pub all_cores : ℕ → ℕ
 all_cores cores = 2 ^ cores - 1
 
--- The masks that are tried: of at most 4 cores each mask of some core, of more cores that of each
--- core alone and that of all.
-abbrev pub masks_of : ℕ → List ℕ
-masks_of cores =
+-- the mask of each core alone
+abbrev pub single_masks : ℕ → List ℕ
+single_masks cores = map (λ core. 2 ^ core) (numbers cores)
+
+-- of at most 4 cores each mask of some core, of more cores that of each core alone and that of all
+abbrev pub each_mask : ℕ → List ℕ
+each_mask cores =
     if nat_le cores 4 then range_with_len 1 (all_cores cores)
-    else map (λ core. 2 ^ core) (numbers cores) ++ all_cores cores ∷ []
+    else single_masks cores ++ all_cores cores ∷ []
+
+-- the masks that the family tries; those of the cores alone are among those of `mask`
+abbrev pub masks_of : Family → ℕ → List ℕ
+masks_of family cores =
+    if family.mask then each_mask cores
+    else (if family.pin then single_masks cores else [])
 
 -- those that don't allow just the cores of the task's own mask
-abbrev pub other_masks : Header → ℕ → List ℕ
-other_masks header task =
+abbrev pub other_masks : Family → Header → ℕ → List ℕ
+other_masks family header task =
     filter
     (λ mask. not
     (cores_of_mask header.config.cores mask
     == cores_of_mask header.config.cores (args_of header task).mask))
-    (masks_of header.config.cores)
+    (masks_of family header.config.cores)
 
 -- each user task with each of these
-abbrev pub mask_changes : Header → List Change
-mask_changes header =
-    flat_map (λ task. map (change.Mask task) (other_masks header task)) (user_tasks header)
+abbrev pub mask_changes : Family → Header → List Change
+mask_changes family header =
+    flat_map (λ task. map (change.Mask task) (other_masks family header task)) (user_tasks header)
 
 -- ---- order
 
@@ -96,9 +106,10 @@ order_changes steps = filter_map (exchange_at steps) (numbers (length steps))
 
 -- ---- all
 
--- the changes of the family in the session: priorities, then masks, then the order of calls
-abbrev pub changes_of : Session → Family → List Change
-changes_of session family =
-    (if family.priority then priority_changes session.header else [])
-    ++ (if family.mask then mask_changes session.header else [])
-    ++ (if family.order then order_changes session.steps else [])
+-- The changes of the family in the source: priorities, then masks, then the order of calls. A
+-- workload has no calls in an order.
+abbrev pub changes_of : Source → Family → List Change
+changes_of source family =
+    (if family.priority then priority_changes (header_of source) else [])
+    ++ mask_changes family (header_of source)
+    ++ (if family.order then order_changes (steps_of source) else [])

@@ -7,7 +7,8 @@ use Rattle.std.specs.declared.cmp.Ordering.{Ordering}
 use Rattle.std.specs.declared.cmp.Ordering.TheVariants.{Less, Equal, Greater}
 use Rattle.bench_types.specs.declared.header.Header.{Header}
 use Rattle.bench_types.specs.Header.{cores_of_mask}
-use Rattle.bench_types.specs.Session.{Session}
+use Rattle.run_sources.specs.declared.source.Source.{Source}
+use Rattle.run_sources.specs.Sources.{header_of}
 use Rattle.bench_model.specs.Edits.{args_of}
 use Rattle.ranked_changes.specs.declared.change.Change.{Change}
 use Rattle.ranked_changes.specs.declared.change.Change.TheVariants as change
@@ -71,18 +72,18 @@ is_before one other = is_lt (ranked_cmp one other)
 -- ---- rankings
 
 -- the entry of a change that stands at a place
-pub record IsEntry (judge : Judge) (session : Session) (place : ℕ) (made : Change)
+pub record IsEntry (judge : Judge) (source : Source) (place : ℕ) (made : Change)
     (entry : Ranked) : Type 0 where
-  pub verdict : IsVerdict judge (changed session made) entry.verdict
-  pub size : entry.size ≡ size_of session.header made
+  pub verdict : IsVerdict judge (changed source made) entry.verdict
+  pub size : entry.size ≡ size_of (header_of source) made
   pub index : entry.index ≡ place
 
 -- an entry for each of the changes, in their order
-pub record AreEntries (judge : Judge) (session : Session) (changes : List Change)
+pub record AreEntries (judge : Judge) (source : Source) (changes : List Change)
     (entries : List Ranked) : Type 0 where
   pub count : length entries ≡ length changes
   pub each : (place : ℕ) (made : Change) (entry : Ranked) → place < length changes
-      → IsEntry judge session place (slice_index_or changes place made)
+      → IsEntry judge source place (slice_index_or changes place made)
       (slice_index_or entries place entry)
 
 -- none is better than one that stands earlier
@@ -90,10 +91,10 @@ abbrev pub AreBestFirst : List Ranked → Type 0
 AreBestFirst ranked = AllPairs (λ earlier later. is_before later earlier ≡ false) ranked
 
 -- an entry for each of the changes, the best first
-pub record IsRanking (judge : Judge) (session : Session) (changes : List Change)
+pub record IsRanking (judge : Judge) (source : Source) (changes : List Change)
     (ranked : List Ranked) : Type 0 where
   pub entries : List Ranked
-  pub judged : AreEntries judge session changes entries
+  pub judged : AreEntries judge source changes entries
   pub moved : IsPermutation entries ranked
   pub ordered : AreBestFirst ranked
 
@@ -101,9 +102,9 @@ pub record IsRanking (judge : Judge) (session : Session) (changes : List Change)
 
 -- what was said of each of the changes; nothing is known where memory was refused
 abbrev pub AreVerdicts :
-    Judge → Session → List Change → List (Result Verdict AllocError) → Type 0
-AreVerdicts judge session changes verdicts =
-    AllZip (λ made verdict. IfOk verdict (IsVerdict judge (changed session made))) changes verdicts
+    Judge → Source → List Change → List (Result Verdict AllocError) → Type 0
+AreVerdicts judge source changes verdicts =
+    AllZip (λ made verdict. IfOk verdict (IsVerdict judge (changed source made))) changes verdicts
 
 -- an entry for each of the first changes, with the verdict at its place
 pub record AreRead (header : Header) (changes : List Change)

@@ -1,16 +1,14 @@
--- By what a session is judged.
-use Rattle.std.specs.Prelude.{◌≡◌, ℕ, ◌+◌, ◌≤◌, List, [], length}
-use Rattle.std.specs.Bool.{MatchBool}
-use Rattle.bench_types.specs.declared.header.Header.{Header}
+-- By what a source is judged.
+use Rattle.std.specs.Prelude.{◌≡◌, ℕ, ◌+◌, ◌≤◌, Bool, true, false, List, length, if◌then◌else◌}
 use Rattle.bench_types.specs.declared.step.Step.{Step}
 use Rattle.bench_types.specs.Limits.{max_steps}
-use Rattle.bench_types.specs.Session.{Session}
-use Rattle.settled_runs.specs.declared.waiting_call.WaitingCall.{WaitingCall}
-use Rattle.settled_runs.specs.Runs.{IsSettledTooLong}
-use Rattle.settled_runs.specs.Settled.{IsSettled}
+use Rattle.session_runs.specs.Run.{RunView}
 use Rattle.smp_kernel.specs.Counting.{meter_after, CountsUpTo}
 use Rattle.run_numbers.specs.declared.subject.Reading.{Reading}
 use Rattle.run_numbers.specs.Readings.{reading_of}
+use Rattle.run_sources.specs.declared.source.Source.{Source}
+use Rattle.run_sources.specs.declared.source.Source.TheVariants as source
+use Rattle.run_sources.specs.Sources.{count_of, IsRunOfSource, IsSourceTooLong}
 use Rattle.ranked_changes.specs.declared.judge.Judge.{Judge}
 use Rattle.ranked_changes.specs.declared.judge.Measure.{Measure}
 use Rattle.ranked_changes.specs.declared.judge.Measure.TheVariants.{Total, Longest}
@@ -22,41 +20,32 @@ abbrev pub number_of : Measure → Reading → ℕ
 number_of Total reading = reading.total
 number_of Longest reading = reading.longest
 
--- that of the subject in a run, of which these calls were not made
-abbrev pub number_in : Judge → Header → List Step → List WaitingCall → ℕ
-number_in judge header run left =
-    number_of judge.measure (reading_of header run left judge.subject)
+-- that of the subject in a run
+abbrev pub number_in : Judge → RunView → ℕ
+number_in judge run =
+    number_of judge.measure
+    (reading_of run.session.header run.session.steps run.left judge.subject)
 
--- it is the number of a settled run of the session, or there is none that is not too long
-abbrev pub IsSettledVerdict : Judge → Session → Verdict → Type 0
-IsSettledVerdict judge session (Number number) =
-    (run : List Step) × (left : List WaitingCall)
-    × IsSettled session.header session.steps run left × (length run ≤ max_steps)
-    × (number ≡ number_in judge session.header run left)
-IsSettledVerdict judge session TooLong = IsSettledTooLong session
+-- it is the number of the source's run, or there is none that is not too long
+abbrev pub IsVerdict : Judge → Source → Verdict → Type 0
+IsVerdict judge source (Number number) =
+    (run : RunView) × IsRunOfSource source run × (length run.session.steps ≤ max_steps)
+    × (number ≡ number_in judge run)
+IsVerdict judge source TooLong = IsSourceTooLong source
 
--- it is the number of the session as it stands
-abbrev pub IsPlainVerdict : Judge → Session → Verdict → Type 0
-IsPlainVerdict judge session verdict =
-    verdict ≡ Number (number_in judge session.header session.steps [])
+-- the run is made before it is measured; the steps of a session as they stand are only measured
+abbrev pub is_made_first : Source → Bool
+is_made_first (source.Session session) = false
+is_made_first source = true
 
--- it is that of the session settled, if so it is to be judged, or of the session as it stands
-abbrev pub IsVerdict : Judge → Session → Verdict → Type 0
-IsVerdict judge session verdict =
-    MatchBool judge.settled (IsSettledVerdict judge session verdict)
-    (IsPlainVerdict judge session verdict)
+-- so many steps the kernel makes to judge a run of these steps
+abbrev pub judged_count : Source → List Step → ℕ
+judged_count source run =
+    (if is_made_first source then count_of source run else 0) + length run
 
--- The steps of the settled run were counted as they were found and as they were measured. Of one
--- that is too long, at most as many as a session may have were found.
-abbrev pub CountsSettled : Session → Verdict → ℕ → ℕ → Type 0
-CountsSettled session (Number number) old new =
-    (run : List Step) × (left : List WaitingCall)
-    × IsSettled session.header session.steps run left
-    × (new ≡ meter_after (length run + length run) old)
-CountsSettled session TooLong old new = CountsUpTo max_steps old new
-
--- the same of the session as it is to be judged: its own steps are counted once
-abbrev pub CountsVerdict : Judge → Session → Verdict → ℕ → ℕ → Type 0
-CountsVerdict judge session verdict old new =
-    MatchBool judge.settled (CountsSettled session verdict old new)
-    (new ≡ meter_after (length session.steps) old)
+-- they were counted; of a run that is too long, at most as many as a session may have
+abbrev pub CountsVerdict : Source → Verdict → ℕ → ℕ → Type 0
+CountsVerdict source (Number number) old new =
+    (run : RunView) × IsRunOfSource source run
+    × (new ≡ meter_after (judged_count source run.session.steps) old)
+CountsVerdict source TooLong old new = CountsUpTo max_steps old new

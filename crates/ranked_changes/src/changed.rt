@@ -1,12 +1,15 @@
-//! The session with a change made.
-ghost use Rattle.std.specs.Prelude.{◌≡◌, IfOk, length};
+//! The source with a change made.
+ghost use Rattle.std.specs.Prelude.{◌≡◌, IfOk};
 ghost use Rattle.bench_types.specs.Step.{settings_of};
 ghost use Rattle.bench_model.specs.Edits.{args_of, changed as with_numbers};
-ghost use Rattle.ranked_changes.specs.Changed.{changed, changed_header, changed_steps, IsChangeOf, IsHeaderChange, IsStepChange, IsUserTask};
+ghost use Rattle.run_sources.specs.Sources.{header_of};
+ghost use Rattle.ranked_changes.specs.Changed.{changed, changed_header, changed_session, changed_steps, changed_workload, IsChangeOf, IsHeaderChange, IsStepChange, IsUserTask};
 
 use crate::Change;
 use bench_types::{CheckedSession, Header, Items, Step, TaskArgs};
+use run_sources::Source;
 use std::alloc::{AllocError, Global};
+use task_programs::{CheckedWorkload, Workload};
 
 /// What the user task is created with.
 pub fn args_of(header: &Header, task: u32) -> &TaskArgs
@@ -69,23 +72,65 @@ pub fn steps_with(alloc: Global, steps: &[Step], change: Change) -> Result<Vec<S
     Ok(made)
 }
 
-/// A second session in which the change is made. It has as many steps, and the same cores, tasks
-/// and mutexes.
-pub fn changed_session(
+// A second session in which the change is made.
+fn changed_session(
     alloc: Global,
     session: &CheckedSession,
     change: Change,
 ) -> Result<CheckedSession, AllocError>
-    requires { IsChangeOf session.now change }
-    ensures changed { IfOk result (λ made. made ≡ changed session.now change) }
-    ensures settings { IfOk result
-        (λ made. settings_of made.header ≡ settings_of session.now.header) }
-    ensures count { IfOk result (λ made. length made.steps ≡ length session.now.steps) }
+    requires header { IsHeaderChange session.now.header change }
+    requires steps { IsStepChange session.now.steps change }
+    ensures { IfOk result (λ made. made ≡ changed_session session.now change) }
 {
     let header = header_with(alloc, session.header(), change)?;
     let steps = steps_with(alloc, session.steps(), change)?;
     match CheckedSession::new(header, steps) {
         Some(made) => Ok(made),
         None => unreachable!(),
+    }
+}
+
+// A second workload in which the change is made.
+fn changed_workload(
+    alloc: Global,
+    workload: &CheckedWorkload,
+    change: Change,
+) -> Result<CheckedWorkload, AllocError>
+    requires { IsHeaderChange workload.now.header change }
+    ensures { IfOk result (λ made. made ≡ changed_workload workload.now change) }
+{
+    let header = header_with(alloc, workload.header(), change)?;
+    let Workload {
+        programs,
+        interrupts,
+        ticks,
+        ..
+    } = workload.copy(alloc)?.into_workload();
+    Ok(CheckedWorkload::unflawed(Workload {
+        header,
+        programs,
+        interrupts,
+        ticks,
+    }))
+}
+
+/// A second source in which the change is made. It has the same cores, tasks and mutexes.
+#[tactic(auto, using(crate::proofs::ChangedSessions::settings_kept))]
+pub fn changed_source(alloc: Global, source: &Source, change: Change) -> Result<Source, AllocError>
+    requires { IsChangeOf source.now change }
+    ensures changed { IfOk result (λ made. made ≡ changed source.now change) }
+    ensures settings { IfOk result
+        (λ made. settings_of (header_of made) ≡ settings_of (header_of source.now)) }
+{
+    match source {
+        Source::Session(session) => {
+            Ok(Source::Session(changed_session(alloc, session, change)?))
+        }
+        Source::Settled(session) => {
+            Ok(Source::Settled(changed_session(alloc, session, change)?))
+        }
+        Source::Workload(workload) => {
+            Ok(Source::Workload(changed_workload(alloc, workload, change)?))
+        }
     }
 }

@@ -1,4 +1,4 @@
-//! The changes that a family has in a session.
+//! The changes that a family has in a source.
 ghost use Rattle.std.specs.Prelude.{◌≡◌, ◌+◌, ◌<◌, ◌≤◌, ◌==◌, [], IfOk, All, map, length, not, if◌then◌else◌, position, ◌^◌};
 ghost use Rattle.bench_types.specs.Limits.{max_steps};
 ghost use Rattle.bench_model.specs.Edits.{args_of};
@@ -9,7 +9,8 @@ ghost use Rattle.ranked_changes.specs.Changes.{caller, caller_at, changes_of, ex
 use crate::changed::args_of;
 use crate::masks::masks_of;
 use crate::{Change, Family};
-use bench_types::{Call, CheckedSession, Header, Step, cores_of_mask};
+use bench_types::{Call, Header, Step, cores_of_mask};
+use run_sources::Source;
 use std::alloc::{AllocError, Global};
 
 // The number after that of the last user task.
@@ -50,13 +51,14 @@ fn priority_changes(alloc: Global, header: &Header) -> Result<Vec<Change>, Alloc
 fn task_masks(
     alloc: Global,
     header: &Header,
+    family: Family,
     masks: &[u32],
     task: u32,
 ) -> Result<Vec<Change>, AllocError>
     requires task { IsUserTask header.now task }
-    requires masks { masks.now ≡ masks_of header.now.config.cores }
+    requires masks { masks.now ≡ masks_of family header.now.config.cores }
     ensures { IfOk result
-        (λ changes. changes.items ≡ map (Change.Mask task) (other_masks header.now task)) }
+        (λ changes. changes.items ≡ map (Change.Mask task) (other_masks family header.now task)) }
 {
     let cores = header.config.cores;
     let own = cores_of_mask(cores, args_of(header, task).mask);
@@ -68,15 +70,15 @@ fn task_masks(
         .collect(alloc)
 }
 
-fn mask_changes(alloc: Global, header: &Header) -> Result<Vec<Change>, AllocError>
+fn mask_changes(alloc: Global, header: &Header, family: Family) -> Result<Vec<Change>, AllocError>
     requires cores { header.now.config.cores ≤ 32 }
     requires tasks { header.now.config.cores + length header.now.tasks < 2 ^ 32 }
-    ensures { IfOk result (λ changes. changes.items ≡ mask_changes header.now) }
+    ensures { IfOk result (λ changes. changes.items ≡ mask_changes family header.now) }
 {
-    let masks = masks_of(alloc, header.config.cores)?;
+    let masks = masks_of(alloc, family, header.config.cores)?;
     let mut changes = Vec::new(alloc);
     for task in header.config.cores..tasks_end(header) {
-        let mut more = task_masks(alloc, header, masks.as_slice(), task)?;
+        let mut more = task_masks(alloc, header, family, masks.as_slice(), task)?;
         changes.append(&mut more)?;
     }
     Ok(changes)
@@ -169,19 +171,6 @@ fn priorities_if(alloc: Global, header: &Header, wanted: bool) -> Result<Vec<Cha
     }
 }
 
-fn masks_if(alloc: Global, header: &Header, wanted: bool) -> Result<Vec<Change>, AllocError>
-    requires cores { header.now.config.cores ≤ 32 }
-    requires tasks { header.now.config.cores + length header.now.tasks < 2 ^ 32 }
-    ensures { IfOk result
-        (λ changes. changes.items ≡ (if wanted then mask_changes header.now else [])) }
-{
-    if wanted {
-        mask_changes(alloc, header)
-    } else {
-        Ok(Vec::new(alloc))
-    }
-}
-
 fn orders_if(alloc: Global, steps: &[Step], wanted: bool) -> Result<Vec<Change>, AllocError>
     requires { length steps.now ≤ max_steps }
     ensures { IfOk result
@@ -194,22 +183,19 @@ fn orders_if(alloc: Global, steps: &[Step], wanted: bool) -> Result<Vec<Change>,
     }
 }
 
-/// The changes of the family in a session: each user task with each other priority, then each with
-/// each other mask, by their numbers, then the exchanges of calls, by their places.
+/// The changes of the family in a source: each user task with each other priority, then each with
+/// each other mask, by their numbers, then the exchanges of calls, by their places. The calls of a
+/// workload are not exchanged.
 #[tactic(auto, using(bench_types::proofs::Passes::checked_header))]
-pub fn changes_of(
-    alloc: Global,
-    session: &CheckedSession,
-    family: Family,
-) -> Result<Vec<Change>, AllocError>
-    ensures changes { IfOk result (λ changes. changes.items ≡ changes_of session.now family) }
+pub fn changes_of(alloc: Global, source: &Source, family: Family) -> Result<Vec<Change>, AllocError>
+    ensures changes { IfOk result (λ changes. changes.items ≡ changes_of source.now family) }
     // Each of them may be made.
-    ensures allowed { IfOk result (λ changes. All (IsChangeOf session.now) changes.items) }
+    ensures allowed { IfOk result (λ changes. All (IsChangeOf source.now) changes.items) }
 {
-    let header = session.header();
+    let header = source.header();
     let mut changes = priorities_if(alloc, header, family.priority)?;
-    let mut masks = masks_if(alloc, header, family.mask)?;
-    let mut orders = orders_if(alloc, session.steps(), family.order)?;
+    let mut masks = mask_changes(alloc, header, family)?;
+    let mut orders = orders_if(alloc, source.steps(), family.order)?;
     changes.append(&mut masks)?;
     changes.append(&mut orders)?;
     Ok(changes)

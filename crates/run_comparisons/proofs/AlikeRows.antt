@@ -1,21 +1,17 @@
--- A row of two settled runs has alike steps, and alike steps have no rows of their own beside each other.
+-- A row of two runs that were made has alike steps, and alike steps have no rows of their own beside each other.
 use Rattle.std.proofs.Common.{◌≡◌, ℕ, zero, suc, Bool, true, false, cond, List, [], ◌∷◌, ◌++◌, take, Option, Some, None, refl, ap, sym, subst, ◌∙◌, arith, inl, inr}
 use Rattle.std.specs.Prelude.{◌⊎◌, All, Contains, slice_get}
 use Rattle.std.proofs.lemmas.List.Elements.{All-head, All-tail, Contains-append_cases}
 use Rattle.bench_types.specs.declared.step.Step.{Step}
-use Rattle.bench_model.specs.Edits.{after_edits}
 use Rattle.run_comparisons.specs.declared.place_pair.PlacePair.{PlacePair}
 use Rattle.run_comparisons.specs.declared.rows.Row.{Row}
 use Rattle.run_comparisons.specs.declared.rows.Row.TheVariants.{Both, Removed, Inserted}
 use Rattle.run_comparisons.specs.Alike.{are_alike}
-use Rattle.run_comparisons.specs.Rows.{rows_of}
-use Rattle.run_comparisons.specs.SettledRowLaws.{AlikeAreNotApart, AreAlikeAt, SettledRowsAreAlike, StandInTurn}
-use Rattle.run_comparisons.specs.Shared.{shared_events}
+use Rattle.run_comparisons.specs.PairLaws.{AlikeAreNotApart, AreAlikeAt, RowsAreAlike, StandInTurn}
 use Rattle.run_comparisons.specs.SideBySide.{first_places, found_after, is_nearer, next_row, past, row_of, row_of_those, AreAligned, AreSideBySide}
 use Rattle.run_comparisons.proofs.AlikeSteps.{may_share, share_alike}
-use Rattle.run_comparisons.proofs.BothRuns.{events_before_kept}
+use Rattle.run_comparisons.proofs.MadePairs.{made_pair}
 use Rattle.run_comparisons.proofs.Moved.{first_or_later}
-use Rattle.run_comparisons.proofs.SharedPlaces.{all_alike}
 
 -- ---- what the next row tells
 
@@ -180,12 +176,10 @@ run_alike before after (event ∷ events) at rows old new aligned alike there =
       ]
     ]
 
-pub settled_rows_are_alike : SettledRowsAreAlike
-settled_rows_are_alike session edits before after rows old new aligned there =
-    let edited = after_edits session edits in
-    run_alike before.run after.run (shared_events session edits before.run after.run) first_places rows old new aligned
-    (all_alike session.steps edited.steps before.run after.run (events_before_kept session before) (events_before_kept edited after) (rows_of session edits))
-    there
+pub rows_are_alike : RowsAreAlike
+rows_are_alike pair old new is there =
+    let made = made_pair pair is in
+    run_alike pair.before.session.steps pair.after.session.steps made.events first_places pair.rows old new made.aligned made.met.alike there
 
 -- ---- neighbours
 
@@ -282,8 +276,9 @@ run_unlike before after (event ∷ events) at rows k old new aligned both =
     ]
 
 pub alike_are_not_apart : AlikeAreNotApart
-alike_are_not_apart session edits before after rows old new aligned neighbours alike =
-    let one = run_unlike before.run after.run (shared_events session edits before.run after.run) first_places rows neighbours.0 old new aligned neighbours.1 in
+alike_are_not_apart pair old new is neighbours alike =
+    let made = made_pair pair is in
+    let one = run_unlike pair.before.session.steps pair.after.session.steps made.events first_places pair.rows neighbours.0 old new made.aligned neighbours.1 in
     let step : one.step ≡ alike.step = cc (one.stands, alike.stands) in
     let other : one.other ≡ alike.other = cc (one.beside, alike.beside) in
     let same = ap (λ s. are_alike s alike.other) step ∙ share_alike alike.step alike.other alike.alike in

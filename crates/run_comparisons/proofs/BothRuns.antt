@@ -3,29 +3,19 @@ use Rattle.std.proofs.Common.{◌≡◌, ℕ, zero, suc, ◌+◌, ◌-◌, ◌�
 use Rattle.std.proofs.Common.{None, refl, ap, ap₂, sym, subst, ◌∙◌, add-one, arith, inl, inr}
 use Rattle.std.specs.Prelude.{◌⊎◌, All, Contains, slice_get}
 use Rattle.std.specs.List.{cons_option, filter_map, range_with_len}
-use Rattle.std.proofs.lemmas.Bool.{and_from}
 use Rattle.std.proofs.lemmas.Grind.{flat_map-append}
 use Rattle.std.proofs.lemmas.List.{length-take-le}
 use Rattle.std.proofs.lemmas.List.Elements.{All-cons, All-head, Contains-append_right}
 use Rattle.std.proofs.lemmas.Option.{slice_get_cases, slice_get_within}
 use Rattle.bench_types.specs.declared.step.Step.{Step}
-use Rattle.bench_types.specs.Session.{Session}
-use Rattle.bench_model.specs.Edits.{after_edits}
-use Rattle.settled_runs.specs.SettleLaws.{comes_from_outside}
-use Rattle.settled_runs.proofs.Settlings.{settling_keeps_events}
 use Rattle.run_comparisons.specs.declared.place_pair.PlacePair.{PlacePair}
 use Rattle.run_comparisons.specs.declared.rows.Row.{Row}
 use Rattle.run_comparisons.specs.declared.rows.Row.TheVariants.{Both, Removed, Inserted}
 use Rattle.run_comparisons.specs.Alike.{are_alike}
-use Rattle.run_comparisons.specs.RowLaws.{place_after, place_before}
-use Rattle.run_comparisons.specs.Rows.{rows_of}
-use Rattle.settled_runs.specs.Runs.{SettledRun}
-use Rattle.run_comparisons.specs.SettledRowLaws.{EachSettledAfter, EachSettledBefore, SharedStandTogether, StandsAs}
-use Rattle.run_comparisons.specs.Shared.{is_same_event, places_in, shared_at, shared_events, AreEventsOf}
-use Rattle.run_comparisons.specs.SideBySide.{first_places, found_after, is_nearer, next_row, past, row_of, row_of_those, AreAligned, AreSideBySide, IsWithin}
-use Rattle.run_comparisons.proofs.EventPlaces.{place_listed, stands_there}
-use Rattle.run_comparisons.proofs.SharedPlaces.{alike_itself, ascend_after, ascend_before, Ascend}
-use Rattle.run_comparisons.proofs.Tiling.{each_after, each_before, joined}
+use Rattle.run_comparisons.specs.Rows.{place_after, place_before}
+use Rattle.run_comparisons.specs.SideBySide.{found_after, is_nearer, next_row, past, row_of, row_of_those, AreAligned, AreSideBySide, IsWithin}
+use Rattle.run_comparisons.proofs.SharedPlaces.{Ascend}
+use Rattle.run_comparisons.proofs.Tiling.{joined}
 
 -- ---- one row
 
@@ -154,41 +144,22 @@ module _ (side : Row → List ℕ) (pick : PlacePair → ℕ) (which : List Step
         ∙ joined (pick at) (pick event - pick at) (suc (many - suc (pick event))) (pick event) (many - pick at) (omega (arith, up.0))
         (omega (arith, up.0, up.1))
 
-before_tiles : (before after : List Step) (events : List PlacePair) (at : PlacePair) (rows : List Row) → AreSideBySide before after events at rows → Ascend
+pub before_tiles : (before after : List Step) (events : List PlacePair) (at : PlacePair) (rows : List Row) → AreSideBySide before after events at rows → Ascend
     (λ pair. pair.before) (length before) at.before events → at.before ≤ length before → flat_map place_before rows ≡ range_with_len at.before
     (length before - at.before)
 before_tiles = run_tiles place_before (λ pair. pair.before) (λ before after. before) before_moves
     (λ before after at none. past_end before at.before (none_left before after at none).0) (λ event. refl) (λ event at. refl) (λ event before after. refl)
 
-after_tiles : (before after : List Step) (events : List PlacePair) (at : PlacePair) (rows : List Row) → AreSideBySide before after events at rows → Ascend
+pub after_tiles : (before after : List Step) (events : List PlacePair) (at : PlacePair) (rows : List Row) → AreSideBySide before after events at rows → Ascend
     (λ pair. pair.after) (length after) at.after events → at.after ≤ length after → flat_map place_after rows ≡ range_with_len at.after
     (length after - at.after)
 after_tiles = run_tiles place_after (λ pair. pair.after) (λ before after. after) after_moves
     (λ before after at none. past_end after at.after (none_left before after at none).1) (λ event. refl) (λ event at. refl) (λ event before after. refl)
 
--- ---- the laws
-
-pub events_before_kept : (session : Session) (before : SettledRun session) → AreEventsOf session.steps before.run
-events_before_kept session before = settling_keeps_events session.header session.steps before.run before.left before.settled
-
-pub each_settled_before : EachSettledBefore
-each_settled_before session edits before after rows aligned =
-    let edited = after_edits session edits in
-    let up = ascend_before session.steps edited.steps before.run after.run (events_before_kept session before) (events_before_kept edited after)
-    (rows_of session edits) (length session.steps) (each_before session edits) in
-    let all : length before.run - 0 ≡ length before.run = omega arith in
-    before_tiles before.run after.run (shared_events session edits before.run after.run) first_places rows aligned up (omega arith) ∙ ap (range_with_len 0) all
-
-pub each_settled_after : EachSettledAfter
-each_settled_after session edits before after rows aligned =
-    let edited = after_edits session edits in
-    let up = ascend_after session.steps edited.steps before.run after.run (events_before_kept session before) (events_before_kept edited after)
-    (rows_of session edits) (length edited.steps) (each_after session edits) in
-    let all : length after.run - 0 ≡ length after.run = omega arith in
-    after_tiles before.run after.run (shared_events session edits before.run after.run) first_places rows aligned up (omega arith) ∙ ap (range_with_len 0) all
+-- ---- each shared event
 
 -- what a row gives is among what all give
-given_there : {X Y : Type 0} (h : X → Option Y) (xs : List X) (k : ℕ) (x : X) (y : Y) → k < length xs → get_or xs k x ≡ x → h x ≡ Some y → Contains
+pub given_there : {X Y : Type 0} (h : X → Option Y) (xs : List X) (k : ℕ) (x : X) (y : Y) → k < length xs → get_or xs k x ≡ x → h x ≡ Some y → Contains
     (filter_map h xs) y
 given_there h [] k x y low is gives = absurd (omega (arith, low))
 given_there {X} {Y} h (first ∷ xs) zero x y low is gives =
@@ -201,7 +172,7 @@ given_there {X} {Y} h (first ∷ xs) (suc k) x y low is gives = at (given_there 
     at there (Some other) = Contains-append_right (other ∷ []) (filter_map h xs) y there
 
 -- each shared event stands in a row
-event_there : (before after : List Step) (events : List PlacePair) (at : PlacePair) (rows : List Row) → AreSideBySide before after events at rows → (k : ℕ)
+pub event_there : (before after : List Step) (events : List PlacePair) (at : PlacePair) (rows : List Row) → AreSideBySide before after events at rows → (k : ℕ)
     (pair : PlacePair) → k < length events → get_or events k pair ≡ pair → Contains rows (row_of pair)
 event_there before after [] at rows aligned k pair low is = absurd (omega (arith, low))
 event_there before after (event ∷ events) at rows aligned zero pair low is =
@@ -211,27 +182,6 @@ event_there before after (event ∷ events) at rows aligned (suc k) pair low is 
     let there = event_there before after events (past (row_of event) at) aligned.1 aligned.4 k pair (omega (arith, low)) is in
     subst (λ (list : List Row). Contains list (row_of pair)) (sym aligned.2)
     (Contains-append_right aligned.0 (row_of event ∷ aligned.1) (row_of pair) (Contains-append_right (row_of event ∷ []) aligned.1 (row_of pair) there))
-
-pub shared_stand_together : SharedStandTogether
-shared_stand_together session edits before after rows old new event aligned listed found met is =
-    let edited = after_edits session edits in
-    let first = events_before_kept session before in
-    let second = events_before_kept edited after in
-    let pair : PlacePair = record { before = get_or (places_in before.run session.steps) old 0; after = get_or (places_in after.run edited.steps) new 0 } in
-    let same : is_same_event (slice_get session.steps old) (slice_get edited.steps new) ≡ true =
-    ap₂ is_same_event found met ∙ and_from (comes_from_outside event) (are_alike event event) is (alike_itself event is) in
-    let gives = ap (λ (b : Bool). cond b (Some pair) None) same in
-    let given = given_there (shared_at session.steps edited.steps (places_in before.run session.steps) (places_in after.run edited.steps))
-    (rows_of session edits) listed.0 (Both old new) pair listed.1 listed.2 gives in
-    let there = event_there before.run after.run (shared_events session edits before.run after.run) first_places rows aligned given.0 pair given.1 given.2 in
-    let place = place_listed before.run session.steps old (slice_get_within session.steps old event found) in
-    let later = place_listed after.run edited.steps new (slice_get_within edited.steps new event met) in (
-      pair.before,
-      pair.after,
-      there,
-      subst (λ n. StandsAs session.steps old event before.run n) (sym place) (stands_there session.steps before.run old event first found is),
-      subst (λ n. StandsAs edited.steps new event after.run n) (sym later) (stands_there edited.steps after.run new event second met is),
-    )
 
 -- ---- the places of a row
 

@@ -7,7 +7,7 @@ use Rattle.std.proofs.lemmas.Bool.{cases_lt}
 use Rattle.std.proofs.lemmas.Option.{get_or_from_slice_get, slice_get_within}
 use Rattle.bench_types.specs.declared.step.Step.{Step}
 use Rattle.settled_runs.specs.SettleLaws.{comes_from_outside}
-use Rattle.run_comparisons.specs.SettledRowLaws.{StandsAs}
+use Rattle.run_comparisons.specs.PairLaws.{StandsAs}
 use Rattle.run_comparisons.specs.Shared.{event_places, events_before, place_in, places_in, AreEventsOf}
 
 -- ---- how many come before a place

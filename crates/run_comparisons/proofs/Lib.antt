@@ -8,16 +8,20 @@ pub mod Compared
 mod EventPlaces
 mod GainsPrinted
 mod LastRows
+mod MadePairs
+mod Moments
 mod Moved
 mod NoDifference
-pub mod OneText
+pub mod OnePair
 mod Outcomes
 mod Ranges
-pub mod RowsCounted
 mod RefusalsFound
+pub mod RowsCounted
 mod SameCalls
 mod SameSteps
+mod SharedMet
 mod SharedPlaces
 mod ShownRows
 mod Tiling
 mod Walks
+mod WithItself

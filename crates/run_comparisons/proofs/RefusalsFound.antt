@@ -1,28 +1,20 @@
 -- What is refused in a run after edits.
-use Rattle.std.proofs.Common.{◌≡◌, ℕ, ◌+◌, ◌≤◌, ◌<◌, Bool, true, false, List, [], ◌∷◌, length, Option, Some, None, Result, Ok, Err, IfOk, refl, ap, sym, subst, ◌∙◌, arith, inl}
+use Rattle.std.proofs.Common.{◌≡◌, ℕ, ◌+◌, ◌≤◌, ◌<◌, Bool, true, false, List, [], ◌∷◌, length, Option, Some, None, refl, ap, sym, ◌∙◌, arith, inl}
 use Rattle.std.proofs.Common.{inr}
-use Rattle.std.specs.Prelude.{◌↔◌, ◌==◌, IsTrue, option_map}
+use Rattle.std.specs.Prelude.{◌↔◌, IsTrue, option_map}
 use Rattle.std.specs.Option.{option_map_or}
 use Rattle.std.proofs.lemmas.Bool.{cases_lt}
-use Rattle.std.proofs.lemmas.Bool.Decides.{nat_tests}
 use Rattle.std.proofs.lemmas.Option.{slice_get_past}
-use Rattle.bench_types.specs.declared.edit.Edit.{Edit}
 use Rattle.bench_types.specs.declared.header.Header.{Header}
 use Rattle.bench_types.specs.declared.reply.Refusal.{Refusal}
 use Rattle.bench_types.specs.declared.reply.Reply.{Reply}
 use Rattle.bench_types.specs.declared.reply.Reply.TheVariants.{Done, Blocked, Flag, Value, Waited, Until, Isr, Refused}
 use Rattle.bench_types.specs.declared.step.Step.{Step}
-use Rattle.bench_types.specs.Limits.{max_steps}
 use Rattle.bench_types.specs.Session.{Session}
-use Rattle.bench_model.specs.Edits.{after_edits}
 use Rattle.bench_model.specs.Session.{reply_at, state_at, step_of}
-use Rattle.session_edits.specs.declared.refused.RefusedEdit.{RefusedEdit}
-use Rattle.session_edits.specs.Refused.{refused_edits, HasRefusedEdit}
-use Rattle.session_runs.specs.Run.{IsRunOf, RunView}
+use Rattle.session_runs.specs.Run.{RunView}
 use Rattle.run_views.specs.RefusedSteps.{is_refusal, HasRefusedStep}
-use Rattle.settled_runs.specs.Runs.{IsSettledTooLong}
-use Rattle.settled_runs.proofs.Settlings.{settled_run_is_one}
-use Rattle.run_comparisons.specs.Refusals.{HasRefusal, HasRefusedRunStep, HasRefusedSettledStep}
+use Rattle.run_comparisons.specs.Refusals.{HasRefusal}
 
 -- ---- one step
 
@@ -87,46 +79,17 @@ none_is session place none past = (
   ]),
 )
 
--- ---- a run
-
--- a step of the one settled run
-pub of_settled_run : (session : Session) (run : RunView) (found : Bool) → IsRunOf true session run → length run.session.steps ≤ max_steps
-    → (IsTrue found ↔ HasRefusedStep run.session.header run.session.steps) → IsTrue found ↔ HasRefusedSettledStep session
-of_settled_run session run found is few printed =
-    let own = subst (λ (header : Header). IsTrue found ↔ HasRefusedStep header run.session.steps) is.0 printed in (
-      λ i. (record { run = run.session.steps; left = run.left; settled = is.1 }, few, own.0 i),
-      λ some. own.1
-          (subst (λ (steps : List Step). HasRefusedStep session.header steps)
-          (settled_run_is_one session.header session.steps some.0.run run.session.steps some.0.left run.left some.0.settled is.1).0 some.2),
-    )
-
--- a settled run that is too long is not looked at
-pub of_long_run : (session : Session) → IsSettledTooLong session → IsTrue false ↔ HasRefusedSettledStep session
-of_long_run session long = (
-  λ is. absurd (cc is),
-  λ some. absurd (let more = long some.0 in let few = some.1 in omega (arith, more, few)),
-)
-
 -- ---- edits and a run
 
--- an edit is refused
-pub of_edit : (settled : Bool) (session : Session) (edits : List Edit) → HasRefusedEdit session edits → IsTrue true ↔ HasRefusal settled session edits
-of_edit settled session edits some = (λ i. inl some, λ all. refl)
+pub of_edit : (run : RunView) (refused : List ℕ) → 1 ≤ length refused → IsTrue true ↔ HasRefusal run refused
+of_edit run [] some = absurd (omega (arith, some))
+of_edit run (place ∷ places) some = (λ i. inl (λ none. cc none), λ all. refl)
 
-no_edit : (session : Session) (edits : List Edit) (list : List RefusedEdit) → list ≡ refused_edits session edits → (length list == 0) ≡ true → ¬ HasRefusedEdit
-    session edits
-no_edit session edits [] are none some = some (sym are)
-no_edit session edits (one ∷ list) are none some = let e : length (one ∷ list) ≡ 0 = grind (arith, nat_tests, none) in omega (arith, e)
-
--- no edit is refused
-pub of_run : {E : Type 0} (settled : Bool) (session edited : Session) (edits : List Edit) (list : List RefusedEdit) (r : Result Bool E) → list ≡ refused_edits
-    session edits → (length list == 0) ≡ true → edited ≡ after_edits session edits
-    → IfOk r (λ step. IsTrue step ↔ HasRefusedRunStep settled edited) → IfOk r (λ step. IsTrue step ↔ HasRefusal settled session edits)
-of_run settled session edited edits list (Err why) are none leads of_step = tt
-of_run settled session edited edits list (Ok step) are none leads of_step =
-    let own = subst (λ (one : Session). IsTrue step ↔ HasRefusedRunStep settled one) leads of_step in
-    (λ i. inr (own.0 i), back own.1)
+pub of_run : (run : RunView) (refused : List ℕ) (step : Bool) → length refused ≡ 0 → (IsTrue step ↔ HasRefusedStep run.session.header run.session.steps)
+    → IsTrue step ↔ HasRefusal run refused
+of_run run [] step none of_step = (λ i. inr (of_step.0 i), back)
   where
-    back : (HasRefusedRunStep settled (after_edits session edits) → IsTrue step) → HasRefusal settled session edits → IsTrue step
-    back found (inl edit) = absurd (no_edit session edits list are none edit)
-    back found (inr refused) = found refused
+    back : HasRefusal run [] → IsTrue step
+    back (inl edit) = absurd (edit refl)
+    back (inr refused) = of_step.1 refused
+of_run run (place ∷ places) step none of_step = absurd (omega (arith, none))

@@ -1,5 +1,5 @@
 -- `==` of calls says what their test says, and `==` of steps holds of equal steps alone.
-use Rattle.std.proofs.Common.{◌≡◌, ◌∙◌, ℕ, Bool, true, false, ◌&&◌, refl, sym, ap, ap₂, arith}
+use Rattle.std.proofs.Common.{◌≡◌, ◌∙◌, ℕ, Bool, true, false, ◌&&◌, refl, sym, ap, ap₂}
 use Rattle.std.specs.Prelude.{◌==◌}
 use Rattle.std.proofs.lemmas.Bool.{and_parts}
 use Rattle.bench_types.specs.contracts.note.NotePartialEq.TheImpl as notes
@@ -17,7 +17,7 @@ use Rattle.bench_types.specs.declared.step.Direction.{Direction}
 use Rattle.bench_types.specs.declared.step.Direction.TheVariants.{Send, Receive}
 use Rattle.bench_types.specs.declared.step.Step.{Step}
 use Rattle.bench_types.specs.declared.step.Step.TheVariants as step
-use Rattle.bench_model.specs.SameTest.{are_same_actions, are_same_bools, are_same_calls, are_same_directions, are_same_notes}
+use Rattle.bench_model.specs.SameTest.{are_same_actions, are_same_calls, are_same_directions, are_same_notes}
 use Rattle.run_comparisons.proofs.SameCalls.{one_call, one_direction, one_note, one_number}
 
 -- ---- what `==` says of a call is what the test says

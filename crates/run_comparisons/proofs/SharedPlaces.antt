@@ -18,10 +18,10 @@ use Rattle.run_comparisons.specs.declared.place_pair.PlacePair.{PlacePair}
 use Rattle.run_comparisons.specs.declared.rows.Row.{Row}
 use Rattle.run_comparisons.specs.declared.rows.Row.TheVariants.{Both, Removed, Inserted}
 use Rattle.run_comparisons.specs.Alike.{are_alike}
-use Rattle.run_comparisons.specs.RowLaws.{place_after, place_before}
+use Rattle.run_comparisons.specs.Rows.{place_after, place_before}
 use Rattle.run_comparisons.specs.Shared.{is_same_event, place_in, places_in, shared_among, shared_at, AreEventsOf}
 use Rattle.run_comparisons.specs.SideBySide.{IsWithin}
-use Rattle.run_comparisons.specs.SettledRowLaws.{AreAlikeAt}
+use Rattle.run_comparisons.specs.PairLaws.{AreAlikeAt}
 use Rattle.run_comparisons.proofs.AlikeSteps.{may_share}
 use Rattle.run_comparisons.proofs.SameCalls.{direction_itself}
 use Rattle.run_comparisons.proofs.EventPlaces.{place_listed, stands_behind, stands_there, stands_within}

@@ -9,13 +9,11 @@ use Rattle.std.proofs.lemmas.List.Elements.{All-head, All-tail}
 use Rattle.std.proofs.lemmas.List.Filters.{length-filter_both}
 use Rattle.std.proofs.lemmas.List.Folds.{Any-from_list_any, list_any-from_Any}
 use Rattle.bench_types.specs.Session.{Session}
-use Rattle.bench_model.specs.Edits.{after_edits}
-use Rattle.session_edits.specs.Refused.{refused_places}
 use Rattle.run_views.specs.declared.places.Places.{Places}
 use Rattle.run_views.specs.Trace.{shows}
 use Rattle.run_comparisons.specs.declared.rows.Row.{Row}
-use Rattle.run_comparisons.specs.Comparison.{compare_text, compare_text_at, differences_text, fared_text}
-use Rattle.run_comparisons.specs.Rows.{rows_of}
+use Rattle.run_comparisons.specs.Comparison.{compare_text, differences_text, fared_text}
+use Rattle.run_comparisons.specs.Pairs.{left_lines}
 use Rattle.run_comparisons.specs.RowWords.{differs, row_line}
 use Rattle.run_comparisons.specs.Shown.{is_shown, left_out_line, left_out_text, line_shown, lines_text, places_of, rows_left_out, shown_rows}
 use Rattle.run_comparisons.specs.ShownLaws.{AllShownAreWhole, AllShownIsCompared, AreAllShown, IsAmong, ShownAndLeftOutAreAll, ShownHavePlaces}
@@ -126,9 +124,10 @@ all_shown_are_whole places before after rows all =
     ∙ append-nil (flat_map (row_line before after) rows)
 
 pub all_shown_is_compared : AllShownIsCompared
-unfolding compare_text compare_text_at
-all_shown_is_compared places session edits all =
-    let after = after_edits session edits in
-    let rows = rows_of session edits in
-    ap (λ (lines : List ℕ). lines ++ differences_text (refused_places session edits) (filter (differs session after) rows) ++ fared_text session after)
-    (all_shown_are_whole places session after rows all)
+unfolding compare_text
+all_shown_is_compared places pair all =
+    let before = pair.before.session in
+    let after = pair.after.session in
+    ap (λ (lines : List ℕ). (lines ++ differences_text pair.refused (filter (differs before after) pair.rows)) ++ fared_text before after ++ left_lines pair.before
+    pair.after)
+    (all_shown_are_whole places before after pair.rows all)

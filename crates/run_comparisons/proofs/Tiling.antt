@@ -3,15 +3,15 @@ use Rattle.std.proofs.Common.{◌≡◌, ℕ, zero, suc, ◌+◌, ◌-◌, ◌�
 use Rattle.std.proofs.Common.{sym, subst, ◌∙◌, append_assoc, add-one, arith}
 use Rattle.std.specs.List.{range_with_len}
 use Rattle.std.proofs.lemmas.Grind.{flat_map-append}
+use Rattle.list_orders.specs.Search.{numbers}
 use Rattle.bench_types.specs.declared.edit.Edit.{Edit}
 use Rattle.bench_types.specs.declared.edit.Edit.TheVariants.{Insert, Remove, Replace, ChangeTask}
 use Rattle.bench_types.specs.declared.edit.EditFault.{EditFault}
 use Rattle.bench_types.specs.Session.{Session}
-use Rattle.bench_model.specs.Edits.{accepted, after_edit}
+use Rattle.bench_model.specs.Edits.{accepted, after_edit, after_edits}
 use Rattle.run_comparisons.specs.declared.rows.Row.TheVariants.{Both, Removed}
 use Rattle.session_edits.specs.Origins.{Origin, all_kept, origins_after, origins_made, origins_of}
-use Rattle.run_comparisons.specs.Rows.{removed, rows_from}
-use Rattle.run_comparisons.specs.RowLaws.{EachAfter, EachBefore, place_after, place_before}
+use Rattle.run_comparisons.specs.Rows.{place_after, place_before, removed, rows_from, rows_of}
 use Rattle.session_edits.proofs.Moving.{kept_many, made_is, made_not, origins_many}
 
 -- ---- after the edits
@@ -31,7 +31,7 @@ rows_after count next place (Some before ∷ origins) =
     (none_after (range_with_len next (before - next))))
     ∙ ap (λ list. place ∷ list) (rows_after count (suc before) (suc place) origins ∙ ap (λ from. range_with_len from (length origins)) (sym (add-one place)))
 
-pub each_after : EachAfter
+pub each_after : (session : Session) (edits : List Edit) → flat_map place_after (rows_of session edits) ≡ numbers (length (after_edits session edits).steps)
 each_after session edits =
     let count = length session.steps in
     rows_after count 0 0 (origins_of session edits (all_kept count))
@@ -135,7 +135,7 @@ rows_before count next place (Some before ∷ origins) up =
     (sym (add-one before)))
     ∙ joined next (before - next) (suc (count - suc before)) before (count - next) (omega (arith, order)) (omega (arith, order, within))
 
-pub each_before : EachBefore
+pub each_before : (session : Session) (edits : List Edit) → flat_map place_before (rows_of session edits) ≡ numbers (length session.steps)
 each_before session edits =
     let count = length session.steps in
     let all : count - 0 ≡ count = omega arith in

@@ -4,7 +4,7 @@ use Rattle.list_orders.specs.Search.{numbers}
 use Rattle.run_comparisons.specs.declared.columns.Side.{Side}
 use Rattle.run_comparisons.specs.declared.columns.Side.TheVariants.{Before, After}
 use Rattle.run_comparisons.specs.declared.rows.Row.{Row}
-use Rattle.run_comparisons.specs.RowLaws.{place_after, place_before}
+use Rattle.run_comparisons.specs.Rows.{place_after, place_before}
 
 -- the place of the step of a row in the one run, where it has one
 abbrev pub place_in : Side → Row → List ℕ

@@ -1,15 +1,12 @@
--- The run of a session beside the run after edits of it.
+-- The run before edits beside the run after them.
 use Rattle.std.specs.Prelude.{◌≡◌, ◌↔◌, ℕ, List, [], ◌∷◌, ◌++◌, All, filter, flat_map, codes, decimal, false, Option, Some, None}
-use Rattle.bench_types.specs.declared.edit.Edit.{Edit}
 use Rattle.bench_types.specs.Session.{Session}
-use Rattle.bench_model.specs.Edits.{after_edits}
 use Rattle.bench_model.specs.Tally.{tallies}
-use Rattle.session_edits.specs.Refused.{refused_places}
 use Rattle.run_views.specs.declared.places.Places.{Places}
 use Rattle.run_comparisons.specs.declared.rows.Row.{Row}
 use Rattle.run_comparisons.specs.declared.rows.Row.TheVariants.{Both, Removed, Inserted}
 use Rattle.run_comparisons.specs.Gains.{gains_text}
-use Rattle.run_comparisons.specs.Rows.{rows_of}
+use Rattle.run_comparisons.specs.Pairs.{left_lines, PairView}
 use Rattle.run_comparisons.specs.RowWords.{differs, place_text}
 use Rattle.run_comparisons.specs.Shown.{lines_text}
 
@@ -69,7 +66,7 @@ NoDifferenceIsSaid =
     → SaysNoDifference (differences_text refused (filter (differs before after) rows))
     ↔ All (λ row. differs before after row ≡ false) rows
 
--- Rows of a session and an edited one, all of them or those at the places alone, and the places of
+-- Rows of two runs, all of them or those at the places alone, and the places of
 -- the edits that are refused. Where the runs differ first and last is told of all rows.
 abbrev pub rows_text : Option Places → Session → Session → List ℕ → List Row → List ℕ
 rows_text shown before after refused rows =
@@ -82,18 +79,9 @@ fared_text before after =
     gains_text before.header (tallies before.header before.steps)
     (tallies after.header after.steps)
 
--- Lines of rows, then where the two runs differ first and last, then what each task gained and
--- lost. The edits are made one after another, and those that are refused are passed over.
-abbrev pub comparison_text : Option Places → Session → List Edit → List ℕ
-comparison_text shown session edits =
-    let after = after_edits session edits in
-    rows_text shown session after (refused_places session edits) (rows_of session edits)
-    ++ fared_text session after
-
--- a line for each row
-unfoldable pub compare_text : Session → List Edit → List ℕ
-compare_text session edits = comparison_text None session edits
-
--- a line for each row at the places, and how many are left out
-unfoldable pub compare_text_at : Places → Session → List Edit → List ℕ
-compare_text_at places session edits = comparison_text (Some places) session edits
+-- Lines of rows, all of them or those at the places alone, then where the two runs differ first and
+-- last, then what each task gained and lost, then the calls that were not made.
+unfoldable pub compare_text : Option Places → PairView → List ℕ
+compare_text shown pair =
+    rows_text shown pair.before.session pair.after.session pair.refused pair.rows
+    ++ fared_text pair.before.session pair.after.session ++ left_lines pair.before pair.after

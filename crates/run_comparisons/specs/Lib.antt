@@ -3,14 +3,14 @@ pub mod Columns
 pub mod Comparison
 pub mod Gains
 pub mod Made
+pub mod PairLaws
+pub mod Pairs
+pub mod Printed
 pub mod Refusals
 pub mod RowLaws
 pub mod RowWords
 pub mod Rows
-pub mod Settled
-pub mod SettledRowLaws
 pub mod Shared
 pub mod Shown
 pub mod ShownLaws
 pub mod SideBySide
-pub mod Printed

@@ -1,25 +1,8 @@
--- Edits that are refused, and steps of the run after the edits.
-use Rattle.std.specs.Prelude.{◌≤◌, ◌⊎◌, List, length, Bool, true, false}
-use Rattle.bench_types.specs.declared.edit.Edit.{Edit}
-use Rattle.bench_types.specs.Limits.{max_steps}
-use Rattle.bench_types.specs.Session.{Session}
-use Rattle.bench_model.specs.Edits.{after_edits}
-use Rattle.session_edits.specs.Refused.{HasRefusedEdit}
+-- Whether something is refused.
+use Rattle.std.specs.Prelude.{◌≢◌, ◌⊎◌, ℕ, List, []}
+use Rattle.session_runs.specs.Run.{RunView}
 use Rattle.run_views.specs.RefusedSteps.{HasRefusedStep}
-use Rattle.settled_runs.specs.Runs.{SettledRun}
 
--- the kernel refuses a step of the settled run, which has no more steps than a session may have
-abbrev pub HasRefusedSettledStep : Session → Type 0
-HasRefusedSettledStep session =
-    (settled : SettledRun session) × (length settled.run ≤ max_steps)
-    × HasRefusedStep session.header settled.run
-
--- it refuses a step of the session as it stands, or of its settled run
-abbrev pub HasRefusedRunStep : Bool → Session → Type 0
-HasRefusedRunStep false session = HasRefusedStep session.header session.steps
-HasRefusedRunStep true session = HasRefusedSettledStep session
-
--- some edit is refused, or a step of the run after the edits
-abbrev pub HasRefusal : Bool → Session → List Edit → Type 0
-HasRefusal settled session edits =
-    HasRefusedEdit session edits ⊎ HasRefusedRunStep settled (after_edits session edits)
+-- some edit is refused, or the kernel refuses a step of the run
+abbrev pub HasRefusal : RunView → List ℕ → Type 0
+HasRefusal run refused = (refused ≢ []) ⊎ HasRefusedStep run.session.header run.session.steps

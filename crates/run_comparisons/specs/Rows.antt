@@ -7,6 +7,18 @@ use Rattle.run_comparisons.specs.declared.rows.Row.{Row}
 use Rattle.run_comparisons.specs.declared.rows.Row.TheVariants.{Both, Removed, Inserted}
 use Rattle.session_edits.specs.Origins.{Origin, all_kept, origins_of}
 
+-- the place before the edits of the step of a row, where it has one
+abbrev pub place_before : Row → List ℕ
+place_before (Both before after) = before ∷ []
+place_before (Removed before) = before ∷ []
+place_before (Inserted after) = []
+
+-- and after them
+abbrev pub place_after : Row → List ℕ
+place_after (Both before after) = after ∷ []
+place_after (Removed before) = []
+place_after (Inserted after) = after ∷ []
+
 -- the steps from one place up to another, which are removed
 abbrev pub removed : ℕ → ℕ → List Row
 removed from to = map Removed (range_with_len from (to - from))

@@ -1,10 +1,11 @@
--- The ticks and the interrupts that two sessions share, and where they stand in the settled runs.
-use Rattle.std.specs.Prelude.{◌≡◌, ℕ, suc, List, [], ◌∷◌, length, map, take, filter, Bool, false, ◌&&◌, Option, Some, None, slice_get, slice_index_or}
+-- The events that two runs share, by which their steps are put beside each other.
+use Rattle.std.specs.Prelude.{◌≡◌, ℕ, suc, List, [], ◌∷◌, length, map, take, filter, zip, Bool, true, false, not, ◌&&◌, Option, Some, None, slice_get, slice_index_or}
 use Rattle.std.specs.Prelude.{if◌then◌else◌}
 use Rattle.std.specs.List.{filter_map}
 use Rattle.list_orders.specs.Search.{numbers}
 use Rattle.bench_types.specs.declared.edit.Edit.{Edit}
 use Rattle.bench_types.specs.declared.step.Step.{Step}
+use Rattle.bench_types.specs.declared.step.Step.TheVariants.{Pass}
 use Rattle.bench_types.specs.Session.{Session}
 use Rattle.bench_model.specs.Edits.{after_edits}
 use Rattle.settled_runs.specs.SettleLaws.{comes_from_outside}
@@ -13,6 +14,8 @@ use Rattle.run_comparisons.specs.declared.rows.Row.{Row}
 use Rattle.run_comparisons.specs.declared.rows.Row.TheVariants.{Both, Removed, Inserted}
 use Rattle.run_comparisons.specs.Alike.{are_alike}
 use Rattle.run_comparisons.specs.Rows.{rows_of}
+
+-- ---- of settled runs
 
 -- how many ticks and interrupts come before the place
 abbrev pub events_before : List Step → ℕ → ℕ
@@ -68,3 +71,26 @@ shared_events session edits before after =
 -- the ticks and interrupts of a session are those of its run, in order
 abbrev pub AreEventsOf : List Step → List Step → Type 0
 AreEventsOf session run = filter comes_from_outside session ≡ filter comes_from_outside run
+
+-- ---- of simulated runs
+
+-- time passes in the step
+abbrev pub is_pass : Option Step → Bool
+is_pass (Some (Pass units)) = true
+is_pass step = false
+
+-- the places of the ticks and interrupts of a run, in order; time that passes is none
+abbrev pub moments : List Step → List ℕ
+moments run = filter (λ place. not (is_pass (slice_get run place))) (event_places 0 run)
+
+-- a place in each of two runs, where one tick or one interrupt stands in both
+abbrev pub paired_at : List Step → List Step → ℕ × ℕ → Option PlacePair
+paired_at before after both =
+    if is_same_event (slice_get before both.0) (slice_get after both.1)
+    then Some (record { before = both.0; after = both.1 })
+    else None
+
+-- the ticks and interrupts that come as the first in both runs, as the second in both, and so on
+abbrev pub paired_events : List Step → List Step → List PlacePair
+paired_events before after =
+    filter_map (paired_at before after) (zip (moments before) (moments after))

@@ -5,7 +5,7 @@ use Rattle.bench_types.specs.Session.{Session}
 use Rattle.run_views.specs.declared.places.Places.{Places}
 use Rattle.run_views.specs.Trace.{shows}
 use Rattle.run_comparisons.specs.declared.rows.Row.{Row}
-use Rattle.run_comparisons.specs.RowLaws.{place_after, place_before}
+use Rattle.run_comparisons.specs.Rows.{place_after, place_before}
 use Rattle.run_comparisons.specs.RowWords.{row_line}
 
 -- the places of a row, before the edits and after them

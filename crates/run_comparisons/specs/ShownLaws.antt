@@ -1,12 +1,10 @@
 -- What is told of the rows at some places alone has to do with what is told of all rows.
 use Rattle.std.specs.Prelude.{◌≡◌, ◌↔◌, ◌≤◌, ◌+◌, ℕ, List, length, All, Any, Contains, true, Some, None}
-use Rattle.bench_types.specs.declared.edit.Edit.{Edit}
 use Rattle.bench_types.specs.Session.{Session}
 use Rattle.run_views.specs.declared.places.Places.{Places}
 use Rattle.run_comparisons.specs.declared.rows.Row.{Row}
-use Rattle.run_comparisons.specs.Comparison.{compare_text, compare_text_at}
-use Rattle.run_comparisons.specs.Rows.{rows_of}
-use Rattle.run_comparisons.specs.Settled.{IsSettledComparisonAt}
+use Rattle.run_comparisons.specs.Comparison.{compare_text}
+use Rattle.run_comparisons.specs.Pairs.{PairView}
 use Rattle.run_comparisons.specs.Shown.{is_shown, lines_text, places_of, rows_left_out, shown_rows}
 
 -- the place is from the first to the last of the places
@@ -39,13 +37,5 @@ AllShownAreWhole =
 -- and the comparison is that without places
 abbrev pub AllShownIsCompared : Type 0
 AllShownIsCompared =
-    (places : Places) (session : Session) (edits : List Edit)
-    → AreAllShown places (rows_of session edits)
-    → compare_text_at places session edits ≡ compare_text session edits
-
--- one text is told of a session, edits of it and places
-abbrev pub SettledComparisonAtIsOne : Type 0
-SettledComparisonAtIsOne =
-    (places : Places) (session : Session) (edits : List Edit) (text other : List ℕ)
-    → IsSettledComparisonAt places session edits text
-    → IsSettledComparisonAt places session edits other → text ≡ other
+    (places : Places) (pair : PairView) → AreAllShown places pair.rows
+    → compare_text (Some places) pair ≡ compare_text None pair

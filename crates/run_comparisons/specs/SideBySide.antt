@@ -1,4 +1,4 @@
--- Two settled runs, step beside step.
+-- Two runs that were made, step beside step.
 use Rattle.std.specs.Prelude.{◌≡◌, ◌<◌, ℕ, suc, List, [], ◌∷◌, ◌++◌, length, take, drop, Bool, true, false, nat_lt, Option, Some, None, position, slice_get}
 use Rattle.std.specs.Prelude.{if◌then◌else◌}
 use Rattle.bench_types.specs.declared.edit.Edit.{Edit}
@@ -8,7 +8,7 @@ use Rattle.run_comparisons.specs.declared.place_pair.PlacePair.{PlacePair}
 use Rattle.run_comparisons.specs.declared.rows.Row.{Row}
 use Rattle.run_comparisons.specs.declared.rows.Row.TheVariants.{Both, Removed, Inserted}
 use Rattle.run_comparisons.specs.Alike.{are_alike}
-use Rattle.run_comparisons.specs.Shared.{shared_events}
+use Rattle.run_comparisons.specs.Shared.{paired_events, shared_events}
 
 -- within so many steps a step is looked for that is like another
 abbrev pub look_ahead : ℕ
@@ -84,3 +84,8 @@ first_places = record { before = 0; after = 0 }
 abbrev pub AreSettledRows : Session → List Edit → List Step → List Step → List Row → Type 0
 AreSettledRows session edits before after rows =
     AreSideBySide before after (shared_events session edits before after) first_places rows
+
+-- the rows of two simulated runs
+abbrev pub AreSimulatedRows : List Step → List Step → List Row → Type 0
+AreSimulatedRows before after rows =
+    AreSideBySide before after (paired_events before after) first_places rows

@@ -1,41 +1,22 @@
 //! Both runs, row by row, and how the tasks fared.
-ghost use Rattle.std.specs.Prelude.{◌≡◌, ◌++◌, IfOk, OnOk, filter, flat_map, string_bytes};
-ghost use Rattle.session_edits.specs.Refused.{refused_places};
-ghost use Rattle.run_comparisons.specs.Comparison.{compare_text, compare_text_at, comparison_text, differences_text, ends_text, fared_text, first_text, further_text, last_text, no_difference_text, not_made_line, not_made_text, places_text, rows_text};
+ghost use Rattle.std.specs.Prelude.{◌≡◌, ◌++◌, IfOk, OnOk, filter, flat_map, map, string_bytes};
+ghost use Rattle.list_orders.specs.Search.{numbers};
+ghost use Rattle.run_comparisons.specs.declared.rows.Row.TheVariants.{Both};
+ghost use Rattle.run_comparisons.specs.Comparison.{compare_text, differences_text, ends_text, fared_text, first_text, further_text, last_text, no_difference_text, not_made_line, not_made_text, places_text, rows_text};
 ghost use Rattle.run_comparisons.specs.RowWords.{differs};
-ghost use Rattle.run_comparisons.specs.Rows.{rows_of};
+ghost use Rattle.run_comparisons.specs.Pairs.{with_itself};
 ghost use Rattle.run_comparisons.specs.Shown.{line_shown};
 
 use crate::gains::push_gains;
+use crate::left::push_left_lines;
+use crate::pair::RunPair;
 use crate::row_words::{push_place, push_row_shown};
-use crate::rows::{Row, push_rows};
+use crate::rows::Row;
 use crate::run_reader::RunReader;
 use crate::shown::push_left_out;
 use run_views::Places;
-use session_edits::EditedSession;
 use session_runs::Run;
-use smp_kernel::Meter;
 use std::alloc::{AllocError, Global};
-
-/// The rows of the session before the edits and after them.
-pub(crate) fn rows_of(alloc: Global, edited: &EditedSession) -> Result<Vec<Row>, AllocError>
-    ensures { IfOk result
-        (λ rows. rows.items ≡ rows_of edited.now.session edited.now.edits) }
-{
-    let count = edited.session().steps().len() as u32;
-    let mut rows = Vec::with_capacity(alloc, edited.edited().steps().len())?;
-    push_rows(&mut rows, count, edited.origins())?;
-    Ok(rows)
-}
-
-// The places of the edits that are refused.
-fn refused_places(alloc: Global, edited: &EditedSession) -> Result<Vec<usize>, AllocError>
-    ensures { IfOk result
-        (λ places. places.items ≡ refused_places edited.now.session edited.now.edits) }
-{
-    let refused = edited.refused();
-    refused.iter().map(|one| one.index).collect(alloc)
-}
 
 // Writes the rows that are shown, and gives those in which the runs differ, shown or not.
 fn push_lines(
@@ -188,84 +169,74 @@ fn push_fared(alloc: Global, text: &mut String, before: &Run, after: &Run) -> Re
     push_gains(alloc, text, header, before.tallies(), after.tallies())
 }
 
-/// Writes what is told of two runs by their rows: the rows, all of them or those at the places
-/// alone, and what each task gained and lost. The edits that were refused stand at these places.
-pub(crate) fn push_compared(
-    alloc: Global,
-    text: &mut String,
-    edited: &EditedSession,
-    before: &Run,
-    after: &Run,
-    shown: Option<Places>,
-    rows: &[Row],
-) -> Result<(), AllocError>
-    ensures { OnOk result
-        (string_bytes text.new
-        ≡ string_bytes text.old
-        ++ rows_text shown before.now.session after.now.session
-        (refused_places edited.now.session edited.now.edits) rows.now
-        ++ fared_text before.now.session after.now.session) }
-{
-    let refused = refused_places(alloc, edited)?;
-    push_rows_text(alloc, text, before, after, refused.as_slice(), shown, rows)?;
-    push_fared(alloc, text, before, after)
-}
-
-// Both runs with all their rows, or with those at the places alone.
+// Two runs by their rows, all of them or those at the places alone. Edits at these places were
+// refused.
+#[tactic(auto, unfolding(crate::specs::Comparison::compare_text))]
 fn compared(
     alloc: Global,
-    meter: &mut Meter,
-    edited: &EditedSession,
+    before: &Run,
+    after: &Run,
+    rows: &[Row],
+    refused: &[usize],
     shown: Option<Places>,
 ) -> Result<String, AllocError>
     ensures { IfOk result
         (λ text. string_bytes text
-        ≡ comparison_text shown edited.now.session edited.now.edits) }
+        ≡ compare_text shown (record {
+          before = before.now;
+          after = after.now;
+          rows = rows.now;
+          refused = refused.now;
+        })) }
 {
-    let before = Run::of_session(alloc, edited.session().copy(alloc)?, meter)?;
-    let after = Run::of_session(alloc, edited.edited().copy(alloc)?, meter)?;
-    let rows = rows_of(alloc, edited)?;
     let mut text = String::new(alloc);
-    push_compared(
-        alloc,
-        &mut text,
-        edited,
-        &before,
-        &after,
-        shown,
-        rows.as_slice(),
-    )?;
+    push_rows_text(alloc, &mut text, before, after, refused, shown, rows)?;
+    push_fared(alloc, &mut text, before, after)?;
+    push_left_lines(&mut text, before, after)?;
     Ok(text)
 }
 
-/// The run of the session before the edits beside the run after them: a line for each step of
-/// either, where they differ first and last, and what each task gained and lost. Edits that are
-/// refused are passed over. Each run is made once.
-#[tactic(auto, unfolding(crate::specs::Comparison::compare_text))]
-pub fn compare(
-    alloc: Global,
-    meter: &mut Meter,
-    edited: &EditedSession,
-) -> Result<String, AllocError>
-    ensures { IfOk result
-        (λ text. string_bytes text ≡ compare_text edited.now.session edited.now.edits) }
+/// The run before the edits beside the run after them: a line for each step of either, where they
+/// differ first and last, what each task gained and lost, and the calls that were not made.
+///
+/// With places there are lines for the steps at them alone, by their places before the edits or
+/// after them, and how many lines are left out. The rest is told of the whole runs.
+pub fn compare(alloc: Global, pair: &RunPair, shown: Option<Places>) -> Result<String, AllocError>
+    ensures { IfOk result (λ text. string_bytes text ≡ compare_text shown pair.now) }
 {
-    compared(alloc, meter, edited, None)
+    compared(
+        alloc,
+        pair.before(),
+        pair.after(),
+        pair.rows(),
+        pair.refused(),
+        shown,
+    )
 }
 
-/// The same with lines for the steps at the places alone, by their places before the edits or after
-/// them, and how many lines are left out. Where the runs differ, and what each task gained and
-/// lost, is told of the whole runs.
-#[tactic(auto, unfolding(crate::specs::Comparison::compare_text_at))]
-pub fn compare_at(
-    alloc: Global,
-    meter: &mut Meter,
-    edited: &EditedSession,
-    places: Places,
-) -> Result<String, AllocError>
+// A row for each of so many steps, which stands beside itself.
+fn rows_of_both(alloc: Global, count: u32) -> Result<Vec<Row>, AllocError>
     ensures { IfOk result
-        (λ text. string_bytes text
-        ≡ compare_text_at places edited.now.session edited.now.edits) }
+        (λ rows. rows.items ≡ map (λ place. Both place place) (numbers count)) }
 {
-    compared(alloc, meter, edited, Some(places))
+    let mut rows = Vec::with_capacity(alloc, count as usize)?;
+    for place in 0..count {
+        rows.push(Row::Both {
+            before: place,
+            after: place,
+        })?;
+    }
+    Ok(rows)
+}
+
+/// The same of a run beside itself.
+pub fn compare_with_itself(
+    alloc: Global,
+    run: &Run,
+    shown: Option<Places>,
+) -> Result<String, AllocError>
+    ensures { IfOk result (λ text. string_bytes text ≡ compare_text shown (with_itself run.now)) }
+{
+    let rows = rows_of_both(alloc, run.session().steps().len() as u32)?;
+    compared(alloc, run, run, rows.as_slice(), &[], shown)
 }

@@ -1,4 +1,5 @@
-//! The run of a session before some edits beside the run after them, as they stand or settled.
+//! The run before some edits beside the run after them: of a session as its steps stand or settled,
+//! or of a workload.
 #![tactic(auto)]
 
 mod alike;
@@ -6,20 +7,22 @@ mod columns;
 mod comparison;
 mod gains;
 pub mod laws;
+mod left;
 mod made;
+mod pair;
 mod place_pair;
 mod printed;
 mod refusals;
 mod row_words;
 mod rows;
 mod run_reader;
-mod settled;
 mod shared;
 mod shown;
 mod side_by_side;
 
 pub use columns::{Side, columns_of, law_of_columns};
-pub use comparison::{compare, compare_at};
-pub use refusals::has_refusal;
+pub use comparison::{compare, compare_with_itself};
+pub use left::push_left_lines;
+pub use pair::RunPair;
+pub use refusals::{has_refusal, refused_places};
 pub use rows::Row;
-pub use settled::{SettledPair, compare_settled, compare_settled_at, push_left_lines, settle_both};

@@ -1,16 +1,23 @@
-//! Whether an edit is refused, or a step of the run after the edits.
+//! Edits that are refused, and steps of the run after them.
 ghost use Rattle.std.specs.Prelude.{◌≡◌, ◌↔◌, false, IfOk, IsTrue};
 ghost use Rattle.std.specs.Option.{option_map_or};
+ghost use Rattle.session_edits.specs.Refused.{refused_places};
 ghost use Rattle.run_views.specs.RefusedSteps.{is_refusal, HasRefusedStep};
-ghost use Rattle.run_comparisons.specs.Refusals.{HasRefusal, HasRefusedRunStep, HasRefusedSettledStep};
+ghost use Rattle.run_comparisons.specs.Refusals.{HasRefusal};
 
-use bench_types::{CheckedSession, Reply};
-use run_views::has_refused_step;
+use bench_types::Reply;
 use session_edits::EditedSession;
 use session_runs::Run;
-use settling::{SettleFault, settle};
-use smp_kernel::Meter;
 use std::alloc::{AllocError, Global};
+
+/// The places of the edits that are refused.
+pub fn refused_places(alloc: Global, edited: &EditedSession) -> Result<Vec<usize>, AllocError>
+    ensures { IfOk result
+        (λ places. places.items ≡ refused_places edited.now.session edited.now.edits) }
+{
+    let refused = edited.refused();
+    refused.iter().map(|one| one.index).collect(alloc)
+}
 
 // There is a reply, and it says that the step is refused.
 fn is_refused(reply: Option<Reply>) -> bool
@@ -19,7 +26,7 @@ fn is_refused(reply: Option<Reply>) -> bool
     matches!(reply, Some(Reply::Refused(_)))
 }
 
-// Whether the kernel refused a step of the run that is made already.
+// Whether the kernel refused a step of the run.
 fn was_step_refused(run: &Run) -> bool
     ensures { IsTrue result ↔ HasRefusedStep run.now.session.header run.now.session.steps }
 {
@@ -31,50 +38,10 @@ fn was_step_refused(run: &Run) -> bool
     false
 }
 
-// Whether it refuses a step of the settled run.
-fn has_refused_settled_step(
-    alloc: Global,
-    meter: &mut Meter,
-    session: &CheckedSession,
-) -> Result<bool, AllocError>
-    ensures { IfOk result (λ found. IsTrue found ↔ HasRefusedSettledStep session.now) }
+/// Whether edits are refused, of which these are the places, or the kernel refused a step of the
+/// run.
+pub fn has_refusal(run: &Run, refused: &[usize]) -> bool
+    ensures { IsTrue result ↔ HasRefusal run.now refused.now }
 {
-    match settle(alloc, session, meter) {
-        Ok(run) => Ok(was_step_refused(&run)),
-        Err(SettleFault::TooManySteps) => Ok(false),
-        Err(SettleFault::NoMemory) => Err(AllocError),
-    }
-}
-
-// Whether it refuses a step of the session as it stands, or of its settled run.
-fn has_refused_run_step(
-    alloc: Global,
-    meter: &mut Meter,
-    session: &CheckedSession,
-    settled: bool,
-) -> Result<bool, AllocError>
-    ensures { IfOk result (λ found. IsTrue found ↔ HasRefusedRunStep settled session.now) }
-{
-    if settled {
-        return has_refused_settled_step(alloc, meter, session);
-    }
-    has_refused_step(alloc, meter, session)
-}
-
-/// Whether an edit of the session is refused, or a step of the run after the edits: of the session
-/// as they leave it, or with `settled` of its settled run. One that has more steps than a session
-/// may have is not looked at.
-pub fn has_refusal(
-    alloc: Global,
-    meter: &mut Meter,
-    edited: &EditedSession,
-    settled: bool,
-) -> Result<bool, AllocError>
-    ensures { IfOk result
-        (λ found. IsTrue found ↔ HasRefusal settled edited.now.session edited.now.edits) }
-{
-    if !edited.refused().is_empty() {
-        return Ok(true);
-    }
-    has_refused_run_step(alloc, meter, edited.edited(), settled)
+    !refused.is_empty() || was_step_refused(run)
 }

@@ -1,8 +1,9 @@
 //! The steps of both runs, each beside its other.
 ghost use Rattle.std.specs.Prelude.{◌≡◌, ◌<◌, ◌^◌, ◌++◌, IfOk, OnOk, length};
-ghost use Rattle.run_comparisons.specs.Rows.{next_after, removed, rows_at, rows_from};
+ghost use Rattle.run_comparisons.specs.Rows.{next_after, removed, rows_at, rows_from, rows_of};
 
-use std::alloc::AllocError;
+use session_edits::EditedSession;
+use std::alloc::{AllocError, Global};
 
 /// A step that both runs have, or one of them alone.
 #[derive(Clone, Copy, Debug, PartialEq, Eq)]
@@ -53,13 +54,9 @@ fn push_rows_at(
     }
 }
 
-/// Adds the rows of so many steps before the edits, and of the steps after them, of which there are
-/// the origins.
-pub(crate) fn push_rows(
-    rows: &mut Vec<Row>,
-    count: u32,
-    origins: &[Option<u32>],
-) -> Result<(), AllocError>
+// Adds the rows of so many steps before the edits, and of the steps after them, of which there are
+// the origins.
+fn push_rows(rows: &mut Vec<Row>, count: u32, origins: &[Option<u32>]) -> Result<(), AllocError>
     requires { length origins.now < 2 ^ 32 }
     ensures { OnOk result
         (rows.new.items ≡ rows.old.items ++ rows_from count 0 0 origins.now) }
@@ -69,4 +66,15 @@ pub(crate) fn push_rows(
         next = push_rows_at(rows, next, place as u32, *origin)?;
     }
     push_removed(rows, next, count)
+}
+
+/// The rows of the session before the edits and after them.
+pub(crate) fn edited_rows(alloc: Global, edited: &EditedSession) -> Result<Vec<Row>, AllocError>
+    ensures { IfOk result
+        (λ rows. rows.items ≡ rows_of edited.now.session edited.now.edits) }
+{
+    let count = edited.session().steps().len() as u32;
+    let mut rows = Vec::with_capacity(alloc, edited.edited().steps().len())?;
+    push_rows(&mut rows, count, edited.origins())?;
+    Ok(rows)
 }

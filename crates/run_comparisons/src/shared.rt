@@ -1,7 +1,7 @@
-//! The ticks and the interrupts that two sessions share, and where they stand in the settled runs.
-ghost use Rattle.std.specs.Prelude.{◌≡◌, ◌<◌, ◌^◌, IfOk, length, slice_get, slice_index_or};
+//! The events that two runs share, by which their steps are put beside each other.
+ghost use Rattle.std.specs.Prelude.{◌≡◌, ◌<◌, ◌^◌, IfOk, filter, length, not, slice_get, slice_index_or, zip};
 ghost use Rattle.std.specs.List.{filter_map};
-ghost use Rattle.run_comparisons.specs.Shared.{event_places, is_same_event, places_in, shared_among, shared_at};
+ghost use Rattle.run_comparisons.specs.Shared.{event_places, is_pass, is_same_event, moments, paired_at, paired_events, places_in, shared_among, shared_at};
 
 use crate::Row;
 use crate::alike::{are_alike, comes_from_outside};
@@ -135,4 +135,99 @@ pub(crate) fn shared_among(
         later.as_slice(),
         rows,
     )
+}
+
+// Whether time passes in the step.
+fn is_pass(step: Option<Step>) -> bool
+    ensures { result ≡ is_pass step }
+{
+    matches!(step, Some(Step::Pass { .. }))
+}
+
+// Those of the places at which no time passes.
+fn without_passes(alloc: Global, run: &[Step], events: &[u32]) -> Result<Vec<u32>, AllocError>
+    ensures { IfOk result
+        (λ places. places.items
+        ≡ filter (λ place. not (is_pass (slice_get run.now place))) events.now) }
+{
+    let mut places = Vec::new(alloc);
+    for place in events {
+        if !is_pass(step_at(run, *place)) {
+            places.push(*place)?;
+        }
+    }
+    Ok(places)
+}
+
+// The places of the ticks and interrupts; time that passes is none.
+fn moments(alloc: Global, run: &[Step]) -> Result<Vec<u32>, AllocError>
+    requires { length run.now < 2 ^ 32 }
+    ensures { IfOk result (λ places. places.items ≡ moments run.now) }
+{
+    let events = event_places(alloc, run)?;
+    without_passes(alloc, run, events.as_slice())
+}
+
+// The places in both runs, where one tick or one interrupt stands in both.
+fn paired_at(before: &[Step], after: &[Step], place: u32, later: u32) -> Option<PlacePair>
+    ensures { result ≡ paired_at before.now after.now (place, later) }
+{
+    if !is_same_event(step_at(before, place), step_at(after, later)) {
+        return None;
+    }
+    Some(PlacePair {
+        before: place,
+        after: later,
+    })
+}
+
+// The same of the places that have this number in both runs.
+fn paired_number(
+    before: &[Step],
+    after: &[Step],
+    places: &[u32],
+    later: &[u32],
+    number: usize,
+) -> Option<PlacePair>
+    requires places { number < length places.now }
+    requires later { number < length later.now }
+    ensures { result
+        ≡ paired_at before.now after.now
+        (slice_index_or places.now number 0, slice_index_or later.now number 0) }
+{
+    paired_at(before, after, places[number], later[number])
+}
+
+fn paired_with(
+    alloc: Global,
+    before: &[Step],
+    after: &[Step],
+    places: &[u32],
+    later: &[u32],
+) -> Result<Vec<PlacePair>, AllocError>
+    ensures { IfOk result (λ events. events.items
+        ≡ filter_map (paired_at before.now after.now) (zip places.now later.now)) }
+{
+    let mut events = Vec::new(alloc);
+    for number in 0..places.len().min(later.len()) {
+        if let Some(event) = paired_number(before, after, places, later, number) {
+            events.push(event)?;
+        }
+    }
+    Ok(events)
+}
+
+/// The ticks and interrupts that come as the first in both runs, as the second in both, and so on.
+pub(crate) fn paired_events(
+    alloc: Global,
+    before: &[Step],
+    after: &[Step],
+) -> Result<Vec<PlacePair>, AllocError>
+    requires before { length before.now < 2 ^ 32 }
+    requires after { length after.now < 2 ^ 32 }
+    ensures { IfOk result (λ events. events.items ≡ paired_events before.now after.now) }
+{
+    let places = moments(alloc, before)?;
+    let later = moments(alloc, after)?;
+    paired_with(alloc, before, after, places.as_slice(), later.as_slice())
 }

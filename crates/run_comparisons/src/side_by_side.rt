@@ -1,15 +1,20 @@
-//! Two settled runs, step beside step.
-ghost use Rattle.std.specs.Prelude.{◌≡◌, ◌<◌, ◌≤◌, ◌∷◌, ◌++◌, [], All, IfOk, OnOk, List, length, take};
+//! Two runs that were made, step beside step.
+ghost use Rattle.std.specs.Prelude.{◌≡◌, ◌<◌, ◌≤◌, ◌∷◌, ◌++◌, [], All, IfOk, OnOk, List, length, take, true};
 ghost use Rattle.bench_types.specs.Limits.{max_steps};
 ghost use Rattle.run_comparisons.specs.declared.rows.Row.{Row};
-ghost use Rattle.run_comparisons.specs.RowLaws.{place_after, place_before};
-ghost use Rattle.run_comparisons.specs.SideBySide.{first_places, found_after, is_nearer, next_row, past, row_of, row_of_two, AreAligned, AreSideBySide, IsWithin};
+ghost use Rattle.bench_model.specs.Edits.{after_edits};
+ghost use Rattle.session_runs.specs.Run.{IsRunOf};
+ghost use Rattle.run_comparisons.specs.Rows.{place_after, place_before};
+ghost use Rattle.run_comparisons.specs.SideBySide.{first_places, found_after, is_nearer, next_row, past, row_of, row_of_two, AreAligned, AreSettledRows, AreSideBySide, AreSimulatedRows, IsWithin};
 
 use crate::Row;
 use crate::alike::are_alike;
 use crate::place_pair::PlacePair;
-use crate::shared::step_at;
+use crate::rows::edited_rows;
+use crate::shared::{paired_events, shared_among, step_at};
 use bench_types::Step;
+use session_edits::EditedSession;
+use session_runs::Run;
 use std::alloc::{AllocError, Global};
 
 // Within so many steps a step is looked for that is like another.
@@ -144,8 +149,8 @@ fn push_event(
     Ok(())
 }
 
-/// The rows of the two runs, with the events that they share.
-pub(crate) fn side_by_side(
+// The rows of the two runs, with the events that they share.
+fn side_by_side(
     alloc: Global,
     before: &[Step],
     after: &[Step],
@@ -168,4 +173,39 @@ pub(crate) fn side_by_side(
     }
     push_aligned(&mut rows, before, after, at)?;
     Ok(rows)
+}
+
+/// The rows of the settled run of a session and of that of the session after the edits. The rows of
+/// both sessions tell which events they share.
+pub(crate) fn settled_rows(
+    alloc: Global,
+    edited: &EditedSession,
+    before: &Run,
+    after: &Run,
+) -> Result<Vec<Row>, AllocError>
+    requires before { IsRunOf true edited.now.session before.now }
+    requires after { IsRunOf true (after_edits edited.now.session edited.now.edits) after.now }
+    ensures { IfOk result
+        (λ rows. AreSettledRows edited.now.session edited.now.edits before.now.session.steps
+        after.now.session.steps rows.items) }
+{
+    let rows = edited_rows(alloc, edited)?;
+    let (session, later_session) = (edited.session().steps(), edited.edited().steps());
+    let (run, later) = (before.session().steps(), after.session().steps());
+    let shared = shared_among(alloc, session, later_session, run, later, rows.as_slice())?;
+    side_by_side(alloc, run, later, shared.as_slice())
+}
+
+/// The rows of two simulated runs.
+pub(crate) fn simulated_rows(
+    alloc: Global,
+    before: &Run,
+    after: &Run,
+) -> Result<Vec<Row>, AllocError>
+    ensures { IfOk result
+        (λ rows. AreSimulatedRows before.now.session.steps after.now.session.steps rows.items) }
+{
+    let (run, later) = (before.session().steps(), after.session().steps());
+    let events = paired_events(alloc, run, later)?;
+    side_by_side(alloc, run, later, events.as_slice())
 }

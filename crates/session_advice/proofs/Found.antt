@@ -1,11 +1,11 @@
--- A figure of a run is one of a subject that the session has.
-use Rattle.std.proofs.Common.{◌≡◌, Bool, true, false, List, [], ◌∷◌, map, flat_map, Some, sym, subst}
+-- A figure of a run is one of a subject that its session has.
+use Rattle.std.proofs.Common.{◌≡◌, Bool, List, [], ◌∷◌, map, flat_map, Some}
 use Rattle.std.specs.Prelude.{find}
 use Rattle.std.specs.List.{AllByRecursion}
 use Rattle.std.proofs.lemmas.List.Elements.{recursion_from_All}
 use Rattle.bench_types.specs.declared.header.Header.{Header}
 use Rattle.bench_types.specs.declared.step.Step.{Step}
-use Rattle.bench_types.specs.Session.{Session}
+use Rattle.session_runs.specs.Run.{RunView}
 use Rattle.bench_types.specs.Step.{settings_of}
 use Rattle.list_orders.proofs.Filters.{All-append}
 use Rattle.settled_runs.specs.declared.waiting_call.WaitingCall.{WaitingCall}
@@ -18,7 +18,7 @@ use Rattle.report_figures.specs.declared.figures.Figure.{Figure}
 use Rattle.report_figures.specs.Figures.{figures_in}
 use Rattle.report_figures.specs.Subjects.{subjects_of}
 use Rattle.report_figures.proofs.Measurable.{subjects_fit}
-use Rattle.session_reports.specs.Figures.{run_figures, AreFigures}
+use Rattle.session_reports.specs.Figures.{run_figures}
 
 module _ (header : Header) (run : List Step) (left : List WaitingCall) where
   abbrev IsOf : Figure → Type 0
@@ -49,18 +49,11 @@ module _ (header : Header) (run : List Step) (left : List WaitingCall) where
       All-append IsOf (figures_in (measured header run left subject)) (flat_map figures_in (map (measured header run left) subjects))
       (figures_fit subject all.0) (each_fits subjects all.1)
 
-  run_fits : AllByRecursion IsOf (run_figures header run left)
+  run_fits : AllByRecursion IsOf (run_figures (record { session = record { header = header; steps = run }; left = left }))
   run_fits = each_fits (subjects_of header) (recursion_from_All (IsSubjectOf (settings_of header)) (subjects_of header) (subjects_fit header))
 
-all_fit : (settled : Bool) (session : Session) (figures : List Figure) → AreFigures settled session figures
-    → AllByRecursion (λ figure. IsSubjectOf (settings_of session.header) figure.subject) figures
-all_fit true session figures are =
-    subst (AllByRecursion (λ (figure : Figure). IsSubjectOf (settings_of session.header) figure.subject)) (sym are.are)
-    (run_fits session.header are.settled.run are.settled.left)
-all_fit false session figures are =
-    subst (AllByRecursion (λ (figure : Figure). IsSubjectOf (settings_of session.header) figure.subject)) (sym are) (run_fits session.header session.steps [])
-
-pub found_fits : (settled : Bool) (session : Session) (figures : List Figure) (test : Figure → Bool) (figure : Figure) → AreFigures settled session figures
-    → find test figures ≡ Some figure → IsSubjectOf (settings_of session.header) figure.subject
-found_fits settled session figures test figure are found =
-    find_among test (λ (figure : Figure). IsSubjectOf (settings_of session.header) figure.subject) figures figure (all_fit settled session figures are) found
+pub found_fits : (run : RunView) (test : Figure → Bool) (figure : Figure) → find test (run_figures run) ≡ Some figure
+    → IsSubjectOf (settings_of run.session.header) figure.subject
+found_fits run test figure found =
+    find_among test (λ (figure : Figure). IsSubjectOf (settings_of run.session.header) figure.subject) (run_figures run) figure
+    (run_fits run.session.header run.session.steps run.left) found

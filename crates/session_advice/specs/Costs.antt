@@ -15,7 +15,9 @@ use Rattle.report_figures.specs.declared.figures.Figure.{Figure}
 use Rattle.report_figures.specs.declared.figures.Part.{Part}
 use Rattle.report_figures.specs.declared.figures.Part.TheVariants.{Total, Longest}
 use Rattle.report_figures.specs.Table.{name_at, value_at}
-use Rattle.session_reports.specs.Figures.{AreFigures}
+use Rattle.session_reports.specs.Figures.{run_figures}
+use Rattle.session_runs.specs.Run.{RunView}
+use Rattle.run_sources.specs.Sources.{header_of, IsRunOfSource}
 use Rattle.session_advice.specs.Basis.{Basis}
 use Rattle.session_advice.specs.Words.{number_words}
 
@@ -70,7 +72,7 @@ unfoldable pub cost_line : Basis → List Figure → ℕ → List ℕ
 cost_line basis after index =
     if is_cost_at basis.judged basis.figures index
     && is_changed_at basis.figures after index
-    then codes "   " ++ name_at basis.session.header basis.figures index ++ codes " "
+    then codes "   " ++ name_at (header_of basis.source) basis.figures index ++ codes " "
     ++ number_words (value_at basis.figures index) (value_at after index) ++ codes "\n"
     else []
 
@@ -78,10 +80,10 @@ cost_line basis after index =
 abbrev pub cost_lines : Basis → List Figure → List ℕ
 cost_lines basis after = flat_map (cost_line basis after) (numbers (length basis.figures))
 
--- the lines tell the figures of the run of the session with the change made; of a run that is too
+-- the lines tell the figures of the run of the source with the change made; of a run that is too
 -- long there are none
 abbrev pub AreCosts : Basis → Change → Verdict → List ℕ → Type 0
 AreCosts basis made (Number number) lines =
-    (after : List Figure) × AreFigures basis.settled (changed basis.session made) after
-    × (lines ≡ cost_lines basis after)
+    (run : RunView) × IsRunOfSource (changed basis.source made) run
+    × (lines ≡ cost_lines basis (run_figures run))
 AreCosts basis made TooLong lines = lines ≡ []

@@ -1,7 +1,7 @@
 -- What is told on the way of how many changes were tried.
 use Rattle.std.specs.Prelude.{◌≡◌, ℕ}
-use Rattle.settling.specs.declared.run.SettleFault.{SettleFault}
-use Rattle.settling.specs.declared.run.SettleFault.TheVariants.{TooManySteps, NoMemory}
+use Rattle.run_sources.specs.declared.fault.RunFault.{RunFault}
+use Rattle.run_sources.specs.declared.fault.RunFault.TheVariants.{SettledTooLong, SimulatedTooLong, NoMemory}
 use Rattle.ranked_changes.specs.Tellings.{TellsSome, TellsUpTo}
 use Rattle.session_advice.specs.declared.question.AdviceStatus.{AdviceStatus}
 use Rattle.session_advice.specs.declared.question.AdviceStatus.TheVariants.{Given, Unknown}
@@ -12,8 +12,9 @@ abbrev pub TellsByStatus : {P : Type 0} → (P → ℕ → ℕ → P → Type 0)
 TellsByStatus tells Given all old new = TellsUpTo tells all all old new
 TellsByStatus tells Unknown all old new = new ≡ old
 
--- up to some of all where memory was refused; nothing of a session that is too long
-abbrev pub TellsByFault : {P : Type 0} → (P → ℕ → ℕ → P → Type 0) → SettleFault → ℕ → P → P
+-- up to some of all where memory was refused; nothing of a source that is too long
+abbrev pub TellsByFault : {P : Type 0} → (P → ℕ → ℕ → P → Type 0) → RunFault → ℕ → P → P
     → Type 0
 TellsByFault tells NoMemory all old new = TellsSome tells all old new
-TellsByFault tells TooManySteps all old new = new ≡ old
+TellsByFault tells SettledTooLong all old new = new ≡ old
+TellsByFault tells (SimulatedTooLong caller) all old new = new ≡ old

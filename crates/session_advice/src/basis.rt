@@ -1,16 +1,15 @@
-//! What a session with a change made is compared with.
+//! What a source with a change made is compared with.
 ghost use Rattle.std.specs.Prelude.{◌≡◌};
 ghost use Rattle.session_advice.specs.Basis.{basis_of, judge_of, measure_of};
 
-use bench_types::CheckedSession;
 use ranked_changes::{Judge, Measure};
 use report_figures::{Figure, Part};
+use run_sources::Source;
 
-// The session as it is, the figures of its run, and the one that is to be lower.
+// The source as it is, the figures of its run, and the one that is to be lower.
 #[derive(Clone, Copy)]
 pub(crate) struct Base<'a> {
-    pub(crate) session: &'a CheckedSession,
-    pub(crate) settled: bool,
+    pub(crate) source: &'a Source,
     pub(crate) figures: &'a [Figure],
     pub(crate) judged: Figure,
 }
@@ -29,7 +28,6 @@ pub(crate) fn judge_of(base: &Base<'_>) -> Judge
     ensures { result ≡ judge_of (basis_of base.now) }
 {
     Judge {
-        settled: base.settled,
         subject: base.judged.subject,
         measure: measure_of(base.judged.part),
     }

@@ -2,20 +2,19 @@
 ghost use Rattle.std.specs.Prelude.{◌≡◌, ◌++◌, IfOk, OnOk, string_bytes};
 ghost use Rattle.ranked_changes.specs.Changed.{changed, IsChangeOf};
 ghost use Rattle.ranked_changes.specs.Verdicts.{IsVerdict};
-ghost use Rattle.session_reports.specs.Figures.{AreFigures};
-ghost use Rattle.settled_runs.specs.Runs.{IsTooLong};
+ghost use Rattle.run_sources.specs.Sources.{IsRunOfSource, IsSourceTooLong};
 ghost use Rattle.session_advice.specs.Advice.{AddsCosts};
 ghost use Rattle.session_advice.specs.Basis.{basis_of, judge_of, IsBasis};
 ghost use Rattle.session_advice.specs.Costs.{are_same, bearer, cost_line, cost_lines, is_changed_at, is_cost, is_cost_at, is_judged, is_total};
 
 use crate::basis::Base;
 use crate::words::push_number;
-use bench_types::CheckedSession;
-use ranked_changes::{Change, Verdict, changed_session};
+use ranked_changes::{Change, Verdict, changed_source};
 use report_figures::{Figure, Part, push_name_at, value_at};
 use run_numbers::{Cause, Condition, Event, Subject};
-use session_reports::figures_of_session;
-use settling::SettleFault;
+use run_sources::{RunFault, Source, make_run};
+use session_reports::figures_of_run;
+use session_runs::Run;
 use smp_kernel::Meter;
 use std::alloc::{AllocError, Global};
 
@@ -133,7 +132,7 @@ fn push_cost_line(
         return Ok(());
     }
     text.push_str("   ")?;
-    push_name_at(text, base.session.header(), before, index)?;
+    push_name_at(text, base.source.header(), before, index)?;
     text.push_str(" ")?;
     push_number(alloc, text, value_at(before, index), value_at(after, index))?;
     text.push_str("\n")
@@ -155,20 +154,15 @@ fn push_cost_lines(
     Ok(())
 }
 
-// The figures of a run that is known not to be too long.
-fn figures_after(
-    alloc: Global,
-    meter: &mut Meter,
-    session: &CheckedSession,
-    settled: bool,
-) -> Result<Vec<Figure>, AllocError>
-    requires { ¬ (IsTooLong settled session.now) }
-    ensures { IfOk result (λ figures. AreFigures settled session.now figures.items) }
+// The run of a source that is known not to be too long.
+fn short_run(alloc: Global, meter: &mut Meter, source: &Source) -> Result<Run, AllocError>
+    requires { ¬ (IsSourceTooLong source.now) }
+    ensures { IfOk result (IsRunOfSource source.now) }
 {
-    match figures_of_session(alloc, meter, session, settled) {
-        Ok(figures) => Ok(figures),
-        Err(SettleFault::NoMemory) => Err(AllocError),
-        Err(SettleFault::TooManySteps) => unreachable!(),
+    match make_run(alloc, source, meter) {
+        Ok(run) => Ok(run),
+        Err(RunFault::NoMemory) => Err(AllocError),
+        Err(_) => unreachable!(),
     }
 }
 
@@ -182,17 +176,18 @@ pub(crate) fn push_costs(
     verdict: Verdict,
 ) -> Result<(), AllocError>
     requires basis { IsBasis (basis_of base.now) }
-    requires allowed { IsChangeOf (basis_of base.now).session change }
+    requires allowed { IsChangeOf (basis_of base.now).source change }
     requires said { IsVerdict (judge_of (basis_of base.now))
-        (changed (basis_of base.now).session change) verdict }
+        (changed (basis_of base.now).source change) verdict }
     ensures { OnOk result
         (AddsCosts (basis_of base.now) change verdict (string_bytes text.old)
         (string_bytes text.new)) }
 {
     match verdict {
         Verdict::Number(_) => {
-            let made = changed_session(alloc, base.session, change)?;
-            let after = figures_after(alloc, meter, &made, base.settled)?;
+            let made = changed_source(alloc, base.source, change)?;
+            let run = short_run(alloc, meter, &made)?;
+            let after = figures_of_run(alloc, meter, &run)?;
             push_cost_lines(alloc, text, base, after.as_slice())?;
             Ok(())
         }

@@ -1,6 +1,7 @@
 //! The lines of the best changes.
 ghost use Rattle.std.specs.Prelude.{◌≡◌, ◌<◌, ◌++◌, All, OnOk, Some, length, slice_get, string_bytes};
 ghost use Rattle.ranked_changes.specs.Changed.{IsChangeOf, IsHeaderChange};
+ghost use Rattle.run_sources.specs.Sources.{header_of};
 ghost use Rattle.session_advice.specs.Advice.{entry_line, head_line, AddsEntries, AddsEntry, IsJudged};
 ghost use Rattle.session_advice.specs.Basis.{basis_of, IsBasis};
 
@@ -17,7 +18,7 @@ pub(crate) fn push_head(text: &mut String, base: &Base<'_>, count: usize) -> Res
     ensures { OnOk result
         (string_bytes text.new ≡ string_bytes text.old ++ head_line (basis_of base.now) count) }
 {
-    push_value(text, base.session.header(), base.judged)?;
+    push_value(text, base.source.header(), base.judged)?;
     write!(text, "; {count} changes tried\n")
 }
 
@@ -30,13 +31,13 @@ fn push_entry_line(
     change: Change,
     verdict: Verdict,
 ) -> Result<(), AllocError>
-    requires { IsHeaderChange base.now.session.now.header change }
+    requires { IsHeaderChange (header_of base.now.source.now) change }
     ensures { OnOk result
         (string_bytes text.new
         ≡ string_bytes text.old ++ entry_line (basis_of base.now) rank change verdict) }
 {
     write!(text, "{rank}. ")?;
-    push_change(text, base.session.header(), change)?;
+    push_change(text, base.source.header(), change)?;
     text.push_str(": ")?;
     push_verdict(alloc, text, base.judged.value, verdict)?;
     text.push_str("\n")
@@ -60,7 +61,7 @@ fn push_entry(
     entry: Ranked,
 ) -> Result<(), AllocError>
     requires basis { IsBasis (basis_of base.now) }
-    requires allowed { All (IsChangeOf (basis_of base.now).session) changes.now }
+    requires allowed { All (IsChangeOf (basis_of base.now).source) changes.now }
     requires judged { IsJudged (basis_of base.now) changes.now entry }
     ensures { OnOk result
         (AddsEntry (basis_of base.now) changes.now rank entry (string_bytes text.old)
@@ -82,7 +83,7 @@ pub(crate) fn push_entries(
     best: &[Ranked],
 ) -> Result<(), AllocError>
     requires basis { IsBasis (basis_of base.now) }
-    requires allowed { All (IsChangeOf (basis_of base.now).session) changes.now }
+    requires allowed { All (IsChangeOf (basis_of base.now).source) changes.now }
     requires judged { All (IsJudged (basis_of base.now) changes.now) best.now }
     ensures { OnOk result
         (AddsEntries (basis_of base.now) changes.now best.now (string_bytes text.old)

@@ -1,4 +1,4 @@
-//! Advice of sessions: which changes help a number of the run most, and what they cost others.
+//! Advice: which changes of a source help a number of its run most, and what they cost others.
 #![tactic(auto)]
 
 mod advice;
@@ -9,6 +9,6 @@ mod laws;
 mod question;
 mod words;
 
-pub use advice::advise_session;
+pub use advice::advise;
 pub use laws::law_of_advice;
 pub use question::{AdviceStatus, Advised, Question};

@@ -7,8 +7,6 @@ use std::marker::Model;
 pub struct Question {
     /// The name of the number that is to be lower.
     pub name: String,
-    /// Whether runs are settled first, or steps are run as they stand.
-    pub settled: bool,
     /// The changes that are tried.
     pub family: Family,
     /// How many of the best are told.
@@ -23,7 +21,6 @@ impl Model for Question {
 
     ghost view = { λ it. record {
       name = string_bytes it.name;
-      settled = it.settled;
       family = it.family;
       best = it.best;
     } };

@@ -6,7 +6,7 @@ use Rattle.std.proofs.lemmas.Bool.Decides.{nat_tests}
 use Rattle.std.proofs.lemmas.List.{length-append}
 use Rattle.std.proofs.lemmas.List.Elements.{All-cons, All-head, All-nil, All-tail}
 use Rattle.bench_types.specs.declared.header.Header.{Header}
-use Rattle.bench_types.specs.Session.{Session}
+use Rattle.session_runs.specs.Run.{RunView}
 use Rattle.report_figures.specs.declared.figures.Figure.{Figure}
 use Rattle.report_figures.specs.declared.limits.Bound.{Bound}
 use Rattle.report_figures.specs.declared.limits.Bound.TheVariants.{AtMost, AtLeast}
@@ -14,8 +14,8 @@ use Rattle.report_figures.specs.declared.limits.Limit.{Limit}
 use Rattle.report_figures.specs.Limits.{bound_text, from_text, is_kept, limit_line, unkept_line, value_text, Keeps}
 use Rattle.session_reports.specs.declared.limits.CheckStatus.TheVariants.{Kept, Unknown}
 use Rattle.session_reports.specs.Asked.{Asked, Printed}
-use Rattle.session_reports.specs.Checks.{checked, figure_for, is_unknown, kept_or, limit_for, limits_in, printed_of, unkept_lines, IsCheck, KeepsAll, KeepsLimit, NamesUnknown}
-use Rattle.session_reports.proofs.OneList.{figures_are_one}
+use Rattle.session_reports.specs.Checks.{check_of, checked, figure_for, is_unknown, kept_or, limit_for, limits_in, printed_of, unkept_lines, KeepsAll, KeepsLimit, NamesUnknown}
+use Rattle.session_reports.specs.Figures.{run_figures}
 
 keeps : (bound : Bound) (value : ℕ) → is_kept bound value ≡ true → Keeps bound value
 keeps (AtMost most) value is = grind (arith, nat_tests, is)
@@ -154,34 +154,15 @@ module _ (header : Header) (figures : List Figure) where
       back None is some = absurd (none_unknown wanted some.0 some.1 is some.2 some.3 some.4)
       back (Some asked) is some = refl
 
--- ---- of the session's run
+-- ---- of a run
 
-pub kept_check : (settled : Bool) (session : Session) (wanted : List Asked) (printed : Printed) → IsCheck settled session wanted printed →
-    (printed.status ≡ Kept) ↔ KeepsAll settled session wanted
-kept_check settled session wanted printed check =
-    let one = kept_one session.header check.figures wanted in (
-      λ kept. record {
-        figures = check.figures;
-        are = check.are;
-        each = one.0 (ap (λ (p : Printed). p.status) (sym check.is) ∙ kept);
-      },
-      λ keeps.
-          let same = figures_are_one settled session keeps.figures check.figures keeps.are check.are in
-          ap (λ (p : Printed). p.status) check.is
-          ∙ one.1 (subst (λ (figures : List Figure). All (KeepsLimit session.header figures) wanted) same keeps.each),
-    )
+pub kept_check : (run : RunView) (wanted : List Asked) (printed : Printed) → printed ≡ check_of run wanted → (printed.status ≡ Kept) ↔ KeepsAll run wanted
+kept_check run wanted printed is =
+    let one = kept_one run.session.header (run_figures run) wanted in
+    (λ kept. one.0 (ap (λ (p : Printed). p.status) (sym is) ∙ kept), λ keeps. ap (λ (p : Printed). p.status) is ∙ one.1 keeps)
 
-pub unknown_check : (settled : Bool) (session : Session) (wanted : List Asked) (printed : Printed) → IsCheck settled session wanted printed →
-    (printed.status ≡ Unknown) ↔ NamesUnknown settled session wanted
-unknown_check settled session wanted printed check =
-    let one = unknown_one session.header check.figures wanted in (
-      λ unknown. record {
-        figures = check.figures;
-        are = check.are;
-        some = one.0 (ap (λ (p : Printed). p.status) (sym check.is) ∙ unknown);
-      },
-      λ names.
-          let same = figures_are_one settled session names.figures check.figures names.are check.are in
-          ap (λ (p : Printed). p.status) check.is
-          ∙ one.1 (subst (λ (figures : List Figure). Any (λ asked. figure_for session.header figures asked ≡ None) wanted) same names.some),
-    )
+pub unknown_check : (run : RunView) (wanted : List Asked) (printed : Printed) → printed ≡ check_of run wanted →
+    (printed.status ≡ Unknown) ↔ NamesUnknown run wanted
+unknown_check run wanted printed is =
+    let one = unknown_one run.session.header (run_figures run) wanted in
+    (λ unknown. one.0 (ap (λ (p : Printed). p.status) (sym is) ∙ unknown), λ names. ap (λ (p : Printed). p.status) is ∙ one.1 names)

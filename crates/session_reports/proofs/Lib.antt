@@ -1,2 +1,1 @@
-pub mod OneList
 pub mod KeptLimits

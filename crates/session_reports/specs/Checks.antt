@@ -1,13 +1,13 @@
 -- Whether a run keeps limits.
 use Rattle.std.specs.Prelude.{◌≡◌, ℕ, List, [], ◌∷◌, ◌++◌, find, flat_map, All, Any, Bool, codes, Option, Some, None, is_none}
 use Rattle.bench_types.specs.declared.header.Header.{Header}
-use Rattle.bench_types.specs.Session.{Session}
+use Rattle.session_runs.specs.Run.{RunView}
 use Rattle.report_figures.specs.declared.figures.Figure.{Figure}
 use Rattle.report_figures.specs.declared.limits.Limit.{Limit}
 use Rattle.report_figures.specs.Limits.{has_name, limit_line, name_line, Keeps}
 use Rattle.session_reports.specs.declared.limits.CheckStatus.TheVariants.{Kept, NotKept, Unknown}
 use Rattle.session_reports.specs.Asked.{Asked, Printed}
-use Rattle.session_reports.specs.Figures.{AreFigures}
+use Rattle.session_reports.specs.Figures.{run_figures}
 
 -- the figure that is asked for
 abbrev pub figure_for : Header → List Figure → Asked → Option Figure
@@ -52,12 +52,9 @@ abbrev pub checked : Header → List Figure → List Asked → Printed
 checked header figures wanted =
     printed_of header figures wanted (find (is_unknown header figures) wanted)
 
--- what is told of the session's run, settled or as its steps stand
-pub record IsCheck (settled : Bool) (session : Session) (wanted : List Asked) (printed : Printed) :
-    Type 0 where
-  pub figures : List Figure
-  pub are : AreFigures settled session figures
-  pub is : printed ≡ checked session.header figures wanted
+-- what is told of a run
+abbrev pub check_of : RunView → List Asked → Printed
+check_of run wanted = checked run.session.header (run_figures run) wanted
 
 -- the figure of the name is there, and its value keeps the bound
 pub record KeepsLimit (header : Header) (figures : List Figure) (asked : Asked) : Type 0 where
@@ -65,14 +62,11 @@ pub record KeepsLimit (header : Header) (figures : List Figure) (asked : Asked) 
   pub named : figure_for header figures asked ≡ Some figure
   pub kept : Keeps asked.bound figure.value
 
--- each limit is kept in the session's run, settled or as its steps stand
-pub record KeepsAll (settled : Bool) (session : Session) (wanted : List Asked) : Type 0 where
-  pub figures : List Figure
-  pub are : AreFigures settled session figures
-  pub each : All (KeepsLimit session.header figures) wanted
+-- each limit is kept in the run
+abbrev pub KeepsAll : RunView → List Asked → Type 0
+KeepsAll run wanted = All (KeepsLimit run.session.header (run_figures run)) wanted
 
 -- some limit has a name that no figure of the run has
-pub record NamesUnknown (settled : Bool) (session : Session) (wanted : List Asked) : Type 0 where
-  pub figures : List Figure
-  pub are : AreFigures settled session figures
-  pub some : Any (λ asked. figure_for session.header figures asked ≡ None) wanted
+abbrev pub NamesUnknown : RunView → List Asked → Type 0
+NamesUnknown run wanted =
+    Any (λ asked. figure_for run.session.header (run_figures run) asked ≡ None) wanted

@@ -1,7 +1,7 @@
 -- Reports of the runs of sessions.
-use Rattle.std.specs.Prelude.{◌≡◌, ℕ, List, ◌++◌, Bool, codes}
+use Rattle.std.specs.Prelude.{ℕ, List, ◌++◌, Bool, codes}
 use Rattle.bench_types.specs.declared.header.Header.{Header}
-use Rattle.bench_types.specs.Session.{Session}
+use Rattle.session_runs.specs.Run.{RunView}
 use Rattle.report_figures.specs.declared.figures.Figure.{Figure}
 use Rattle.core_loads.specs.Loads.{load_table}
 use Rattle.report_figures.specs.Objects.{run_json, runs_json}
@@ -11,7 +11,7 @@ use Rattle.session_reports.specs.declared.report.Form.TheVariants.{Table, Json, 
 use Rattle.run_pages.specs.Page.{pieces_text}
 use Rattle.report_pages.specs.Report.{run_pieces, runs_pieces}
 use Rattle.report_pages.specs.Told.{Told}
-use Rattle.session_reports.specs.Figures.{IsTold}
+use Rattle.session_reports.specs.Figures.{run_told}
 
 -- a table of the figures, and one of loads
 unfoldable pub run_tables : Header → List Figure → List ℕ
@@ -35,18 +35,11 @@ runs_text Json settled header before after =
     runs_json header before.figures after.figures settled
 runs_text Html settled header before after = pieces_text (runs_pieces header before after)
 
--- the text tells the figures of the session's run
-pub record IsReportOfRun (form : Form) (settled : Bool) (session : Session) (text : List ℕ) :
-    Type 0 where
-  pub run : Told
-  pub is_told : IsTold settled session run
-  pub is : text ≡ run_text form settled session.header run
+-- the report of a run
+abbrev pub run_report : Form → Bool → RunView → List ℕ
+run_report form settled run = run_text form settled run.session.header (run_told run)
 
--- the text tells the figures of both sessions' runs, by the names of the first
-pub record IsReportOfRuns (form : Form) (settled : Bool) (session edited : Session)
-    (text : List ℕ) : Type 0 where
-  pub before : Told
-  pub after : Told
-  pub is_before : IsTold settled session before
-  pub is_after : IsTold settled edited after
-  pub is : text ≡ runs_text form settled session.header before after
+-- the report of two runs, by the names of the first
+abbrev pub runs_report : Form → Bool → RunView → RunView → List ℕ
+runs_report form settled before after =
+    runs_text form settled before.session.header (run_told before) (run_told after)

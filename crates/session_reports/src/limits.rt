@@ -1,14 +1,12 @@
 //! Whether a run keeps limits.
-ghost use Rattle.std.specs.Prelude.{◌≡◌, ◌++◌, ◌↔◌, IfOk, OnOk, Err, find, flat_map, option_map, string_bytes};
-ghost use Rattle.settling.specs.declared.run.SettleFault.TheVariants.{TooManySteps};
-ghost use Rattle.session_reports.specs.Checks.{checked, is_unknown, kept_or, limits_in, unknown_text, IsCheck, KeepsAll, NamesUnknown};
+ghost use Rattle.std.specs.Prelude.{◌≡◌, ◌++◌, ◌↔◌, IfOk, OnOk, find, flat_map, option_map, string_bytes};
+ghost use Rattle.session_reports.specs.Checks.{check_of, checked, is_unknown, kept_or, limits_in, unknown_text, KeepsAll, NamesUnknown};
 ghost use Rattle.session_reports.specs.declared.limits.CheckStatus.TheVariants.{Kept, Unknown};
-ghost use Rattle.settled_runs.specs.Runs.{IsTooLong};
 
-use crate::figures::figures_of_session;
-use bench_types::{CheckedSession, Header};
+use crate::figures::figures_of_run;
+use bench_types::Header;
 use report_figures::{Bound, Figure, Limit, figure_called, limits_text, push_names};
-use settling::SettleFault;
+use session_runs::Run;
 use smp_kernel::Meter;
 use std::alloc::{AllocError, Global};
 use std::marker::Model;
@@ -180,26 +178,21 @@ fn printed_of(
     Ok(kept_or(limits_text(alloc, header, limits.as_slice())?))
 }
 
-/// Whether the figures of the session's run, as its steps stand or settled, keep the limits.
-///
-/// It is not known where the settled run has more steps than a session may have.
+/// Whether the figures of the run keep the limits.
 pub fn check(
     alloc: Global,
     meter: &mut Meter,
-    session: &CheckedSession,
-    settled: bool,
+    run: &Run,
     wanted: &[Wanted],
-) -> Result<Checked, SettleFault>
-    ensures check { IfOk result
-        (λ printed. IsCheck settled session.now wanted.now printed) }
+) -> Result<Checked, AllocError>
+    ensures check { IfOk result (λ printed. printed ≡ check_of run.now wanted.now) }
     // All limits are kept, each by the figure of its name, or some name is unknown.
     ensures kept { IfOk result
-        (λ printed. (printed.status ≡ Kept) ↔ KeepsAll settled session.now wanted.now) }
+        (λ printed. (printed.status ≡ Kept) ↔ KeepsAll run.now wanted.now) }
     ensures unknown { IfOk result
-        (λ printed. (printed.status ≡ Unknown) ↔ NamesUnknown settled session.now wanted.now) }
-    ensures long { result ≡ Err TooManySteps → IsTooLong settled session.now }
+        (λ printed. (printed.status ≡ Unknown) ↔ NamesUnknown run.now wanted.now) }
 {
-    let figures = figures_of_session(alloc, meter, session, settled)?;
-    let printed = printed_of(alloc, session.header(), figures.as_slice(), wanted)?;
+    let figures = figures_of_run(alloc, meter, run)?;
+    let printed = printed_of(alloc, run.session().header(), figures.as_slice(), wanted)?;
     Ok(printed)
 }

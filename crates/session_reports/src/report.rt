@@ -1,17 +1,16 @@
 //! Reports as texts.
-ghost use Rattle.std.specs.Prelude.{◌≡◌, ◌<◌, ◌^◌, IfOk, Ok, length, string_bytes};
+ghost use Rattle.std.specs.Prelude.{◌≡◌, IfOk, Ok, string_bytes};
 ghost use Rattle.run_pages.specs.Page.{pieces_text};
 ghost use Rattle.report_pages.specs.Report.{run_pieces, runs_pieces};
-ghost use Rattle.session_reports.specs.Figures.{run_told};
 ghost use Rattle.bench_types.specs.Header.{header_check};
-ghost use Rattle.session_reports.specs.Reports.{run_tables, run_text, runs_tables, runs_text};
+ghost use Rattle.session_reports.specs.Reports.{run_report, run_tables, run_text, runs_report, runs_tables, runs_text};
 
 use crate::figures::told_of_run;
-use bench_types::{CheckedSession, Header};
+use bench_types::Header;
 use core_loads::push_load_table;
 use report_figures::{Figure, run_json, run_table, runs_json, runs_table};
 use report_pages::{RunFigures, push_run_report, push_runs_report};
-use settled_runs::WaitingCall;
+use session_runs::Run;
 use smp_kernel::Meter;
 use std::alloc::{AllocError, Global};
 
@@ -119,48 +118,35 @@ fn runs_text(
     }
 }
 
-/// The figures of the run of the session's steps, of which these calls were not made, as a text.
-/// It tells whether the run is a settled one.
+/// The figures of the run as a text. It tells whether the run is a settled one.
 pub fn report_of_run(
     alloc: Global,
     meter: &mut Meter,
-    session: &CheckedSession,
-    left: &[WaitingCall],
+    run: &Run,
     settled: bool,
     form: Form,
 ) -> Result<String, AllocError>
-    requires { length left.now < 2 ^ 32 }
-    ensures { IfOk result
-        (λ text. string_bytes text
-        ≡ run_text form settled session.now.header
-        (run_told session.now.header session.now.steps left.now)) }
+    ensures { IfOk result (λ text. string_bytes text ≡ run_report form settled run.now) }
 {
-    let run = told_of_run(alloc, meter, session, left)?;
-    run_text(alloc, session.header(), &run, settled, form)
+    let told = told_of_run(alloc, meter, run)?;
+    run_text(alloc, run.session().header(), &told, settled, form)
 }
 
-/// The figures of two runs beside each other, as a text: that of a session, of which the calls
-/// `left` were not made, and that of the session after some edits, of which the calls `rest` were
-/// not made. It tells whether the runs are settled ones.
+/// The figures of two runs beside each other, as a text, by the names of the first. It tells
+/// whether the runs are settled ones.
 pub fn report_of_runs(
     alloc: Global,
     meter: &mut Meter,
-    before: &CheckedSession,
-    left: &[WaitingCall],
-    after: &CheckedSession,
-    rest: &[WaitingCall],
+    before: &Run,
+    after: &Run,
     settled: bool,
     form: Form,
 ) -> Result<String, AllocError>
-    requires left { length left.now < 2 ^ 32 }
-    requires rest { length rest.now < 2 ^ 32 }
     ensures { IfOk result
-        (λ text. string_bytes text
-        ≡ runs_text form settled before.now.header
-        (run_told before.now.header before.now.steps left.now)
-        (run_told after.now.header after.now.steps rest.now)) }
+        (λ text. string_bytes text ≡ runs_report form settled before.now after.now) }
 {
-    let own = told_of_run(alloc, meter, before, left)?;
-    let edited = told_of_run(alloc, meter, after, rest)?;
-    runs_text(alloc, before.header(), &own, &edited, settled, form)
+    let own = told_of_run(alloc, meter, before)?;
+    let edited = told_of_run(alloc, meter, after)?;
+    let header = before.session().header();
+    runs_text(alloc, header, &own, &edited, settled, form)
 }

@@ -94,6 +94,37 @@ pub enum Found {
     Object,
 }
 
+/// A rule of workloads and of their edits that is broken.
+#[derive(Clone, Copy, Debug, PartialEq, Eq)]
+pub enum BrokenRule {
+    /// No run comes to the item.
+    Unreached,
+    /// A work has 0 units.
+    NoWork,
+    /// A list of works is empty.
+    NoWorks,
+    /// A program finishes a call.
+    Finish,
+    /// A loop has 0 rounds.
+    NoRounds,
+    /// A loop has no items, or begins with `break`.
+    NoBody,
+    /// A `break` stands in no loop.
+    NoLoop,
+    /// More than so many loops and calls with branches stand around an item.
+    Nesting(usize),
+    /// An interrupt comes again after 0 units.
+    NoPeriod,
+    /// All programs together have more than so many items.
+    Items(usize),
+    /// A workload goes on for more than so many ticks.
+    Ticks(u32),
+    /// There are more than so many edits.
+    Edits(usize),
+    /// No item stands at the path of an edit.
+    NoItem,
+}
+
 /// What is known of a fault beside its code and its place.
 #[derive(Debug, Drop)]
 pub enum Detail {
@@ -122,6 +153,8 @@ pub enum Detail {
     NoTask { name: Shown, nearest: Option<Words> },
     /// A recording may not have so many entries.
     Limit(u32),
+    /// The workload, or an edit of it, breaks this rule.
+    Rule(BrokenRule),
 }
 
 /// What the value is.

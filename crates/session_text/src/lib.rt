@@ -28,7 +28,7 @@ pub use accepted::item_fault;
 pub use array::{ReadItem, each, list_at};
 pub use bench::{Bench, read_bench, read_bench_noted};
 pub use call::{CallKind, call_at};
-pub use detail::{Detail, Expected, Found, Words};
+pub use detail::{BrokenRule, Detail, Expected, Found, Words};
 pub use edit::read_edit;
 pub use fault::{ReadFault, TextFault, Why};
 pub use format::Format;

@@ -4,8 +4,9 @@ ghost use Rattle.std.specs.Prelude.{◌<◌, ⊤};
 use crate::settled::{TICK, call, session_of, switch};
 use bench_samples::{PLAIN, crowd, three_tasks};
 use bench_types::{Call, Header};
-use ranked_changes::{Advice, Change, Family, Judge, Measure, Progress, Verdict, advise};
+use ranked_changes::{Advice, Change, Family, Judge, Measure, Progress, Verdict, rank_changes};
 use run_numbers::{Condition, Subject};
+use run_sources::Source;
 use std::process::Abort;
 use std::test::Fail;
 use std::thread::Threads;
@@ -45,17 +46,18 @@ fn advice<R: Threads + Abort + Sync>(
 {
     let steps = [call(0, 2, Call::Delay(2)), switch(0), TICK, TICK, TICK];
     let session = session_of(rt, header, Vec::from_slice(host.alloc(), &steps)?)?;
+    let source = Source::Session(session);
     let judge = Judge {
-        settled: false,
         subject: Subject::Time(Condition::Busy { core: 1 }),
         measure: Measure::Total,
     };
     let family = Family {
         priority: true,
         mask: false,
+        pin: false,
         order: false,
     };
-    Ok(advise(rt, host, host.alloc(), last, &session, judge, family)?)
+    Ok(rank_changes(rt, host, host.alloc(), last, &source, judge, family)?)
 }
 
 /// Core 1 is busy at each tick whatever the priorities, so the smaller change is the better one,

@@ -3,7 +3,8 @@ use crate::settled::{TICK, call, session_of};
 use bench_samples::three_tasks;
 use bench_types::Call;
 use ranked_changes::{Family, Silent};
-use session_advice::{AdviceStatus, Advised, Question, advise_session};
+use run_sources::Source;
+use session_advice::{AdviceStatus, Advised, Question, advise};
 use smp_kernel::Meter;
 use std::process::Abort;
 use std::test::Fail;
@@ -19,24 +20,24 @@ fn advised<R: Threads + Abort + Sync>(
     let alloc = host.alloc();
     let steps = [call(0, 2, Call::Delay(2)), TICK, TICK, TICK, TICK];
     let header = three_tasks(alloc, false)?;
-    let session = session_of(rt, header, Vec::from_slice(alloc, &steps)?)?;
+    let source = Source::Settled(session_of(rt, header, Vec::from_slice(alloc, &steps)?)?);
     let question = Question {
         name: String::from_str(alloc, name)?,
-        settled: true,
         family: Family {
             priority: true,
             mask: false,
+            pin: false,
             order: false,
         },
         best,
     };
-    Ok(advise_session(
+    Ok(advise(
         rt,
         host,
         alloc,
         &mut Meter::new(host),
         &mut Silent,
-        &session,
+        &source,
         &question,
     )?)
 }

@@ -8,7 +8,8 @@ use core_loads::{push_load_table, share, times_of_idle, times_of_task, total};
 use report_figures::Figure;
 use report_pages::{push_load_bars, push_response_bars};
 use run_numbers::measure_all;
-use session_reports::figures_of_session;
+use session_reports::figures_of_run;
+use session_runs::Run;
 use smp_kernel::Meter;
 use std::process::Abort;
 use std::test::Fail;
@@ -47,7 +48,8 @@ const RESPONSES: &str = "<table class='bars'>
 fn figures(rt: &impl Abort, host: &HostRuntime) -> Result<Vec<Figure>, Fail> {
     let session = session_of_jobs(rt, host)?;
     let mut meter = Meter::new(host);
-    Ok(figures_of_session(host.alloc(), &mut meter, &session, false)?)
+    let run = Run::of_session(host.alloc(), session, &mut meter)?;
+    Ok(figures_of_run(host.alloc(), &mut meter, &run)?)
 }
 
 #[test]

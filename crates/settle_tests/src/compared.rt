@@ -5,12 +5,12 @@ ghost use Rattle.bench_types.specs.Edit.{IsCheckedEdit};
 
 use crate::settled::{TICK, call, session_of};
 use bench_samples::three_tasks;
-use bench_types::{Call, Edit, Header, Step};
-use run_comparisons::{
-    Side, columns_of, compare, compare_at, compare_settled, compare_settled_at, settle_both,
-};
+use bench_types::{Call, Edit, Header, Items, Step};
+use run_comparisons::{Row, RunPair, Side, columns_of, compare, compare_with_itself, has_refusal};
 use run_views::Places;
 use session_edits::EditedSession;
+use session_runs::Run;
+use settling::settle;
 use smp_kernel::Meter;
 use std::alloc::Global;
 use std::process::Abort;
@@ -149,16 +149,37 @@ fn edited_of(
     Ok(EditedSession::make(alloc, session, Vec::from_slice(alloc, edits)?)?)
 }
 
+// Both settled runs.
+fn settled_pair(
+    alloc: Global,
+    host: &HostRuntime,
+    edited: &EditedSession,
+) -> Result<RunPair, Fail> {
+    let mut meter = Meter::new(host);
+    let before = settle(alloc, edited.session(), &mut meter)?;
+    let after = settle(alloc, edited.edited(), &mut meter)?;
+    Ok(RunPair::of_settled(alloc, edited, before, after)?)
+}
+
+// Both runs as their steps stand.
+fn plain_pair(alloc: Global, host: &HostRuntime, edited: &EditedSession) -> Result<RunPair, Fail> {
+    let mut meter = Meter::new(host);
+    let before = Run::of_session(alloc, edited.session().copy(alloc)?, &mut meter)?;
+    let after = Run::of_session(alloc, edited.edited().copy(alloc)?, &mut meter)?;
+    Ok(RunPair::of_edited(alloc, edited, before, after)?)
+}
+
 fn compared(
     rt: &impl Abort,
     host: &HostRuntime,
     steps: &[Step],
     edits: &[Edit],
+    shown: Option<Places>,
 ) -> Result<String, Fail> {
     let alloc = host.alloc();
     let edited = edited_of(rt, alloc, steps, edits)?;
-    let pair = settle_both(alloc, &mut Meter::new(host), &edited)?;
-    Ok(compare_settled(alloc, &edited, &pair)?)
+    let pair = settled_pair(alloc, host, &edited)?;
+    Ok(compare(alloc, &pair, shown)?)
 }
 
 fn compared_plainly(
@@ -166,33 +187,12 @@ fn compared_plainly(
     host: &HostRuntime,
     steps: &[Step],
     edits: &[Edit],
-) -> Result<String, Fail> {
-    let edited = edited_of(rt, host.alloc(), steps, edits)?;
-    Ok(compare(host.alloc(), &mut Meter::new(host), &edited)?)
-}
-
-fn compared_at(
-    rt: &impl Abort,
-    host: &HostRuntime,
-    steps: &[Step],
-    edits: &[Edit],
-    places: Places,
+    shown: Option<Places>,
 ) -> Result<String, Fail> {
     let alloc = host.alloc();
     let edited = edited_of(rt, alloc, steps, edits)?;
-    let pair = settle_both(alloc, &mut Meter::new(host), &edited)?;
-    Ok(compare_settled_at(alloc, &edited, &pair, places)?)
-}
-
-fn compared_plainly_at(
-    rt: &impl Abort,
-    host: &HostRuntime,
-    steps: &[Step],
-    edits: &[Edit],
-    places: Places,
-) -> Result<String, Fail> {
-    let edited = edited_of(rt, host.alloc(), steps, edits)?;
-    Ok(compare_at(host.alloc(), &mut Meter::new(host), &edited, places)?)
+    let pair = plain_pair(alloc, host, &edited)?;
+    Ok(compare(alloc, &pair, shown)?)
 }
 
 fn assert_text(rt: &impl Abort, text: &str, wanted: &str) {
@@ -227,25 +227,37 @@ fn edits() -> [Edit; 3] {
 
 #[test]
 fn settled_runs_side_by_side(rt: HostRuntime) -> Result<(), Fail> {
-    assert_text(
-        &rt,
-        compared(&rt, &rt, &session(), &edits())?.as_str(),
-        COMPARED,
-    );
-    assert_text(&rt, compared(&rt, &rt, &session(), &[])?.as_str(), UNEDITED);
+    let text = compared(&rt, &rt, &session(), &edits(), None)?;
+    assert_text(&rt, text.as_str(), COMPARED);
+    let unedited = compared(&rt, &rt, &session(), &[], None)?;
+    assert_text(&rt, unedited.as_str(), UNEDITED);
+    Ok(())
+}
+
+/// One run is compared with itself as a session without edits.
+#[test]
+fn a_run_beside_itself(rt: HostRuntime) -> Result<(), Fail> {
+    let alloc = rt.alloc();
+    let edited = edited_of(&rt, alloc, &session(), &[])?;
+    let run = settle(alloc, edited.session(), &mut Meter::new(&rt))?;
+    let text = compare_with_itself(alloc, &run, None)?;
+    assert_text(&rt, text.as_str(), UNEDITED);
+    let last = Places { from: 7, to: 20 };
+    let shown = compare_with_itself(alloc, &run, Some(last))?;
+    assert_text(&rt, shown.as_str(), UNEDITED_AT);
     Ok(())
 }
 
 #[test]
 fn settled_runs_at_places(rt: HostRuntime) -> Result<(), Fail> {
     let places = Places { from: 2, to: 3 };
-    let text = compared_at(&rt, &rt, &session(), &edits(), places)?;
+    let text = compared(&rt, &rt, &session(), &edits(), Some(places))?;
     assert_text(&rt, text.as_str(), COMPARED_AT);
     let last = Places { from: 7, to: 20 };
-    let unedited = compared_at(&rt, &rt, &session(), &[], last)?;
+    let unedited = compared(&rt, &rt, &session(), &[], Some(last))?;
     assert_text(&rt, unedited.as_str(), UNEDITED_AT);
     let all = Places { from: 0, to: 20 };
-    let whole = compared_at(&rt, &rt, &session(), &edits(), all)?;
+    let whole = compared(&rt, &rt, &session(), &edits(), Some(all))?;
     assert_text(&rt, whole.as_str(), COMPARED);
     Ok(())
 }
@@ -269,10 +281,22 @@ fn edits_past(steps: u32) -> [Edit; 3] {
 
 #[test]
 fn refused_edits_are_printed(rt: HostRuntime) -> Result<(), Fail> {
-    let settled = compared(&rt, &rt, &session(), &edits_past(5))?;
+    let settled = compared(&rt, &rt, &session(), &edits_past(5), None)?;
     assert_text(&rt, settled.as_str(), REFUSED);
-    let plain = compared_plainly(&rt, &rt, &[TICK], &edits_past(1))?;
+    let plain = compared_plainly(&rt, &rt, &[TICK], &edits_past(1), None)?;
     assert_text(&rt, plain.as_str(), REFUSED_TICK);
+    Ok(())
+}
+
+/// Two of the edits are refused, and no step.
+#[test]
+fn refusals_are_found(rt: HostRuntime) -> Result<(), Fail> {
+    let alloc = rt.alloc();
+    let edited = edited_of(&rt, alloc, &[TICK], &edits_past(1))?;
+    let pair = plain_pair(alloc, &rt, &edited)?;
+    assert_eq!(&rt; pair.refused(), [0, 2].as_slice());
+    assert!(&rt; has_refusal(pair.after(), pair.refused()));
+    assert!(&rt; !has_refusal(pair.after(), &[]));
     Ok(())
 }
 
@@ -283,10 +307,10 @@ fn gains_are_printed_where_no_step_differs(rt: HostRuntime) -> Result<(), Fail> 
         priority: 3,
         mask: 3,
     };
-    let text = compared_plainly(&rt, &rt, &[TICK], &[edit])?;
+    let text = compared_plainly(&rt, &rt, &[TICK], &[edit], None)?;
     assert_text(&rt, text.as_str(), GAINED);
     let behind = Places { from: 1, to: 1 };
-    let left_out = compared_plainly_at(&rt, &rt, &[TICK], &[edit], behind)?;
+    let left_out = compared_plainly(&rt, &rt, &[TICK], &[edit], Some(behind))?;
     assert_text(&rt, left_out.as_str(), GAINED_AT);
     Ok(())
 }
@@ -296,18 +320,60 @@ fn gains_are_printed_where_no_step_differs(rt: HostRuntime) -> Result<(), Fail> 
 fn settled_runs_in_columns(rt: HostRuntime) -> Result<(), Fail> {
     let alloc = rt.alloc();
     let edited = edited_of(&rt, alloc, &session(), &edits())?;
-    let pair = settle_both(alloc, &mut Meter::new(&rt), &edited)?;
-    let rows = pair.rows.as_slice();
-    assert!(rt; rows.len() < 100);
-    let columns = columns_of(alloc, Side::Before, rows)?;
+    let pair = settled_pair(alloc, &rt, &edited)?;
+    let columns = columns_of(alloc, Side::Before, pair.rows())?;
     assert_eq!(rt;
         columns.as_slice(),
         [0, 4, 5, 6, 8, 9, 10, 11, 12, 17, 18].as_slice()
     );
-    let later = columns_of(alloc, Side::After, rows)?;
+    let later = columns_of(alloc, Side::After, pair.rows())?;
     assert_eq!(rt;
         later.as_slice(),
         [1, 2, 3, 4, 5, 7, 8, 13, 14, 15, 16, 17, 18].as_slice()
     );
+    Ok(())
+}
+
+// The run of these steps of A, B and C, where a tick has ten units.
+fn timed_run(
+    rt: &impl Abort,
+    alloc: Global,
+    meter: &mut Meter,
+    steps: &[Step],
+) -> Result<Run, Fail> {
+    let mut header = three_tasks(alloc, false)?;
+    header.config.units = 10;
+    header.queues = Some(Items::new(Vec::new(alloc)));
+    let session = session_of(rt, header, Vec::from_slice(alloc, steps)?)?;
+    Ok(Run::of_session(alloc, session, meter)?)
+}
+
+/// Two runs have three ticks, and time passes between them. The ticks stand together, the calls and
+/// the time beside nothing.
+#[test]
+fn ticks_of_simulated_runs_stand_together(rt: HostRuntime) -> Result<(), Fail> {
+    let (alloc, mut meter) = (rt.alloc(), Meter::new(&rt));
+    let before = [
+        TICK,
+        call(0, 2, Call::Yield),
+        Step::Pass { units: 5 },
+        TICK,
+        TICK,
+    ];
+    let after = [
+        Step::Pass { units: 3 },
+        TICK,
+        TICK,
+        call(0, 2, Call::Delay(1)),
+        TICK,
+    ];
+    let run = timed_run(&rt, alloc, &mut meter, &before)?;
+    let later = timed_run(&rt, alloc, &mut meter, &after)?;
+    let pair = RunPair::of_simulated(alloc, run, later)?;
+    for (before, after) in [(0, 1), (3, 2), (4, 4)] {
+        assert!(&rt; pair.rows().contains(&Row::Both { before, after }));
+    }
+    assert_eq!(&rt; pair.rows().len(), 7);
+    assert!(&rt; pair.refused().is_empty());
     Ok(())
 }

@@ -8,7 +8,9 @@ use report_figures::{
     Bound, figure_called, figures_of, law_of_names, push_name, push_told, subjects_of,
 };
 use run_numbers::{Condition, Subject};
-use session_reports::{CheckStatus, Checked, Wanted, check, figures_of_session};
+use run_sources::{Source, make_run};
+use session_reports::{CheckStatus, Checked, Wanted, check, figures_of_run};
+use session_runs::Run;
 use smp_kernel::Meter;
 use std::alloc::Global;
 use std::process::Abort;
@@ -28,7 +30,15 @@ fn value(
     name: &str,
 ) -> Result<Option<u64>, Fail> {
     let alloc = host.alloc();
-    let figures = figures_of_session(alloc, &mut Meter::new(host), session, settled)?;
+    let own = session.copy(alloc)?;
+    let source = if settled {
+        Source::Settled(own)
+    } else {
+        Source::Session(own)
+    };
+    let mut meter = Meter::new(host);
+    let run = make_run(alloc, &source, &mut meter)?;
+    let figures = figures_of_run(alloc, &mut meter, &run)?;
     let figure = figure_called(alloc, session.header(), figures.as_slice(), name)?;
     Ok(figure.map(|figure| figure.value))
 }
@@ -107,11 +117,14 @@ fn numbers_by_name(rt: HostRuntime) -> Result<(), Fail> {
     law_of_names();
     let alloc = rt.alloc();
     let session = session_of_reserved_names(&rt, &rt)?;
-    let figures = figures_of_session(alloc, &mut Meter::new(&rt), &session, false)?;
+    let mut meter = Meter::new(&rt);
+    let run = Run::of_session(alloc, session, &mut meter)?;
+    let figures = figures_of_run(alloc, &mut meter, &run)?;
+    let header = run.session().header();
     for figure in figures.as_slice() {
         let mut name = String::new(alloc);
-        push_name(&mut name, session.header(), figure.subject, figure.part)?;
-        let found = figure_called(alloc, session.header(), figures.as_slice(), name.as_str())?;
+        push_name(&mut name, header, figure.subject, figure.part)?;
+        let found = figure_called(alloc, header, figures.as_slice(), name.as_str())?;
         assert_eq!(&rt; found, Some(*figure), "{name}");
     }
     Ok(())
@@ -493,7 +506,9 @@ fn checked(rt: &impl Abort, host: &HostRuntime, name: &str, bound: Bound) -> Res
     let session = session(rt, host)?;
     let name = String::from_str(alloc, name)?;
     let limits = [Wanted { name, bound }];
-    Ok(check(alloc, &mut Meter::new(host), &session, false, &limits)?)
+    let mut meter = Meter::new(host);
+    let run = Run::of_session(alloc, session, &mut meter)?;
+    Ok(check(alloc, &mut meter, &run, &limits)?)
 }
 
 #[test]

@@ -4,8 +4,9 @@ ghost use Rattle.std.specs.Prelude.{◌<◌, ⊤};
 use crate::settled::{TICK, call, session_of, switch};
 use bench_samples::{PLAIN, crowd};
 use bench_types::{Call, Header};
-use ranked_changes::{Family, Judge, Measure, Progress, advise};
+use ranked_changes::{Family, Judge, Measure, Progress, rank_changes};
 use run_numbers::{Condition, Subject};
+use run_sources::Source;
 use std::process::Abort;
 use std::test::Fail;
 use std::thread::Threads;
@@ -81,16 +82,17 @@ fn tried<R: Threads + Abort + Sync>(
 {
     let steps = [call(0, 2, Call::Delay(2)), switch(0), TICK];
     let session = session_of(rt, header, Vec::from_slice(host.alloc(), &steps)?)?;
+    let source = Source::Session(session);
     let judge = Judge {
-        settled: false,
         subject: Subject::Time(Condition::Busy { core: 1 }),
         measure: Measure::Total,
     };
     let family = Family {
         priority: true,
         mask: false,
+        pin: false,
         order: false,
     };
-    let advice = advise(rt, host, host.alloc(), told, &session, judge, family)?;
+    let advice = rank_changes(rt, host, host.alloc(), told, &source, judge, family)?;
     Ok(advice.ranked.len())
 }

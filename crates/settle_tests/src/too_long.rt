@@ -2,10 +2,11 @@
 //! Their order and the text were worked out by hand.
 use crate::settled::{TICK, session_of};
 use bench_samples::{PLAIN, header_of};
-use bench_types::{CheckedSession, Config, Header};
-use ranked_changes::{Advice, Family, Judge, Measure, Silent, Verdict, advise};
+use bench_types::{Config, Header};
+use ranked_changes::{Advice, Family, Judge, Measure, Silent, Verdict, rank_changes};
 use run_numbers::{Condition, Subject};
-use session_advice::{AdviceStatus, Advised, Question, advise_session};
+use run_sources::Source;
+use session_advice::{AdviceStatus, Advised, Question, advise};
 use smp_kernel::Meter;
 use std::alloc::Global;
 use std::process::Abort;
@@ -27,13 +28,15 @@ fn slicing(alloc: Global) -> Result<Header, Fail> {
     Ok(header)
 }
 
-fn session(rt: &impl Abort, alloc: Global) -> Result<CheckedSession, Fail> {
-    session_of(rt, slicing(alloc)?, vec![in alloc; TICK; TICKS]?)
+fn source(rt: &impl Abort, alloc: Global) -> Result<Source, Fail> {
+    let session = session_of(rt, slicing(alloc)?, vec![in alloc; TICK; TICKS]?)?;
+    Ok(Source::Settled(session))
 }
 
 const PRIORITIES: Family = Family {
     priority: true,
     mask: false,
+    pin: false,
     order: false,
 };
 
@@ -41,21 +44,20 @@ const PRIORITIES: Family = Family {
 fn advice<R: Threads + Abort + Sync>(
     rt: &R,
     host: &HostRuntime,
-    session: &CheckedSession,
+    source: &Source,
 ) -> Result<Advice, Fail> {
-    assert!(rt; session.header().config.cores == 2);
-    assert!(rt; session.header().tasks.as_slice().len() == 3);
+    assert!(rt; source.header().config.cores == 2);
+    assert!(rt; source.header().tasks.as_slice().len() == 3);
     let judge = Judge {
-        settled: true,
         subject: Subject::Time(Condition::Running { task: 4 }),
         measure: Measure::Total,
     };
-    Ok(advise(
+    Ok(rank_changes(
         rt,
         host,
         host.alloc(),
         &mut Silent,
-        session,
+        source,
         judge,
         PRIORITIES,
     )?)
@@ -89,8 +91,8 @@ fn check_ranked(rt: &impl Abort, advice: &Advice) {
 
 #[test]
 fn changes_that_make_the_run_too_long_come_last(rt: HostRuntime) -> Result<(), Fail> {
-    let session = session(&rt, rt.alloc())?;
-    let advice = advice(&rt, &rt, &session)?;
+    let source = source(&rt, rt.alloc())?;
+    let advice = advice(&rt, &rt, &source)?;
     check_ranked(&rt, &advice);
     Ok(())
 }
@@ -115,29 +117,28 @@ const TOLD: &str = "C.run is 0; 9 changes tried
 fn advised<R: Threads + Abort + Sync>(
     rt: &R,
     host: &HostRuntime,
-    session: &CheckedSession,
+    source: &Source,
 ) -> Result<Advised, Fail> {
     let question = Question {
         name: String::from_str(host.alloc(), "C.run")?,
-        settled: true,
         family: PRIORITIES,
         best: 9,
     };
-    Ok(advise_session(
+    Ok(advise(
         rt,
         host,
         host.alloc(),
         &mut Meter::new(host),
         &mut Silent,
-        session,
+        source,
         &question,
     )?)
 }
 
 #[test]
 fn runs_that_are_too_long_are_told_as_such(rt: HostRuntime) -> Result<(), Fail> {
-    let session = session(&rt, rt.alloc())?;
-    let printed = advised(&rt, &rt, &session)?;
+    let source = source(&rt, rt.alloc())?;
+    let printed = advised(&rt, &rt, &source)?;
     assert_eq!(&rt; printed.status, AdviceStatus::Given);
     assert_eq!(&rt; printed.text.as_str(), TOLD);
     Ok(())

@@ -3,7 +3,7 @@ use Rattle.std.proofs.Common.{refl}
 use Rattle.std.specs.Path.{rsplit_once}
 use Rattle.clap.proofs.OnLiterals.{clap_on_literals}
 use Rattle.command_words.specs.Answered.{answered_in_words}
-use Rattle.view_commands.specs.CommandLines.{WorkedAdvice, WorkedChecks, WorkedHelp, WorkedMistakes, WorkedTraces, WorkedVersions, WorkedViews}
+use Rattle.view_commands.specs.CommandLines.{WorkedAdvice, WorkedChecks, WorkedHelp, WorkedMistakes, WorkedSimulations, WorkedTraces, WorkedVersions, WorkedViews}
 
 pub traces : WorkedTraces
 unfolding clap_on_literals answered_in_words
@@ -40,7 +40,13 @@ views = record {
   page = refl;
   page_settled = refl;
   page_by_ticks = refl;
+  report = refl;
+  report_as_json = refl;
 }
+
+pub simulations : WorkedSimulations
+unfolding clap_on_literals answered_in_words
+simulations = record { as_said = refl; ticks = refl; too_many_ticks = refl }
 
 pub checks : WorkedChecks
 unfolding clap_on_literals answered_in_words rsplit_once
@@ -48,7 +54,7 @@ checks = record { one_limit = refl; greatest_first = refl; last_sign = refl; no_
 
 pub advice : WorkedAdvice
 unfolding clap_on_literals answered_in_words
-advice = record { usual = refl; settled_best = refl; no_task = refl; no_number = refl; no_family = refl }
+advice = record { usual = refl; settled_best = refl; pinned = refl; no_task = refl; no_number = refl; no_family = refl }
 
 pub helps : WorkedHelp
 unfolding clap_on_literals answered_in_words

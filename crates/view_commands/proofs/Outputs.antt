@@ -1,7 +1,11 @@
 -- What is told of a document, whether it was read and opened or not.
-use Rattle.std.proofs.Common.{◌≡◌, ◌⊎◌, ◌<◌, ◌≤◌, ℕ, List, [], length, Bool, true, false, Result, Ok, Err, IfOk, nat_lt, sym, subst, arith, inl, inr}
+use Rattle.std.proofs.Common.{◌≡◌, ◌⊎◌, ◌<◌, ◌≤◌, ◌∙◌, ℕ, List, [], length, Bool, true, false, Result, Ok, Err, IfOk, nat_lt, ap, ap₂, sym, subst, arith, inl, inr}
 use Rattle.std.proofs.lemmas.Bool.Decides.{nat_tests}
+use Rattle.bench_types.specs.declared.edit.Edit.{Edit}
+use Rattle.bench_types.specs.declared.step.Step.{Step}
 use Rattle.bench_types.specs.Limits.{max_steps}
+use Rattle.bench_types.specs.Session.{Session}
+use Rattle.session_edits.specs.Edited.{EditedView}
 use Rattle.session_text.specs.declared.bench.Bench.{Bench}
 use Rattle.session_text.specs.declared.detail.Detail.TheVariants.{None}
 use Rattle.session_text.specs.declared.fault.TextFault.{TextFault}
@@ -9,9 +13,12 @@ use Rattle.session_text.specs.declared.fault.Why.TheVariants.{NoMemory}
 use Rattle.session_text.specs.Bench.{bench_text}
 use Rattle.program_io.specs.Hint.{IsFaultHint}
 use Rattle.program_io.specs.Refusal.{IsPrintedFault}
-use Rattle.view_commands.specs.Refused.{refused_lines}
 use Rattle.view_commands.specs.declared.request.Job.{Job}
-use Rattle.view_commands.specs.Commands.{IsDone, IsRefusedOr, IsPrintedOfBench, IsPrintedOfText, IsWarned, too_many_steps}
+use Rattle.view_commands.specs.declared.edited.EditedSource.{EditedSource}
+use Rattle.view_commands.specs.Answers.{IsNoted}
+use Rattle.view_commands.specs.Commands.{IsRefusedOr, IsPrintedOfBench, IsPrintedOfText}
+use Rattle.view_commands.specs.EditedSources.{session_source}
+use Rattle.view_commands.specs.Refusals.{refused_lines, too_many_steps}
 use Rattle.program_io.specs.Twice.{warned}
 use Rattle.program_io.specs.Outputs.{Printed}
 
@@ -33,21 +40,35 @@ or_claim : (test : Bool) (refused : Printed) (claim : Type 0) (printed : Printed
 or_claim true refused claim printed fails is = absurd (cc fails)
 or_claim false refused claim printed fails is = is
 
+-- what the document says, by whether it is settled
+abbrev pub made_of : Bool → Bench → EditedSource
+made_of settled bench = session_source settled (record { header = bench.header; steps = bench.steps }) bench.edits
+
 -- what is told of a session that has too many steps
 pub long_printed : {E : Type 0} (lines : List ℕ) (job : Job) (bench : Bench) (result : Result Printed E) → max_steps < length bench.steps
     → IfOk result (λ printed. printed ≡ warned lines too_many_steps) → IfOk result (λ printed. IsPrintedOfBench lines job bench printed)
 long_printed lines job bench (Err e) long line = tt
 long_printed lines job bench (Ok printed) long line =
     let many : nat_lt max_steps (length bench.steps) ≡ true = grind (arith, nat_tests, long) in
-    or_refused (nat_lt max_steps (length bench.steps)) (warned lines too_many_steps) (IsWarned lines job (record { header = bench.header; steps = bench.steps }) bench.edits
-    printed) printed many line
+    or_refused (nat_lt max_steps (length bench.steps)) (warned lines too_many_steps) (IsNoted lines job (made_of job.settled bench) printed) printed many line
 
 -- what is told of another one
-pub short_printed : {E : Type 0} (lines : List ℕ) (job : Job) (bench : Bench) (done : Printed) (result : Result Printed E) → length bench.steps ≤ max_steps
-    → IsDone job (record { header = bench.header; steps = bench.steps }) bench.edits done → IfOk result (λ printed. printed ≡ warned lines done)
-    → IfOk result (λ printed. IsPrintedOfBench lines job bench printed)
-short_printed lines job bench done (Err e) few is told = tt
-short_printed lines job bench done (Ok printed) few is told =
+pub short_printed : {E : Type 0} (lines : List ℕ) (job : Job) (bench : Bench) (result : Result Printed E) → length bench.steps ≤ max_steps
+    → IfOk result (IsNoted lines job (made_of job.settled bench)) → IfOk result (λ printed. IsPrintedOfBench lines job bench printed)
+short_printed lines job bench (Err e) few told = tt
+short_printed lines job bench (Ok printed) few told =
     let not_many : nat_lt max_steps (length bench.steps) ≡ false = grind (arith, nat_tests, few) in
-    or_claim (nat_lt max_steps (length bench.steps)) (warned lines too_many_steps) (IsWarned lines job (record { header = bench.header; steps = bench.steps }) bench.edits
-    printed) printed not_many (record { done = done; is_done = is; is_warned = told })
+    or_claim (nat_lt max_steps (length bench.steps)) (warned lines too_many_steps) (IsNoted lines job (made_of job.settled bench) printed) printed not_many told
+
+-- the same by the session, and the edits that are made of it
+pub bench_told : {E : Type 0} (lines : List ℕ) (job : Job) (bench : Bench) (steps : List Step) (edits : List Edit) (session : Session) (both : EditedView)
+    (source : EditedSource) (result : Result Printed E) → steps ≡ bench.steps → edits ≡ bench.edits → session ≡ record { header = bench.header; steps = steps }
+    → length session.steps ≤ max_steps → both ≡ record { session = session; edits = edits } → source ≡ session_source job.settled both.session both.edits
+    → IfOk result (IsNoted lines job source) → IfOk result (λ printed. IsPrintedOfBench lines job bench printed)
+bench_told lines job bench steps edits session both source result same alike made few one is told =
+    let whole : session ≡ record { header = bench.header; steps = bench.steps } =
+    made ∙ ap (λ (all : List Step). record { header = bench.header; steps = all }) same in
+    let short : length bench.steps ≤ max_steps = omega (arith, few, ap (λ (s : Session). length s.steps) whole) in
+    let source_is : source ≡ made_of job.settled bench =
+    is ∙ ap (λ (e : EditedView). session_source job.settled e.session e.edits) one ∙ ap₂ (session_source job.settled) whole alike in
+    short_printed lines job bench result short (subst (λ (s : EditedSource). IfOk result (IsNoted lines job s)) source_is told)

@@ -1,5 +1,5 @@
 -- What a command line asks for: what clap is told, and what it answers.
-use Rattle.std.specs.Prelude.{⊤, ℕ, List, [], ◌∷◌, ◌++◌, Bool, true, codes, string_bytes, Option, Some, None, pos, if◌then◌else◌}
+use Rattle.std.specs.Prelude.{⊤, ℕ, List, [], ◌∷◌, ◌++◌, Bool, true, codes, string_bytes, Option, Some, None, option_map, pos, if◌then◌else◌}
 use Rattle.std.specs.Str.{bytes_eq}
 use Rattle.clap.specs.Simple.{on_top}
 use Rattle.clap.specs.Words.{App, Row, Rule, Text, new_rule}
@@ -11,9 +11,8 @@ use Rattle.command_words.specs.Asking.{helps, mistakes, versions}
 use Rattle.command_words.specs.Said.{IsMistake}
 use Rattle.command_words.specs.Printed.{command_app, flag_rule, option_rule, program_app, with_commands}
 use Rattle.task_programs.specs.Limits.{max_ticks}
-use Rattle.view_commands.specs.Options.{command_of, documents_in, file_in, strict_in}
+use Rattle.view_commands.specs.Options.{command_of, documents_in, file_in, settled_in, strict_in}
 use Rattle.view_commands.specs.declared.request.Command.{Command}
-use Rattle.view_commands.specs.declared.request.Documents.{Documents}
 use Rattle.view_commands.specs.declared.request.Job.{Job}
 use Rattle.view_commands.specs.declared.request.Request.{Request}
 use Rattle.view_commands.specs.declared.request.Request.TheVariants.{Show, Help, Version, Lacking, Bad}
@@ -173,7 +172,7 @@ no_axis = codes "error: --axis takes place, tick or time" ++ try_help
 -- that a word names no changes
 abbrev pub no_families : List ℕ
 no_families =
-    codes "error: --over takes priority, mask and order, with commas between them" ++ try_help
+    codes "error: --over takes priority, mask, pin and order, with commas between them" ++ try_help
 
 -- by the name of a command, what is told where it lacks what clap does not ask for
 abbrev pub lacking_text : Text → List ℕ
@@ -182,17 +181,28 @@ lacking_text name =
     else (if bytes_eq name (codes "timeline") then no_axis
     else (if bytes_eq name (codes "page") then no_axis else no_families))
 
--- a command with the flag `--strict` or without, and the name of a file; or this is told
-abbrev asked_with : List ℕ → Option Command → Documents → Bool → Option Text → Asked
-asked_with lack (Some command) documents strict file =
-    a_view (record { command = command; documents = documents; strict = strict }) file
-asked_with lack None documents strict file = lacks lack
+-- what a command that lacks nothing is about
+abbrev pub job_with : Text → List Row → Command → Job
+job_with name options command = record {
+  command = command;
+  settled = settled_in name options;
+  documents = documents_in name options;
+  strict = strict_in options;
+}
+
+-- the same; none, where it lacks what clap does not ask for
+abbrev pub job_of : Text → List Row → Option Job
+job_of name options = option_map (job_with name options) (command_of name options)
+
+-- a job and the name of a file, or this is told
+abbrev asked_with : List ℕ → Option Job → Option Text → Asked
+asked_with lack (Some job) file = a_view job file
+asked_with lack None file = lacks lack
 
 -- what a command with this name and these options asks for
 abbrev pub asked_for : Text → List Row → Asked
 asked_for name options =
-    asked_with (lacking_text name) (command_of name options) (documents_in name options)
-    (strict_in options) (file_in options)
+    asked_with (lacking_text name) (job_of name options) (file_in options)
 
 -- by what clap answers
 abbrev pub asked_by : Answered → Asked

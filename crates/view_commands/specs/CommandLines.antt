@@ -7,22 +7,40 @@ use Rattle.run_pictures.specs.declared.frame.Axis.TheVariants as by
 use Rattle.run_pictures.specs.declared.picture.Extent.{Extent}
 use Rattle.run_views.specs.declared.places.Places.{Places}
 use Rattle.session_reports.specs.Asked as limit
-use Rattle.view_commands.specs.declared.request.Command.{Command}
-use Rattle.view_commands.specs.declared.request.Command.TheVariants.{Plain, Settled, Check, Advise, Page}
+use Rattle.session_reports.specs.declared.report.Form.TheVariants.{Json, Table}
+use Rattle.shown_runs.specs.declared.ask.Ask.{Ask}
+use Rattle.shown_runs.specs.declared.ask.Ask.TheVariants as ask
+use Rattle.view_commands.specs.declared.request.Command.TheVariants.{Advise, Show}
 use Rattle.view_commands.specs.declared.request.Documents.TheVariants as documents
-use Rattle.view_commands.specs.declared.request.SettledView.TheVariants as settled
-use Rattle.view_commands.specs.declared.request.View.TheVariants as view
 use Rattle.view_commands.specs.CommandLine.{Asked, a_view, help, version, lacks, a_mistake, asked, no_axis, no_families, no_limits}
 
--- a command without the flag `--strict`, of a file or of standard input
-abbrev pub a_lenient : Command → Option Text → Asked
-a_lenient command =
-    a_view (record { command = command; documents = documents.All; strict = false })
+-- without the flag `--strict`, of the runs as their steps stand or of settled ones, of a file or of
+-- standard input
+abbrev pub a_lenient : Bool → Ask → Option Text → Asked
+a_lenient settled asked =
+    a_view (record {
+      command = Show asked;
+      settled = settled;
+      documents = documents.All;
+      strict = false;
+    })
 
 -- the same with the flag
-abbrev pub a_strict : Command → Option Text → Asked
-a_strict command =
-    a_view (record { command = command; documents = documents.All; strict = true })
+abbrev pub a_strict : Bool → Ask → Option Text → Asked
+a_strict settled asked =
+    a_view (record {
+      command = Show asked;
+      settled = settled;
+      documents = documents.All;
+      strict = true;
+    })
+
+-- the runs as their steps stand, and settled ones
+abbrev pub as_written : Bool
+as_written = false
+
+abbrev pub settled : Bool
+settled = true
 
 -- by the words after the program's name
 abbrev pub asked_after : List Text → Asked
@@ -47,12 +65,13 @@ most = 4294967295
 -- a trace of these places, tasks and cores, of a file or of standard input
 abbrev pub a_trace : Places → List Text → List ℕ → Option Text → Asked
 a_trace places tasks cores =
-    a_lenient (Plain (view.Trace (record { places = places; tasks = tasks; cores = cores })))
+    a_lenient as_written
+    (ask.Trace (record { places = places; tasks = tasks; cores = cores }))
 
 -- the same of the settled run
 abbrev pub a_settled_trace : Places → List Text → List ℕ → Option Text → Asked
 a_settled_trace places tasks cores =
-    a_lenient (Settled (settled.Trace (record { places = places; tasks = tasks; cores = cores })))
+    a_lenient settled (ask.Trace (record { places = places; tasks = tasks; cores = cores }))
 
 pub record WorkedTraces : Type 0 where
   pub bare : asked_after (codes "trace" ∷ []) ≡ a_trace (places 0 most) [] [] None
@@ -87,48 +106,74 @@ pub record WorkedTraces : Type 0 where
       ≡ a_settled_trace (places 3 most) [] [] None
 
 pub record WorkedViews : Type 0 where
-  pub session : asked_after (codes "session" ∷ []) ≡ a_lenient (Plain view.Session) None
+  pub session : asked_after (codes "session" ∷ []) ≡ a_lenient as_written ask.Session None
   pub session_of_file :
       asked_after (codes "session" ∷ codes "run.json" ∷ [])
-      ≡ a_lenient (Plain view.Session) (Some (codes "run.json"))
-  pub settle : asked_after (codes "settle" ∷ codes "-" ∷ []) ≡ a_lenient (Settled settled.Session) None
-  pub compare : asked_after (codes "compare" ∷ []) ≡ a_lenient (Plain view.Compare) None
+      ≡ a_lenient as_written ask.Session (Some (codes "run.json"))
+  pub settle : asked_after (codes "settle" ∷ codes "-" ∷ []) ≡ a_lenient settled ask.Session None
+  pub compare : asked_after (codes "compare" ∷ []) ≡ a_lenient as_written ask.Compare None
   pub compare_settled :
       asked_after (codes "compare" ∷ codes "run.json" ∷ codes "--settle" ∷ [])
-      ≡ a_lenient (Settled settled.Compare) (Some (codes "run.json"))
+      ≡ a_lenient settled ask.Compare (Some (codes "run.json"))
   pub strict_session :
       asked_after (codes "session" ∷ codes "--strict" ∷ codes "run.json" ∷ [])
-      ≡ a_strict (Plain view.Session) (Some (codes "run.json"))
+      ≡ a_strict as_written ask.Session (Some (codes "run.json"))
   pub strict_settle :
       asked_after (codes "settle" ∷ codes "-" ∷ codes "--strict" ∷ [])
-      ≡ a_strict (Settled settled.Session) None
+      ≡ a_strict settled ask.Session None
   pub strict_comparison :
       asked_after (codes "compare" ∷ codes "--strict" ∷ codes "--settle" ∷ [])
-      ≡ a_strict (Settled settled.Compare) None
+      ≡ a_strict settled ask.Compare None
   pub picture :
-      asked_after (codes "timeline" ∷ []) ≡ a_lenient (Plain (view.Timeline (by_places 0 most))) None
+      asked_after (codes "timeline" ∷ []) ≡ a_lenient as_written (ask.Timeline (by_places 0 most)) None
   pub picture_between :
       asked_after (codes "timeline" ∷ codes "--from" ∷ codes "3" ∷ codes "--to" ∷ codes "7" ∷ [])
-      ≡ a_lenient (Plain (view.Timeline (by_places 3 7))) None
+      ≡ a_lenient as_written (ask.Timeline (by_places 3 7)) None
   pub picture_settled :
       asked_after (codes "timeline" ∷ codes "--to" ∷ codes "7" ∷ codes "--settle" ∷ [])
-      ≡ a_lenient (Settled (settled.Timeline (by_places 0 7))) None
+      ≡ a_lenient settled (ask.Timeline (by_places 0 7)) None
   pub picture_by_ticks :
       asked_after (codes "timeline" ∷ codes "--axis" ∷ codes "tick" ∷ [])
-      ≡ a_lenient (Plain (view.Timeline (by_ticks 0 most))) None
+      ≡ a_lenient as_written (ask.Timeline (by_ticks 0 most)) None
   pub picture_by_time :
       asked_after (codes "timeline" ∷ codes "--axis=time" ∷ codes "--settle" ∷ [])
-      ≡ a_lenient (Settled (settled.Timeline (by_time 0 most))) None
+      ≡ a_lenient settled (ask.Timeline (by_time 0 most)) None
   pub page :
       asked_after (codes "page" ∷ codes "--from" ∷ codes "3" ∷ codes "run.json" ∷ [])
-      ≡ a_lenient (Page (record { settled = false; extent = by_places 3 most }))
+      ≡ a_lenient as_written (ask.Page (by_places 3 most))
       (Some (codes "run.json"))
   pub page_settled :
       asked_after (codes "page" ∷ codes "--settle" ∷ codes "--to=7" ∷ [])
-      ≡ a_lenient (Page (record { settled = true; extent = by_places 0 7 })) None
+      ≡ a_lenient settled (ask.Page (by_places 0 7)) None
   pub page_by_ticks :
       asked_after (codes "page" ∷ codes "--axis=tick" ∷ [])
-      ≡ a_lenient (Page (record { settled = false; extent = by_ticks 0 most })) None
+      ≡ a_lenient as_written (ask.Page (by_ticks 0 most)) None
+  pub report :
+      asked_after (codes "report" ∷ []) ≡ a_lenient as_written (ask.Report Table) None
+  pub report_as_json :
+      asked_after (codes "report" ∷ codes "--json" ∷ codes "--settle" ∷ [])
+      ≡ a_lenient settled (ask.Report Json) None
+
+-- the run of a workload that goes on for so many ticks, or for as many as it says, of a file or of
+-- standard input
+abbrev pub a_simulation : Option ℕ → Option Text → Asked
+a_simulation ticks =
+    a_view (record {
+      command = Show ask.Session;
+      settled = false;
+      documents = documents.Workloads ticks;
+      strict = false;
+    })
+
+pub record WorkedSimulations : Type 0 where
+  pub as_said :
+      asked_after (codes "simulate" ∷ codes "design.json" ∷ [])
+      ≡ a_simulation None (Some (codes "design.json"))
+  pub ticks :
+      asked_after (codes "simulate" ∷ codes "--ticks" ∷ codes "100" ∷ [])
+      ≡ a_simulation (Some 100) None
+  pub too_many_ticks :
+      asked_after (codes "simulate" ∷ codes "--ticks=1000001" ∷ []) ≡ a_mistake
 
 -- the value of this name may be at most so much, or at least so much
 abbrev pub at_most : Text → ℕ → limit.Asked
@@ -139,20 +184,20 @@ at_least name number = record { name = name; bound = AtLeast number }
 
 -- a check of these limits, of a file or of standard input
 abbrev pub a_check : Bool → List limit.Asked → Option Text → Asked
-a_check settled limits = a_lenient (Check (record { settled = settled; limits = limits }))
+a_check made limits = a_lenient made (ask.Check limits)
 
 pub record WorkedChecks : Type 0 where
   pub one_limit :
       asked_after (codes "check" ∷ codes "--at-most" ∷ codes "A.run=3" ∷ [])
-      ≡ a_check false (at_most (codes "A.run") 3 ∷ []) None
+      ≡ a_check as_written (at_most (codes "A.run") 3 ∷ []) None
   pub greatest_first :
       asked_after (codes "check" ∷ codes "--at-least=A.run=1" ∷ codes "--settle"
       ∷ codes "run.json" ∷ codes "--at-most=B.run=+2" ∷ [])
-      ≡ a_check true (at_most (codes "B.run") 2 ∷ at_least (codes "A.run") 1 ∷ [])
+      ≡ a_check settled (at_most (codes "B.run") 2 ∷ at_least (codes "A.run") 1 ∷ [])
       (Some (codes "run.json"))
   pub last_sign :
       asked_after (codes "check" ∷ codes "--at-most" ∷ codes "a=b.run=3" ∷ [])
-      ≡ a_check false (at_most (codes "a=b.run") 3 ∷ []) None
+      ≡ a_check as_written (at_most (codes "a=b.run") 3 ∷ []) None
   pub no_limit : asked_after (codes "check" ∷ codes "run.json" ∷ []) ≡ lacks no_limits
   pub no_number :
       asked_after (codes "check" ∷ codes "--at-most" ∷ codes "A.run=x" ∷ []) ≡ lacks no_limits
@@ -162,20 +207,30 @@ pub record WorkedChecks : Type 0 where
 -- advice on the number of this name, over these families, and so many of the best, of a file or of
 -- standard input
 abbrev pub some_advice : Text → Bool → Family → ℕ → Option Text → Asked
-some_advice name settled family best =
-    a_lenient (Advise (record { name = name; settled = settled; family = family; best = best }))
+some_advice name made family best =
+    a_view (record {
+      command = Advise (record { name = name; family = family; best = best });
+      settled = made;
+      documents = documents.All;
+      strict = false;
+    })
 
-abbrev pub families : Bool → Bool → Bool → Family
-families priority mask order = record { priority = priority; mask = mask; order = order }
+abbrev pub families : Bool → Bool → Bool → Bool → Family
+families priority mask pin order =
+    record { priority = priority; mask = mask; pin = pin; order = order }
 
 pub record WorkedAdvice : Type 0 where
   pub usual :
       asked_after (codes "advise" ∷ codes "--task" ∷ codes "A" ∷ codes "--less=run" ∷ [])
-      ≡ some_advice (codes "A.run") false (families true true true) 10 None
+      ≡ some_advice (codes "A.run") as_written (families true true false true) 10 None
   pub settled_best :
       asked_after (codes "advise" ∷ codes "--settle" ∷ codes "--less=ready" ∷ codes "run.json"
       ∷ codes "--task=B" ∷ codes "--best=3" ∷ codes "--over" ∷ codes "order,priority" ∷ [])
-      ≡ some_advice (codes "B.ready") true (families true false true) 3 (Some (codes "run.json"))
+      ≡ some_advice (codes "B.ready") settled (families true false false true) 3 (Some (codes "run.json"))
+  pub pinned :
+      asked_after (codes "advise" ∷ codes "--task=A" ∷ codes "--less=run" ∷ codes "--over=pin"
+      ∷ [])
+      ≡ some_advice (codes "A.run") as_written (families false false true false) 10 None
   pub no_task : asked_after (codes "advise" ∷ codes "--less=run" ∷ []) ≡ a_mistake
   pub no_number : asked_after (codes "advise" ∷ codes "--task=A" ∷ []) ≡ a_mistake
   pub no_family :

@@ -12,7 +12,8 @@ words_of text = slice_split (λ byte. byte == 44) text
 abbrev pub is_family : Text → Bool
 is_family word =
     if bytes_eq word (codes "priority") then true
-    else if bytes_eq word (codes "mask") then true else bytes_eq word (codes "order")
+    else if bytes_eq word (codes "mask") then true
+    else if bytes_eq word (codes "pin") then true else bytes_eq word (codes "order")
 
 -- it is among the words
 abbrev pub has_word : Text → List Text → Bool
@@ -23,6 +24,7 @@ abbrev pub family_with : List Text → Family
 family_with words = record {
   priority = has_word (codes "priority") words;
   mask = has_word (codes "mask") words;
+  pin = has_word (codes "pin") words;
   order = has_word (codes "order") words;
 }
 

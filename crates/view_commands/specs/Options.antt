@@ -1,5 +1,5 @@
 -- What clap's answers mean: the options of a command, a row for each, and the name of a file.
-use Rattle.std.specs.Prelude.{◌≡◌, ◌&&◌, ◌^◌, ◌-◌, ◌==◌, ℕ, List, [], ◌∷◌, ◌++◌, flat_map, length, map, Bool, true, false, codes, Option, Some, None, IfSome}
+use Rattle.std.specs.Prelude.{◌≡◌, ◌&&◌, ◌||◌, ◌^◌, ◌-◌, ◌==◌, ℕ, List, [], ◌∷◌, ◌++◌, flat_map, length, map, Bool, true, false, codes, Option, Some, None, IfSome}
 use Rattle.std.specs.Prelude.{is_some, option_and_then, option_map, unwrap_or, if◌then◌else◌}
 use Rattle.std.specs.Path.{rsplit_once}
 use Rattle.std.specs.List.{list_all}
@@ -18,15 +18,15 @@ use Rattle.report_figures.specs.declared.limits.Bound.TheVariants.{AtMost, AtLea
 use Rattle.run_views.specs.declared.places.Places.{Places}
 use Rattle.session_reports.specs.Asked.{Asked}
 use Rattle.session_reports.specs.declared.report.Form.TheVariants.{Json, Table}
+use Rattle.shown_runs.specs.declared.ask.Ask.{Ask}
+use Rattle.shown_runs.specs.declared.ask.Ask.TheVariants as ask
+use Rattle.shown_runs.specs.Selected.{Selected}
 use Rattle.task_programs.specs.Limits.{max_ticks}
 use Rattle.view_commands.specs.Families.{family_of}
-use Rattle.view_commands.specs.Selected.{Selected}
 use Rattle.view_commands.specs.declared.request.Command.{Command}
-use Rattle.view_commands.specs.declared.request.Command.TheVariants.{Plain, Settled, Report, Check, Advise, Page}
+use Rattle.view_commands.specs.declared.request.Command.TheVariants.{Advise, Show}
 use Rattle.view_commands.specs.declared.request.Documents.{Documents}
 use Rattle.view_commands.specs.declared.request.Documents.TheVariants.{All, Workloads}
-use Rattle.view_commands.specs.declared.request.SettledView.TheVariants as settled
-use Rattle.view_commands.specs.declared.request.View.TheVariants as view
 
 -- digits that write a number below 2^32, with or without a plus sign before them
 abbrev pub is_number : Text → Bool
@@ -128,15 +128,6 @@ selection_in options = record {
   cores = cores_in options;
 }
 
-abbrev pub trace_of : List Row → Command
-trace_of options =
-    if settle_in options then Settled (settled.Trace (selection_in options))
-    else Plain (view.Trace (selection_in options))
-
-abbrev pub comparison_of : List Row → Command
-comparison_of options =
-    if settle_in options then Settled settled.Compare else Plain view.Compare
-
 -- the axis that a word names
 abbrev pub axis_of : Text → Option Axis
 axis_of word =
@@ -153,56 +144,46 @@ axis_in options = option_map_or axis_of (first_of (codes "axis") options) (Some 
 abbrev pub extent_by : List Row → Axis → Extent
 extent_by options axis = record { places = places_in options; axis = axis }
 
-abbrev pub picture_by : List Row → Axis → Command
-picture_by options axis =
-    let extent = extent_by options axis in
-    if settle_in options then Settled (settled.Timeline extent) else Plain (view.Timeline extent)
-
 -- a picture, if an axis is named
-abbrev pub picture_of : List Row → Option Command
-picture_of options = option_map (picture_by options) (axis_in options)
-
-abbrev pub page_by : List Row → Axis → Command
-page_by options axis = Page (record {
-  settled = settle_in options;
-  extent = extent_by options axis;
-})
+abbrev pub picture_of : List Row → Option Ask
+picture_of options = option_map (λ axis. ask.Timeline (extent_by options axis)) (axis_in options)
 
 -- a page, if an axis is named
-abbrev pub page_of : List Row → Option Command
-page_of options = option_map (page_by options) (axis_in options)
+abbrev pub page_of : List Row → Option Ask
+page_of options = option_map (λ axis. ask.Page (extent_by options axis)) (axis_in options)
 
-abbrev pub report_of : List Row → Command
-report_of options = Report (record {
-  settled = settle_in options;
-  form = if json_in options then Json else Table;
-})
-
--- by the name of a command that lacks nothing
-abbrev pub view_of : Text → List Row → Command
-view_of name options =
-    if bytes_eq name (codes "trace") then trace_of options
-    else if bytes_eq name (codes "session") then Plain view.Session
-    else if bytes_eq name (codes "simulate") then Plain view.Session
-    else if bytes_eq name (codes "settle") then Settled settled.Session
-    else if bytes_eq name (codes "compare") then comparison_of options
-    else report_of options
+abbrev pub report_of : List Row → Ask
+report_of options = ask.Report (if json_in options then Json else Table)
 
 -- a check, if there are limits and all are written as such
-abbrev pub check_of : List Row → Option Command
+abbrev pub check_of : List Row → Option Ask
 check_of options =
     if are_limits (texts_in (codes "at-most") options) (texts_in (codes "at-least") options)
-    then Some (Check (record {
-      settled = settle_in options;
-      limits = limits_in options;
-    })) else None
+    then Some (ask.Check (limits_in options)) else None
 
--- all changes are tried, where none are named
-abbrev pub all_families : Family
-all_families = record { priority = true; mask = true; order = true }
+-- by the name of a command that lacks nothing
+abbrev pub view_of : Text → List Row → Ask
+view_of name options =
+    if bytes_eq name (codes "trace") then ask.Trace (selection_in options)
+    else if bytes_eq name (codes "compare") then ask.Compare
+    else if bytes_eq name (codes "report") then report_of options
+    else ask.Session
+
+-- by the name of a command that shows runs, what is asked of them; none, where it lacks what clap
+-- does not ask for
+abbrev pub ask_of : Text → List Row → Option Ask
+ask_of name options =
+    if bytes_eq name (codes "check") then check_of options
+    else if bytes_eq name (codes "timeline") then picture_of options
+    else if bytes_eq name (codes "page") then page_of options
+    else Some (view_of name options)
+
+-- these changes are tried, where none are named
+abbrev pub usual_families : Family
+usual_families = record { priority = true; mask = true; pin = false; order = true }
 
 abbrev pub family_in : List Row → Option Family
-family_in options = option_map_or family_of (first_of (codes "over") options) (Some all_families)
+family_in options = option_map_or family_of (first_of (codes "over") options) (Some usual_families)
 
 -- how many of the best are told, where no number is given
 abbrev pub usual_best : ℕ
@@ -216,7 +197,6 @@ number_name task rest = told_text task ++ codes "." ++ rest
 abbrev pub advice_with : Option Text → Option Text → Option Family → List Row → Option Command
 advice_with (Some task) (Some rest) (Some family) options = Some (Advise (record {
   name = number_name task rest;
-  settled = settle_in options;
   family = family;
   best = number_in (codes "best") options usual_best;
 }))
@@ -230,11 +210,12 @@ advice_of options =
 -- By the name of a command and its options. None is one that lacks what clap does not ask for.
 abbrev pub command_of : Text → List Row → Option Command
 command_of name options =
-    if bytes_eq name (codes "check") then check_of options
-    else if bytes_eq name (codes "advise") then advice_of options
-    else if bytes_eq name (codes "timeline") then picture_of options
-    else if bytes_eq name (codes "page") then page_of options
-    else Some (view_of name options)
+    if bytes_eq name (codes "advise") then advice_of options
+    else option_map Show (ask_of name options)
+
+-- settled runs are shown: of each session by `settle`, and else by the flag
+abbrev pub settled_in : Text → List Row → Bool
+settled_in name options = bytes_eq name (codes "settle") || settle_in options
 
 -- by the name of a command, which documents it reads
 abbrev pub documents_in : Text → List Row → Documents

@@ -1,8 +1,8 @@
 -- What a terminal is told of long work.
 use Rattle.std.specs.Prelude.{◌≡◌, ◌==◌, ℕ, List, [], ◌++◌, Bool, true, false, codes, decimal, if◌then◌else◌}
 use Rattle.program_io.specs.Device.{DeviceState, WritesText}
-use Rattle.view_commands.specs.declared.parts.Part.{Part}
-use Rattle.view_commands.specs.declared.parts.Part.TheVariants.{Settling, Drawing, Tracing, Comparing, Measuring, Refusals}
+use Rattle.shown_runs.specs.declared.parts.Part.{Part}
+use Rattle.shown_runs.specs.declared.parts.Part.TheVariants.{Settling, Simulating, Drawing, Tracing, Comparing, Measuring, Refusals}
 
 -- so much is done of all; the line ends with the work
 abbrev pub progress_text : ℕ → ℕ → List ℕ
@@ -12,6 +12,7 @@ progress_text done all =
 
 abbrev pub part_word : Part → List ℕ
 part_word Settling = codes "settling"
+part_word Simulating = codes "simulating"
 part_word Drawing = codes "drawing"
 part_word Tracing = codes "tracing"
 part_word Comparing = codes "comparing"

@@ -1,22 +1,19 @@
 -- What becomes of a status where refusals count.
-use Rattle.std.specs.Prelude.{◌≡◌, ◌⊎◌, List, Bool, true, false}
-use Rattle.bench_types.specs.declared.edit.Edit.{Edit}
-use Rattle.bench_types.specs.Session.{Session}
-use Rattle.run_comparisons.specs.Refusals.{HasRefusal}
+use Rattle.std.specs.Prelude.{◌≡◌, ◌⊎◌, Bool, true, false}
 use Rattle.program_io.specs.declared.output.OutputStatus.{OutputStatus}
 use Rattle.program_io.specs.declared.output.OutputStatus.TheVariants.{Fine, Failed, Unknown}
 use Rattle.program_io.specs.Outputs.{Printed}
-use Rattle.view_commands.specs.declared.request.Command.{Command}
-use Rattle.view_commands.specs.declared.request.Command.TheVariants.{Plain, Settled, Report, Check, Advise, Page}
+use Rattle.run_comparisons.specs.Refusals.{HasRefusal}
+use Rattle.run_sources.specs.Sources.{IsRunOfSource}
+use Rattle.session_runs.specs.Run.{RunView}
+use Rattle.view_commands.specs.declared.edited.EditedSource.{EditedSource}
+use Rattle.view_commands.specs.EditedSources.{after_of, refused_of}
 
--- the command shows settled runs
-abbrev pub is_settled : Command → Bool
-is_settled (Plain view) = false
-is_settled (Settled view) = true
-is_settled (Report view) = view.settled
-is_settled (Check view) = view.settled
-is_settled (Advise question) = question.settled
-is_settled (Page view) = view.settled
+-- an edit is refused, or a step of the run of what the edits leave
+pub record IsRefusing (source : EditedSource) : Type 0 where
+  pub run : RunView
+  pub is_run : IsRunOfSource (after_of source) run
+  pub has_refusal : HasRefusal run (refused_of source)
 
 -- The same is told. Its status fails exactly where it was fine and something is refused.
 abbrev pub IsStrict : Type 0 → OutputStatus → Printed → Printed → Type 0
@@ -29,7 +26,3 @@ IsStrict Refused Unknown printed judged = judged ≡ printed
 abbrev pub IsJudged : Bool → Type 0 → Printed → Printed → Type 0
 IsJudged false Refused printed judged = judged ≡ printed
 IsJudged true Refused printed judged = IsStrict Refused printed.status printed judged
-
--- by the command, whether something is refused in the run that it shows after the edits
-abbrev pub IsRefusing : Command → Session → List Edit → Type 0
-IsRefusing command session edits = HasRefusal (is_settled command) session edits

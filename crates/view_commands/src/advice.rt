@@ -1,12 +1,19 @@
-//! What is told of the changes of a session that make a number lower.
-ghost use Rattle.std.specs.Prelude.{◌≡◌, IfOk, string_bytes};
-ghost use Rattle.view_commands.specs.AdviceViews.{IsAdviceView, printed_of_advice};
+//! What is told of the changes that make a number lower.
+ghost use Rattle.std.specs.Prelude.{◌≡◌, IfErr, IfOk, string_bytes};
+ghost use Rattle.view_commands.specs.declared.request.Command.TheVariants as Command;
+ghost use Rattle.view_commands.specs.Answers.{printed_of_advice, sources_for, IsAdvised, IsJudgedAnswer};
+ghost use Rattle.view_commands.specs.TooLong.{IsFaultOfFirst};
 
-use crate::settled::not_settled;
+use crate::edited::EditedSource;
+use crate::fault::ShowFault;
+use crate::request::Documents;
+use crate::runs::run_after;
+use crate::strict::judged_strictly;
 use program_io::{Output, OutputStatus};
 use ranked_changes::Progress;
-use session_advice::{AdviceStatus, Advised, Question, advise_session};
-use session_edits::EditedSession;
+use run_sources::Source;
+use session_advice::{AdviceStatus, Advised, Question, advise};
+use shown_runs::{Course, PartProgress};
 use smp_kernel::Meter;
 use std::alloc::{AllocError, Global};
 use std::thread::Threads;
@@ -30,21 +37,48 @@ fn printed_of_advice(alloc: Global, status: AdviceStatus, text: String) -> Outpu
     }
 }
 
-/// What is advised of the session with its edits made.
-pub(crate) fn printed_advice<T: Threads + Sync, P: Progress>(
+// What is advised on the source, whose run is not too long.
+fn advised<T: Threads + Sync, P: Progress>(
     rt: &T,
     host: &HostRuntime,
+    progress: &mut P,
     alloc: Global,
     meter: &mut Meter,
-    progress: &mut P,
-    edited: &EditedSession,
+    source: &Source,
     question: &Question,
 ) -> Result<Output, AllocError>
-    ensures { IfOk result
-        (λ printed. IsAdviceView question.now edited.now.session edited.now.edits printed) }
+    ensures { IfOk result (IsAdvised question.now source.now) }
 {
-    match advise_session(rt, host, alloc, meter, progress, edited.edited(), question) {
+    match advise(rt, host, alloc, meter, progress, source, question) {
         Ok(Advised { status, text }) => Ok(printed_of_advice(alloc, status, text)),
-        Err(fault) => not_settled(alloc, fault),
+        // There is no other fault of a source that is not too long.
+        Err(_) => Err(AllocError),
     }
+}
+
+/// What is advised on what the edits leave, judged where refusals count.
+#[tactic(auto, using(crate::proofs::ShownSources::fault_of_one))]
+pub(crate) fn answer_of_advice<T: Threads + Sync, P: PartProgress>(
+    rt: &T,
+    host: &HostRuntime,
+    course: &mut Course<P>,
+    alloc: Global,
+    meter: &mut Meter,
+    source: &EditedSource,
+    question: &Question,
+    documents: Documents,
+    strict: bool,
+) -> Result<Output, ShowFault>
+    ensures answer { IfOk result
+        (IsJudgedAnswer documents strict (Command.Advise question.now) source.now) }
+    ensures fault { IfErr result
+        (IsFaultOfFirst (sources_for (Command.Advise question.now) source.now)) }
+{
+    let made = run_after(alloc, meter, documents, source)?;
+    let after = source.after(alloc)?;
+    let output = advised(rt, host, course.progress, alloc, meter, &after, question)?;
+    if !strict {
+        return Ok(output);
+    }
+    Ok(judged_strictly(course, alloc, &made.run, source, output)?)
 }

@@ -22,8 +22,8 @@ const DOCUMENTS: &str = r#"Documents, each a JSON text, in FILE or on standard i
   session         the cores, priorities and tasks, and the steps of a run
   bench document  a session, and edits of it: they are made one after another, and those that are
                   refused are passed over
-  workload        what each task does, and the interrupts that come: it stands for the session that
-                  is its run
+  workload        what each task does, and the interrupts that come; edits of it may stand beside
+                  it: its run is shown, or those before and after the edits
 
 Exit status:
   0  it was shown
@@ -95,9 +95,10 @@ Example: smp_view check --settle --at-most control.blocked.mutex=3 \
 // Below the options of advice.
 const ADVICE: &str =
     "It tries each change of one task's priority (priority) and mask (mask: of at most 4 cores all masks, of
-more each core alone and all cores), and each exchange of two neighbouring calls of different tasks
-(order), each alone, and prints the best: the least number first, of equals the smaller change, with
-what it costs the other tasks.
+more each core alone and all cores; pin: each core alone), and of a session each exchange of two
+neighbouring calls of different tasks (order), each alone, and prints the best: the least number
+first, of equals the smaller change, with what it costs the other tasks. A workload is simulated
+with each change.
 
 Example: smp_view advise --settle --task control --less blocked.mutex --over priority \
     examples/settled/mutex-events.json";
@@ -105,7 +106,7 @@ Example: smp_view advise --settle --task control --less blocked.mutex --over pri
 // Below the options of a simulation.
 const SIMULATIONS: &str =
     "A workload says what each task does, which interrupts come, and for how many ticks. Its run is
-settled. Every other command shows a workload by its run, too.
+settled. With edits it is the run after them. Every other command shows a workload by its run, too.
 
 Example: smp_view simulate --ticks 100 examples/workloads/two-periods.json";
 
@@ -338,7 +339,7 @@ fn advise_command<'a>(alloc: Global) -> Result<Command<'a>, AllocError>
 {
     Command::new(alloc, "advise")
         .after_help(ADVICE)
-        .about("Tries changes of the session, and prints those that make a number lowest")
+        .about("Tries changes of the tasks, and prints those that make a number lowest")
         .arg(settle_flag(alloc))?
         .arg(judged_option(alloc))?
         .arg(less_option(alloc))?

@@ -1,5 +1,5 @@
 //! Command lines that were worked out by hand.
-ghost use Rattle.view_commands.specs.CommandLines.{WorkedAdvice, WorkedChecks, WorkedHelp, WorkedMistakes, WorkedTraces, WorkedVersions, WorkedViews};
+ghost use Rattle.view_commands.specs.CommandLines.{WorkedAdvice, WorkedChecks, WorkedHelp, WorkedMistakes, WorkedSimulations, WorkedTraces, WorkedVersions, WorkedViews};
 
 /// Command lines with what they ask for. It does nothing: its contract is the laws, one a clause.
 pub fn examples_of_command_lines()
@@ -7,6 +7,8 @@ pub fn examples_of_command_lines()
     ensures traces { WorkedTraces }
     // Another view is asked for.
     ensures views { WorkedViews }
+    // The run of a workload is asked for.
+    ensures simulations { WorkedSimulations }
     // A check is asked for, or limits are missing.
     ensures checks { WorkedChecks }
     // Advice is asked for, or something of it is missing.

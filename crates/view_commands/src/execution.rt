@@ -3,9 +3,9 @@ ghost use Rattle.program_io.specs.Endings.{EndsOver, EndsTelling};
 ghost use Rattle.view_commands.specs.Commands.{IsView};
 
 use crate::Job;
-use crate::answer::printed_of;
-use crate::parts::PartProgress;
+use crate::input::printed_of;
 use program_io::{CountedRead, CountedWrite, Ending, tell_of_input};
+use shown_runs::PartProgress;
 use std::alloc::Global;
 use std::thread::Threads;
 

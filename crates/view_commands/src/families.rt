@@ -17,7 +17,7 @@ fn words_of(alloc: Global, text: &str) -> Result<Vec<&str>, AllocError>
 fn is_family(word: &str) -> bool
     ensures { result ≡ is_family word.now }
 {
-    word == "priority" || word == "mask" || word == "order"
+    word == "priority" || word == "mask" || word == "pin" || word == "order"
 }
 
 fn are_families(words: &[&str]) -> bool
@@ -38,6 +38,7 @@ fn family_with(words: &[&str]) -> Family
     Family {
         priority: has_word(words, "priority"),
         mask: has_word(words, "mask"),
+        pin: has_word(words, "pin"),
         order: has_word(words, "order"),
     }
 }

@@ -3,37 +3,30 @@
 
 mod advice;
 mod answer;
-mod checks;
 mod command_line;
 mod edited;
 mod examples;
 mod execution;
 mod families;
-mod interest;
+mod fault;
+mod input;
 mod limits;
 mod options;
-mod pages;
 mod parts;
 mod program;
 mod progress;
-mod reports;
+mod refusals;
 mod request;
-mod settled;
-mod settled_pictures;
+mod runs;
 mod source;
 mod strict;
-mod workloads;
+mod ticks;
 
-pub use answer::law_of_views;
 pub use command_line::request_of;
-pub use edited::law_of_texts;
 pub use examples::examples_of_command_lines;
 pub use execution::run;
-pub use parts::{Part, PartProgress};
+pub use input::law_of_views;
 pub use program::{carry_out, run_program};
 pub use progress::Telling;
-pub use request::{
-    CheckView, Command, Documents, FileName, Job, PageView, ReportView, Request, Selection,
-    SettledView, View,
-};
+pub use request::{Command, Documents, FileName, Job, Request};
 pub use source::{DocumentSource, Folder, Source};

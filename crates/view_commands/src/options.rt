@@ -3,15 +3,13 @@ ghost use Rattle.std.specs.Prelude.{◌≡◌, codes, IfOk, IfSome, map, option_
 ghost use Rattle.std.specs.Option.{IsSomeAnd};
 ghost use Rattle.clap.specs.Words.{found_of, rows_of, subcommand_rows_of};
 ghost use Rattle.command_words.specs.Asking.{number_in};
-ghost use Rattle.view_commands.specs.CommandLine.{TellsMistake, asked_for, asked_in, lacking_text};
-ghost use Rattle.view_commands.specs.Options.{AreTaken, advice_of, advice_with, axis_in, axis_of, check_of, command_of, comparison_of, cores_in, documents_in, extent_by, family_in, file_in, json_in, number_name, page_by, page_of, picture_by, picture_of, places_in, report_of, selection_in, settle_in, strict_in, tasks_in, texts_in, ticks_in, trace_of, usual_best, view_of};
+ghost use Rattle.view_commands.specs.CommandLine.{TellsMistake, asked_for, asked_in, job_of, lacking_text};
+ghost use Rattle.view_commands.specs.Options.{AreTaken, advice_of, advice_with, ask_of, axis_in, axis_of, check_of, command_of, cores_in, documents_in, extent_by, family_in, file_in, json_in, number_name, page_of, picture_of, places_in, report_of, selection_in, settle_in, settled_in, strict_in, tasks_in, texts_in, ticks_in, usual_best, view_of};
 
 use crate::families::family_of;
 use crate::limits::{are_limits, limits_in};
-use crate::request::{
-    CheckView, Command, Documents, FileName, Job, PageView, ReportView, Request, Selection,
-    SettledView, View,
-};
+use crate::request::{Command, Documents, FileName, Job, Request};
+use bench_types::Items;
 use clap::ArgMatches;
 use ranked_changes::Family;
 use report_figures::push_told;
@@ -19,6 +17,7 @@ use run_pictures::{Axis, Extent};
 use run_views::Places;
 use session_advice::Question;
 use session_reports::Form;
+use shown_runs::{Ask, Selection};
 use std::alloc::{AllocError, Global};
 
 // What is told where a check has no limits, or one that is not written as such.
@@ -29,7 +28,8 @@ For more information, try '--help'.
 ";
 
 // What is told where a word names no changes.
-const NO_FAMILIES: &str = "error: --over takes priority, mask and order, with commas between them
+const NO_FAMILIES: &str =
+    "error: --over takes priority, mask, pin and order, with commas between them
 
 For more information, try '--help'.
 ";
@@ -40,10 +40,12 @@ const NO_AXIS: &str = "error: --axis takes place, tick or time
 For more information, try '--help'.
 ";
 
-// All changes.
-const ALL_FAMILIES: Family = Family {
+// The changes that are tried where the command line names none: pinning a task is among those of
+// masks, or a few of them.
+const USUAL_FAMILIES: Family = Family {
     priority: true,
     mask: true,
+    pin: false,
     order: true,
 };
 
@@ -178,27 +180,6 @@ fn selection_in(alloc: Global, options: &ArgMatches) -> Result<Selection, AllocE
     })
 }
 
-fn trace_of(alloc: Global, options: &ArgMatches) -> Result<Command, AllocError>
-    requires { AreTaken (rows_of (found_of options.now)) }
-    ensures { IfOk result (λ command. command ≡ trace_of (rows_of (found_of options.now))) }
-{
-    let selection = selection_in(alloc, options)?;
-    if settle_in(options) {
-        return Ok(Command::Settled(SettledView::Trace(selection)));
-    }
-    Ok(Command::Plain(View::Trace(selection)))
-}
-
-fn comparison_of(options: &ArgMatches) -> Command
-    requires { AreTaken (rows_of (found_of options.now)) }
-    ensures { result ≡ comparison_of (rows_of (found_of options.now)) }
-{
-    if settle_in(options) {
-        return Command::Settled(SettledView::Compare);
-    }
-    Command::Plain(View::Compare)
-}
-
 fn axis_of(word: &str) -> Option<Axis>
     ensures { result ≡ axis_of word.now }
 {
@@ -231,68 +212,42 @@ fn extent_by(options: &ArgMatches, axis: Axis) -> Extent
     Extent { places, axis }
 }
 
-fn picture_by(options: &ArgMatches, axis: Axis) -> Command
-    requires { AreTaken (rows_of (found_of options.now)) }
-    ensures { result ≡ picture_by (rows_of (found_of options.now)) axis }
-{
-    let extent = extent_by(options, axis);
-    if settle_in(options) {
-        return Command::Settled(SettledView::Timeline(extent));
-    }
-    Command::Plain(View::Timeline(extent))
-}
-
 // A picture, if an axis is named.
-fn picture_of(options: &ArgMatches) -> Option<Command>
+fn picture_of(options: &ArgMatches) -> Option<Ask>
     requires { AreTaken (rows_of (found_of options.now)) }
     ensures { result ≡ picture_of (rows_of (found_of options.now)) }
 {
     match axis_in(options) {
-        Some(axis) => Some(picture_by(options, axis)),
+        Some(axis) => Some(Ask::Timeline(extent_by(options, axis))),
         None => None,
     }
 }
 
-fn page_by(options: &ArgMatches, axis: Axis) -> Command
-    requires { AreTaken (rows_of (found_of options.now)) }
-    ensures { result ≡ page_by (rows_of (found_of options.now)) axis }
-{
-    Command::Page(PageView {
-        settled: settle_in(options),
-        extent: extent_by(options, axis),
-    })
-}
-
 // A page, if an axis is named.
-fn page_of(options: &ArgMatches) -> Option<Command>
+fn page_of(options: &ArgMatches) -> Option<Ask>
     requires { AreTaken (rows_of (found_of options.now)) }
     ensures { result ≡ page_of (rows_of (found_of options.now)) }
 {
     match axis_in(options) {
-        Some(axis) => Some(page_by(options, axis)),
+        Some(axis) => Some(Ask::Page(extent_by(options, axis))),
         None => None,
     }
 }
 
-fn report_of(options: &ArgMatches) -> Command
+fn report_of(options: &ArgMatches) -> Ask
     requires { AreTaken (rows_of (found_of options.now)) }
     ensures { result ≡ report_of (rows_of (found_of options.now)) }
 {
-    let form = if json_in(options) {
+    Ask::Report(if json_in(options) {
         Form::Json
     } else {
         Form::Table
-    };
-    Command::Report(ReportView {
-        settled: settle_in(options),
-        form,
     })
 }
 
 // A check, if there are limits and all are written as such.
-fn check_of(alloc: Global, options: &ArgMatches) -> Result<Option<Command>, AllocError>
-    requires { AreTaken (rows_of (found_of options.now)) }
-    ensures { IfOk result (λ command. command ≡ check_of (rows_of (found_of options.now))) }
+fn check_of(alloc: Global, options: &ArgMatches) -> Result<Option<Ask>, AllocError>
+    ensures { IfOk result (λ asked. asked ≡ check_of (rows_of (found_of options.now))) }
 {
     let most = texts_in(alloc, options, "at-most")?;
     let least = texts_in(alloc, options, "at-least")?;
@@ -300,10 +255,41 @@ fn check_of(alloc: Global, options: &ArgMatches) -> Result<Option<Command>, Allo
     if !are_limits(most, least) {
         return Ok(None);
     }
-    Ok(Some(Command::Check(CheckView {
-        settled: settle_in(options),
-        limits: limits_in(alloc, most, least)?,
-    })))
+    Ok(Some(Ask::Check(Items::new(limits_in(alloc, most, least)?))))
+}
+
+// What is asked of runs by a command that lacks nothing.
+fn view_of(alloc: Global, name: &str, options: &ArgMatches) -> Result<Ask, AllocError>
+    requires { AreTaken (rows_of (found_of options.now)) }
+    ensures { IfOk result (λ asked. asked ≡ view_of name.now (rows_of (found_of options.now))) }
+{
+    if name == "trace" {
+        return Ok(Ask::Trace(selection_in(alloc, options)?));
+    }
+    if name == "compare" {
+        return Ok(Ask::Compare);
+    }
+    if name == "report" {
+        return Ok(report_of(options));
+    }
+    Ok(Ask::Session)
+}
+
+// What is asked of runs, if the command lacks nothing.
+fn ask_of(alloc: Global, name: &str, options: &ArgMatches) -> Result<Option<Ask>, AllocError>
+    requires { AreTaken (rows_of (found_of options.now)) }
+    ensures { IfOk result (λ asked. asked ≡ ask_of name.now (rows_of (found_of options.now))) }
+{
+    if name == "check" {
+        return check_of(alloc, options);
+    }
+    if name == "timeline" {
+        return Ok(picture_of(options));
+    }
+    if name == "page" {
+        return Ok(page_of(options));
+    }
+    Ok(Some(view_of(alloc, name, options)?))
 }
 
 fn family_in(alloc: Global, options: &ArgMatches) -> Result<Option<Family>, AllocError>
@@ -311,7 +297,7 @@ fn family_in(alloc: Global, options: &ArgMatches) -> Result<Option<Family>, Allo
 {
     match options.get_str("over") {
         Some(words) => family_of(alloc, words),
-        None => Ok(Some(ALL_FAMILIES)),
+        None => Ok(Some(USUAL_FAMILIES)),
     }
 }
 
@@ -352,7 +338,6 @@ fn advice_with(
     };
     Ok(Some(Command::Advise(Question {
         name: number_name(alloc, task, rest)?,
-        settled: settle_in(options),
         family,
         best: best_in(options),
     })))
@@ -376,43 +361,37 @@ fn command_of(
     ensures { IfOk result
         (λ command. command ≡ command_of name.now (rows_of (found_of options.now))) }
 {
-    if name == "check" {
-        return check_of(alloc, options);
-    }
     if name == "advise" {
         return advice_of(alloc, options);
     }
-    if name == "timeline" {
-        return Ok(picture_of(options));
+    match ask_of(alloc, name, options)? {
+        Some(asked) => Ok(Some(Command::Show(asked))),
+        None => Ok(None),
     }
-    if name == "page" {
-        return Ok(page_of(options));
-    }
-    Ok(Some(view_of(alloc, name, options)?))
 }
 
-// Of a command that lacks nothing.
-fn view_of(alloc: Global, name: &str, options: &ArgMatches) -> Result<Command, AllocError>
+// Whether settled runs are shown of sessions.
+fn settled_in(name: &str, options: &ArgMatches) -> bool
     requires { AreTaken (rows_of (found_of options.now)) }
-    ensures { IfOk result
-        (λ command. command ≡ view_of name.now (rows_of (found_of options.now))) }
+    ensures { result ≡ settled_in name.now (rows_of (found_of options.now)) }
 {
-    if name == "trace" {
-        return trace_of(alloc, options);
-    }
-    if name == "session" {
-        return Ok(Command::Plain(View::Session));
-    }
-    if name == "simulate" {
-        return Ok(Command::Plain(View::Session));
-    }
-    if name == "settle" {
-        return Ok(Command::Settled(SettledView::Session));
-    }
-    if name == "compare" {
-        return Ok(comparison_of(options));
-    }
-    Ok(report_of(options))
+    name == "settle" || settle_in(options)
+}
+
+// What a command is about, if it lacks nothing.
+fn job_of(alloc: Global, name: &str, options: &ArgMatches) -> Result<Option<Job>, AllocError>
+    requires { AreTaken (rows_of (found_of options.now)) }
+    ensures { IfOk result (λ job. job ≡ job_of name.now (rows_of (found_of options.now))) }
+{
+    let Some(command) = command_of(alloc, name, options)? else {
+        return Ok(None);
+    };
+    Ok(Some(Job {
+        command,
+        settled: settled_in(name, options),
+        documents: documents_in(name, options),
+        strict: strict_in(options),
+    }))
 }
 
 // What is told of a command that lacks what clap does not ask for.
@@ -437,14 +416,9 @@ pub(crate) fn asked_for(alloc: Global, matches: &ArgMatches) -> Result<Request, 
     ensures mark { IfOk result TellsMistake }
 {
     let (name, options) = matches.subcommand().unwrap();
-    let Some(command) = command_of(alloc, name, options)? else {
+    let Some(job) = job_of(alloc, name, options)? else {
         return Ok(Request::Lacking(String::from_str(alloc, lacking(name))?));
     };
     let file = file_in(alloc, options)?;
-    let job = Job {
-        command,
-        documents: documents_in(name, options),
-        strict: strict_in(options),
-    };
     Ok(Request::Show(job, file))
 }

@@ -8,10 +8,10 @@ ghost use Rattle.view_commands.specs.ViewProgram.{Ends, EndsAsked, EndsFile, End
 
 use crate::command_line::{VERSION, request_of};
 use crate::execution::run;
-use crate::parts::PartProgress;
 use crate::request::{FileName, Job, Request};
 use crate::source::Source;
 use program_io::{CountedWrite, Ending, RunFault, end_process, given_words, show_text};
+use shown_runs::PartProgress;
 use std::alloc::{AllocError, Global};
 use std::convert::AsStr;
 use std::env::Args;

@@ -3,11 +3,11 @@ ghost use Rattle.std.specs.Prelude.{◌≡◌, ◌≤◌, length};
 ghost use Rattle.program_io.specs.Device.{device};
 ghost use Rattle.view_commands.specs.Progress.{part_text, part_word, progress_text, BeginsPart, TellsProgress, TellsText};
 
-use crate::parts::{Part, PartProgress};
 use arrayvec::ArrayString;
 use itoa::Buffer;
 use program_io::{Counted, write_text};
 use ranked_changes::Progress;
+use shown_runs::{Part, PartProgress};
 use std::io::{IsTerminal, Write};
 
 /// What tells how far long work is, where that is a terminal.
@@ -62,10 +62,11 @@ fn progress_text(done: usize, all: usize) -> ArrayString<ROOM>
 
 fn part_word(part: Part) -> &'static str
     ensures word { result.now ≡ part_word part }
-    ensures short { length result.now ≤ 9 }
+    ensures short { length result.now ≤ 10 }
 {
     match part {
         Part::Settling => "settling",
+        Part::Simulating => "simulating",
         Part::Drawing => "drawing",
         Part::Tracing => "tracing",
         Part::Comparing => "comparing",

@@ -1,13 +1,14 @@
 //! A status that tells of refusals.
 ghost use Rattle.std.specs.Prelude.{◌≡◌, IfOk};
-ghost use Rattle.run_comparisons.specs.Refusals.{HasRefusal};
-ghost use Rattle.view_commands.specs.Strict.{IsStrict};
+ghost use Rattle.run_sources.specs.Sources.{IsRunOfSource};
+ghost use Rattle.view_commands.specs.EditedSources.{after_of};
+ghost use Rattle.view_commands.specs.Strict.{IsRefusing, IsStrict};
 
-use crate::parts::{Course, Part, PartProgress};
+use crate::edited::EditedSource;
 use program_io::{Output, OutputStatus};
 use run_comparisons::has_refusal;
-use session_edits::EditedSession;
-use smp_kernel::Meter;
+use session_runs::Run;
+use shown_runs::{Course, Part, PartProgress};
 use std::alloc::{AllocError, Global};
 
 // The same with the status of a failure.
@@ -21,27 +22,39 @@ fn failed(output: Output) -> Output
     }
 }
 
-/// What is told where refusals count: the status fails where it was fine and an edit of the session
-/// is refused, or a step of the run after the edits.
+// The same, which fails where an edit is refused, or a step of the run of what the edits leave.
+fn failed_if_refusing(
+    alloc: Global,
+    run: &Run,
+    source: &EditedSource,
+    output: Output,
+) -> Result<Output, AllocError>
+    requires { IsRunOfSource (after_of source.now) run.now }
+    ensures { IfOk result (IsStrict (IsRefusing source.now) OutputStatus.Fine output) }
+{
+    let refused = source.refused(alloc)?;
+    if has_refusal(run, refused.as_slice()) {
+        return Ok(failed(output));
+    }
+    Ok(output)
+}
+
+/// What is told where refusals count: the status fails where it was fine and an edit is refused, or
+/// a step of the run of what the edits leave.
 pub(crate) fn judged_strictly<P: PartProgress>(
     course: &mut Course<P>,
     alloc: Global,
-    meter: &mut Meter,
-    edited: &EditedSession,
-    settled: bool,
+    run: &Run,
+    source: &EditedSource,
     output: Output,
 ) -> Result<Output, AllocError>
-    ensures { IfOk result
-        (λ judged. IsStrict (HasRefusal settled edited.now.session edited.now.edits) output.status
-        output judged) }
+    requires { IsRunOfSource (after_of source.now) run.now }
+    ensures { IfOk result (IsStrict (IsRefusing source.now) output.status output) }
 {
     match output.status {
         OutputStatus::Fine => {
             course.begin(Part::Refusals);
-            if has_refusal(alloc, meter, edited, settled)? {
-                return Ok(failed(output));
-            }
-            Ok(output)
+            failed_if_refusing(alloc, run, source, output)
         }
         OutputStatus::Failed | OutputStatus::Unknown => Ok(output),
     }

@@ -4,14 +4,12 @@ use report_figures::Bound;
 use run_pictures::{Axis, Extent, MAX_PLACES};
 use run_views::Places;
 use session_advice::Question;
-use session_reports::Form;
+use session_reports::{Form, Wanted};
+use shown_runs::{Ask, Selection};
 use std::alloc::{AllocError, Global};
 use std::process::Abort;
 use std::test::Fail;
-use view_commands::{
-    CheckView, Command, Documents, FileName, Job, PageView, ReportView, Request, Selection,
-    SettledView, View, request_of,
-};
+use view_commands::{Command, Documents, FileName, Job, Request, request_of};
 
 /// Command lines, and what each asks for: a trace with its first place, its last, its tasks and its
 /// cores, maybe of a settled run, another command, each with the file that is named, help with its
@@ -29,11 +27,11 @@ smp_view trace --from 1 --settle => settled 1 4294967295
 smp_view trace run.json --settle --from 1 => settled 1 4294967295 file run.json
 smp_view session => session
 smp_view session --strict => strict session
-smp_view settle --strict - => strict settled
+smp_view settle --strict - => strict settled session
 smp_view compare --settle --strict => strict settled compare
 smp_view trace --strict --to 7 => strict 0 7
 smp_view check --strict --at-most A.run=3 f => strict check A.run most 3 file f
-smp_view settle => settled
+smp_view settle => settled session
 smp_view compare => compare
 smp_view compare --settle => settled compare
 smp_view timeline => picture 0 4294967295
@@ -52,17 +50,20 @@ smp_view page --axis tick --settle => settled page by ticks 0 4294967295
 smp_view page --axis=time => page by time 0 4294967295
 smp_view report => report table
 smp_view report --json => report object
-smp_view report --settle => report settled table
-smp_view report run.json --json --settle => report settled object file run.json
+smp_view report --settle => settled report table
+smp_view report run.json --json --settle => settled report object file run.json
 smp_view check --at-most A.run=3 => check A.run most 3
 smp_view check --at-most A.run=18446744073709551615 => check A.run most 18446744073709551615
-smp_view check --at-least a=b.run=+3 --settle f => check settled a=b.run least 3 file f
+smp_view check --at-least a=b.run=+3 --settle f => settled check a=b.run least 3 file f
 smp_view check --at-least A.run=1 --at-most=-x.run=2 => check -x.run most 2 A.run least 1
 smp_view advise --task A --less run => advise A.run priority mask order best 10
-smp_view advise --settle --less=run --task=-x --over mask => advise settled -x.run mask best 10
+smp_view advise --settle --less=run --task=-x --over mask => settled advise -x.run mask best 10
 smp_view advise --task A --less run --best 3 => advise A.run priority mask order best 3
 smp_view advise --task A --less run --over mask => advise A.run mask best 10
 smp_view advise --task A --less run --over order,priority => advise A.run priority order best 10
+smp_view advise --task A --less run --over pin => advise A.run pin best 10
+smp_view advise --task A --less run --over pin,mask => advise A.run mask pin best 10
+smp_view check --strict --settle --at-most A.run=3 => strict settled check A.run most 3
 smp_view trace run.json => 0 4294967295 file run.json
 smp_view trace 3 => 0 4294967295 file 3
 smp_view trace session => 0 4294967295 file session
@@ -80,7 +81,7 @@ smp_view session run.json => session file run.json
 smp_view simulate => simulated session
 smp_view simulate --ticks 0 run.json => simulated for 0 session file run.json
 smp_view simulate --strict --ticks=1000000 => strict simulated for 1000000 session
-smp_view settle run.json => settled file run.json
+smp_view settle run.json => settled session file run.json
 smp_view compare ./- => compare file ./-
 smp_view compare --settle run.json => settled compare file run.json
 smp_view compare run.json --settle => settled compare file run.json
@@ -158,6 +159,7 @@ smp_view advise --task A --less run --over= => bad
 smp_view advise --task A --less run --over Priority => bad
 smp_view advise --task A --less run --over priority,,mask => bad
 smp_view advise --task A --less run --over priority,masks => bad
+smp_view advise --task A --less run --over pins => bad
 smp_view advise --task A --less run --best x => bad
 smp_view advise --task A --task B --less run => bad
 smp_view advise --task A --less run --from 3 => bad
@@ -253,6 +255,9 @@ fn view_printed(alloc: Global, job: &Job, file: Option<&FileName>) -> Result<Str
     if job.strict {
         text.push_str("strict ")?;
     }
+    if job.settled {
+        text.push_str("settled ")?;
+    }
     text.push_str(documents_printed(alloc, job.documents)?.as_str())?;
     text.push_str(command_printed(alloc, &job.command)?.as_str())?;
     if let Some(file) = file {
@@ -272,28 +277,36 @@ fn documents_printed(alloc: Global, documents: Documents) -> Result<String, Allo
 
 fn command_printed(alloc: Global, command: &Command) -> Result<String, AllocError> {
     match command {
-        Command::Plain(view) => plain_printed(alloc, view),
-        Command::Settled(view) => settled_printed(alloc, view),
-        Command::Report(view) => report_printed(alloc, *view),
-        Command::Check(view) => check_printed(alloc, view),
+        Command::Show(asked) => ask_printed(alloc, asked),
         Command::Advise(question) => advice_printed(alloc, question),
-        Command::Page(view) => page_printed(alloc, *view),
     }
 }
 
-fn page_printed(alloc: Global, view: PageView) -> Result<String, AllocError> {
-    let settled = if view.settled { "settled " } else { "" };
-    let drawn = extent_printed(alloc, view.extent)?;
-    format!(in alloc; "{settled}page {drawn}")
+fn ask_printed(alloc: Global, asked: &Ask) -> Result<String, AllocError> {
+    match asked {
+        Ask::Trace(selection) => trace_printed(alloc, selection),
+        Ask::Session => String::from_str(alloc, "session"),
+        Ask::Compare => String::from_str(alloc, "compare"),
+        Ask::Timeline(extent) => {
+            let drawn = extent_printed(alloc, *extent)?;
+            format!(in alloc; "picture {drawn}")
+        }
+        Ask::Report(form) => report_printed(alloc, *form),
+        Ask::Check(limits) => check_printed(alloc, limits.as_slice()),
+        Ask::Page(extent) => {
+            let drawn = extent_printed(alloc, *extent)?;
+            format!(in alloc; "page {drawn}")
+        }
+    }
 }
 
 fn advice_printed(alloc: Global, question: &Question) -> Result<String, AllocError> {
-    let settled = if question.settled { " settled" } else { "" };
-    let mut text = format!(in alloc; "advise{settled} {}", question.name)?;
+    let mut text = format!(in alloc; "advise {}", question.name)?;
     let family = question.family;
     for (word, is_tried) in [
         ("priority", family.priority),
         ("mask", family.mask),
+        ("pin", family.pin),
         ("order", family.order),
     ] {
         if is_tried {
@@ -304,10 +317,9 @@ fn advice_printed(alloc: Global, question: &Question) -> Result<String, AllocErr
     Ok(text)
 }
 
-fn check_printed(alloc: Global, view: &CheckView) -> Result<String, AllocError> {
-    let settled = if view.settled { " settled" } else { "" };
-    let mut text = format!(in alloc; "check{settled}")?;
-    for limit in &view.limits {
+fn check_printed(alloc: Global, limits: &[Wanted]) -> Result<String, AllocError> {
+    let mut text = String::from_str(alloc, "check")?;
+    for limit in limits {
         match limit.bound {
             Bound::AtMost(most) => write!(text, " {} most {most}", limit.name)?,
             Bound::AtLeast(least) => write!(text, " {} least {least}", limit.name)?,
@@ -316,26 +328,13 @@ fn check_printed(alloc: Global, view: &CheckView) -> Result<String, AllocError> 
     Ok(text)
 }
 
-fn report_printed(alloc: Global, view: ReportView) -> Result<String, AllocError> {
-    let settled = if view.settled { "settled " } else { "" };
-    let form = match view.form {
+fn report_printed(alloc: Global, form: Form) -> Result<String, AllocError> {
+    let form = match form {
         Form::Table => "table",
         Form::Json => "object",
         Form::Html => "html",
     };
-    format!(in alloc; "report {settled}{form}")
-}
-
-fn plain_printed(alloc: Global, view: &View) -> Result<String, AllocError> {
-    match view {
-        View::Trace(selection) => trace_printed(alloc, selection),
-        View::Session => String::from_str(alloc, "session"),
-        View::Compare => String::from_str(alloc, "compare"),
-        View::Timeline(extent) => {
-            let drawn = extent_printed(alloc, *extent)?;
-            format!(in alloc; "picture {drawn}")
-        }
-    }
+    format!(in alloc; "report {form}")
 }
 
 fn extent_printed(alloc: Global, extent: Extent) -> Result<String, AllocError> {
@@ -345,23 +344,6 @@ fn extent_printed(alloc: Global, extent: Extent) -> Result<String, AllocError> {
         Axis::Ticks => format!(in alloc; "by ticks {from} {to}"),
         Axis::Time => format!(in alloc; "by time {from} {to}"),
     }
-}
-
-fn settled_printed(alloc: Global, view: &SettledView) -> Result<String, AllocError> {
-    match view {
-        SettledView::Trace(selection) => settled_trace_printed(alloc, selection),
-        SettledView::Session => String::from_str(alloc, "settled"),
-        SettledView::Compare => String::from_str(alloc, "settled compare"),
-        SettledView::Timeline(extent) => {
-            let drawn = extent_printed(alloc, *extent)?;
-            format!(in alloc; "settled picture {drawn}")
-        }
-    }
-}
-
-fn settled_trace_printed(alloc: Global, selection: &Selection) -> Result<String, AllocError> {
-    let trace = trace_printed(alloc, selection)?;
-    format!(in alloc; "settled {trace}")
 }
 
 fn trace_printed(alloc: Global, selection: &Selection) -> Result<String, AllocError> {

@@ -5,6 +5,7 @@ use crate::samples::{NO_NINTH, SHARED_MUTEX};
 use crate::views::KEPT;
 use program_io::Counted;
 use ranked_changes::Silent;
+use shown_runs::Ask;
 use std::alloc::AllocError;
 use std::io;
 use std::io::ErrorKind;
@@ -12,7 +13,7 @@ use std::process::Abort;
 use std::test::Fail;
 use std::thread::Threads;
 use view_commands::{
-    Command, DocumentSource, Documents, FileName, Folder, Job, Request, View, carry_out,
+    Command, DocumentSource, Documents, FileName, Folder, Job, Request, carry_out,
 };
 
 /// A folder with one file.
@@ -74,7 +75,8 @@ fn expect<R: Threads + Abort + Sync>(
     let mut shown = Vec::new(host.alloc());
     let mut writer = Counted::new(&mut shown);
     let job = Job {
-        command: Command::Plain(View::Session),
+        command: Command::Show(Ask::Session),
+        settled: false,
         documents: Documents::All,
         strict: false,
     };

@@ -17,7 +17,7 @@ Commands:
   timeline  Draws the runs before and after the edits, as an SVG picture
   report    Prints the numbers of the run, or of the runs before and after the edits
   check     Says whether numbers of the run after the edits keep limits
-  advise    Tries changes of the session, and prints those that make a number lowest
+  advise    Tries changes of the tasks, and prints those that make a number lowest
   page      Writes one HTML file of the runs: picture, trace, comparison and report
   simulate  Prints the run of a workload, as the document of a session
 
@@ -30,9 +30,9 @@ Documents, each a JSON text, in FILE or on standard input:
   bench document  a session, and edits of it: they are made one after another, and those that \
     are
                   refused are passed over
-  workload        what each task does, and the interrupts that come: it stands for the session \
-    that
-                  is its run
+  workload        what each task does, and the interrupts that come; edits of it may stand \
+    beside
+                  it: its run is shown, or those before and after the edits
 
 Exit status:
   0  it was shown
@@ -187,7 +187,7 @@ Example: smp_view check --settle --at-most control.blocked.mutex=3 \
     examples/settled/shorter-timeout.json
 ";
 
-const ADVISE: &str = "Tries changes of the session, and prints those that make a number lowest
+const ADVISE: &str = "Tries changes of the tasks, and prints those that make a number lowest
 
 Usage: smp_view advise [OPTIONS] --task <NAME> --less <NUMBER> [FILE]
 
@@ -208,11 +208,10 @@ Options:
 
 It tries each change of one task's priority (priority) and mask (mask: of at most 4 cores all \
     masks, of
-more each core alone and all cores), and each exchange of two neighbouring calls of different \
-    tasks
-(order), each alone, and prints the best: the least number first, of equals the smaller \
-    change, with
-what it costs the other tasks.
+more each core alone and all cores; pin: each core alone), and of a session each exchange of two
+neighbouring calls of different tasks (order), each alone, and prints the best: the least number
+first, of equals the smaller change, with what it costs the other tasks. A workload is simulated
+with each change.
 
 Example: smp_view advise --settle --task control --less blocked.mutex --over priority \
     examples/settled/mutex-events.json
@@ -253,7 +252,7 @@ Options:
   -h, --help           Print help
 
 A workload says what each task does, which interrupts come, and for how many ticks. Its run is
-settled. Every other command shows a workload by its run, too.
+settled. With edits it is the run after them. Every other command shows a workload by its run, too.
 
 Example: smp_view simulate --ticks 100 examples/workloads/two-periods.json
 ";

@@ -1,6 +1,7 @@
 //! Pages, and the traces that stand in them place by place.
 
 use crate::samples::{FIRST_RUN, NO_NINTH, SHARED_MUTEX, session_in};
+use crate::workloads::EDITED;
 use base64::engine::general_purpose::STANDARD;
 use program_io::Counted;
 use ranked_changes::Silent;
@@ -8,12 +9,13 @@ use run_pages::{Parts, page};
 use run_pictures::{Axis, Extent};
 use run_views::{Places, trace_by_places};
 use sha2::{Digest, Sha256};
+use shown_runs::Ask;
 use smp_kernel::Meter;
 use std::alloc::{AllocError, Global};
 use std::process::Abort;
 use std::test::Fail;
 use std::thread::Threads;
-use view_commands::{Command, Documents, Job, PageView, run};
+use view_commands::{Command, Documents, Job, run};
 
 /// What the trace tells of place 2 of the first run, where place 3 is shown too.
 const SECOND: &str = "place 2, tick 0; core 0 C; core 1 B
@@ -53,6 +55,18 @@ const SETTLED: &str = "<title>Settled run of 5 steps: cores 2, tasks 3</title>
 <td><meter max='1000' value='1000'></meter> 100.0%</td><td>100.0%</td><th scope='row'>B</th></tr>
 <caption>A: response, jobs that ended: 1</caption>
 <tr><th scope='row'>0 to 0</th><td><meter max='1' value='1'></meter> 1</td></tr>";
+
+/// Of the page of a workload with an edit.
+const SIMULATED: &str = "<title>Simulated run of 4 steps: cores 2, tasks 1</title>
+<a href='#comparison'>Comparison</a>
+<text class='k' x='8' y='16'>before the edits</text>
+the runs differ first at 0 - and last at - 3
+<li id='place-0'><pre>place 0, tick 0; core 0 A; core 1 IDLE0
+         1          2         +1 A.run.longest";
+
+/// Of its picture. Place 0 after the edit stands behind the first four steps before it.
+const ASIDE: &str = "<text class='k' x='8' y='228'>after the edits</text>
+<text class='s' x='312' y='258'>0</text>";
 
 #[test]
 fn a_trace_by_places(rt: HostRuntime) -> Result<(), Fail> {
@@ -100,6 +114,16 @@ fn pages_of_documents(rt: HostRuntime) -> Result<(), Fail> {
     let all = from_on(0);
     expect(&rt, &rt, false, all, SHARED_MUTEX, SHARED, NO_NINTH);
     expect(&rt, &rt, true, from_on(2), FIRST_RUN, SETTLED, "");
+    expect(&rt, &rt, false, all, EDITED, SIMULATED, "");
+    Ok(())
+}
+
+#[test]
+fn a_picture_of_a_workload(rt: HostRuntime) -> Result<(), Fail> {
+    let picture = told_of(&rt, &rt, false, Ask::Timeline(from_on(0)), EDITED, "");
+    for printed in ASIDE.lines() {
+        expect_part(&rt, picture.as_slice(), printed);
+    }
     Ok(())
 }
 
@@ -110,7 +134,7 @@ fn a_page_compares_its_places(rt: HostRuntime) -> Result<(), Fail> {
         places: Places { from: 2, to: 3 },
         axis: Axis::Places,
     };
-    let page = page_of(&rt, &rt, false, extent, SHARED_MUTEX, NO_NINTH);
+    let page = told_of(&rt, &rt, false, Ask::Page(extent), SHARED_MUTEX, NO_NINTH);
     expect_part(&rt, page.as_slice(), SHARED_AT);
     Ok(())
 }
@@ -155,24 +179,25 @@ fn expect<R: Threads + Abort + Sync>(
     wanted: &str,
     note: &str,
 ) {
-    let page = page_of(rt, host, settled, extent, document, note);
+    let page = told_of(rt, host, settled, Ask::Page(extent), document, note);
     for printed in wanted.lines() {
         expect_part(rt, page.as_slice(), printed);
     }
     expect_here(rt, page.as_slice());
 }
 
-// The page of the document.
-fn page_of<R: Threads + Abort + Sync>(
+// What is asked of the document.
+fn told_of<R: Threads + Abort + Sync>(
     rt: &R,
     host: &HostRuntime,
     settled: bool,
-    extent: Extent,
+    asked: Ask,
     document: &str,
     note: &str,
 ) -> Vec<u8> {
     let job = Job {
-        command: Command::Page(PageView { settled, extent }),
+        command: Command::Show(asked),
+        settled,
         documents: Documents::All,
         strict: false,
     };

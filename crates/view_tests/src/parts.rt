@@ -3,11 +3,12 @@ use crate::devices::Sink;
 use crate::progress::Device;
 use crate::words::args_of;
 use program_io::Counted;
+use shown_runs::PartProgress;
 use std::alloc::{AllocError, Global};
 use std::process::Abort;
 use std::test::Fail;
 use std::thread::Threads;
-use view_commands::{DocumentSource, PartProgress, Telling, run_program};
+use view_commands::{DocumentSource, Telling, run_program};
 
 /// A session of so many ticks is long.
 const LONG: u32 = 100_000;
@@ -28,7 +29,7 @@ const PARTS: [(&str, &str); 8] = [
     ),
     (
         "smp_view check --settle --at-least T0.run=1",
-        "part 1 of 1: measuring\n",
+        "part 1 of 2: settling\npart 2 of 2: measuring\n",
     ),
     (
         "smp_view page --settle --to 1 --strict",
@@ -56,6 +57,24 @@ const EDITED_PARTS: [(&str, &str); 4] = [
     ),
 ];
 
+/// The same of a workload of so many ticks, with an edit.
+const SIMULATED_PARTS: [(&str, &str); 4] = [
+    ("smp_view simulate", "part 1 of 1: simulating\n"),
+    (
+        "smp_view compare --settle",
+        "part 1 of 2: simulating\npart 2 of 2: comparing\n",
+    ),
+    (
+        "smp_view check --strict --at-least A.run=1",
+        "part 1 of 3: simulating\npart 2 of 3: measuring\npart 3 of 3: refusals\n",
+    ),
+    ("smp_view simulate --ticks 1", ""),
+];
+
+/// A workload that goes on for so many ticks is long. A works for half a tick, or for a whole one.
+const LONG_WORKLOAD: &str =
+    r#"{"workload":{"format":3,"cores":2,"priorities":2,"slicing":false,"tick":0,"mutexes":0,"notes":1,"queues":[],"units":2,"tasks":[{"name":"A","priority":1,"mask":1,"program":[{"work":1}]}],"ticks":10000},"edits":[{"edit":"set","task":"A","item":[0],"work":2}]}"#;
+
 const REPORT: &str = "smp_view report --settle";
 
 #[test]
@@ -72,6 +91,14 @@ fn parts_of_a_long_session_with_an_edit_are_told(rt: HostRuntime) -> Result<(), 
     let document = edited_of(rt.alloc(), LONG)?;
     for (line, told) in &EDITED_PARTS {
         check(&rt, &rt, line, document.as_str(), true, told)?;
+    }
+    Ok(())
+}
+
+#[test]
+fn parts_of_a_long_workload_are_told(rt: HostRuntime) -> Result<(), Fail> {
+    for (line, told) in &SIMULATED_PARTS {
+        check(&rt, &rt, line, LONG_WORKLOAD, true, told)?;
     }
     Ok(())
 }

@@ -49,7 +49,7 @@ fn texts_that_are_told_in_full(rt: HostRuntime) -> Result<(), Fail> {
             "smp_view advise --task A --less run --over masks",
             2,
             "",
-            "error: --over takes priority, mask and order, with commas between them\n\n\
+            "error: --over takes priority, mask, pin and order, with commas between them\n\n\
             For more information, try '--help'.\n",
         ),
         (

@@ -3,12 +3,13 @@
 use crate::devices::{Sink, expect_same};
 use crate::words::args_of;
 use program_io::Counted;
+use shown_runs::PartProgress;
 use std::alloc::{AllocError, Global};
 use std::io::{self, IsTerminal, Write};
 use std::process::{Abort, ExitCode};
 use std::test::Fail;
 use std::thread::Threads;
-use view_commands::{DocumentSource, PartProgress, Telling, run_program};
+use view_commands::{DocumentSource, Telling, run_program};
 
 const LINE: &str = "smp_view advise --task T0 --less run --over priority --best 0";
 

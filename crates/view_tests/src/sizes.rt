@@ -4,11 +4,12 @@ use crate::devices::{expect, expect_same};
 use program_io::Counted;
 use ranked_changes::Silent;
 use run_views::Places;
+use shown_runs::{Ask, Selection};
 use std::alloc::{AllocError, Global};
 use std::process::Abort;
 use std::test::Fail;
 use std::thread::Threads;
-use view_commands::{Command, Documents, Job, Selection, View};
+use view_commands::{Command, Documents, Job};
 
 /// More than a thousand.
 const TICKS: u32 = 1_500;
@@ -75,17 +76,18 @@ fn push_tick(text: &mut String, at: u32) -> Result<(), AllocError> {
     write!(text, "  done: the step was made\n  tick {at} to {next}\n")
 }
 
-/// The view, where refusals do not count.
-fn lenient(view: View) -> Job {
+/// This of the runs as their steps stand, where refusals do not count.
+fn lenient(asked: Ask) -> Job {
     Job {
-        command: Command::Plain(view),
+        command: Command::Show(asked),
+        settled: false,
         documents: Documents::All,
         strict: false,
     }
 }
 
 fn whole_trace(alloc: Global) -> Job {
-    lenient(View::Trace(Selection {
+    lenient(Ask::Trace(Selection {
         places: Places {
             from: 0,
             to: u32::MAX,
@@ -146,6 +148,6 @@ fn compared_document(alloc: Global, ticks: u32, at: u32) -> Result<String, Alloc
 fn a_comparison_of_many_steps(rt: HostRuntime) -> Result<(), Fail> {
     let document = compared_document(rt.alloc(), TICKS, AT)?;
     let lines = comparison_lines(rt.alloc(), TICKS, AT)?;
-    check_view(&rt, &rt, &lenient(View::Compare), &document, &lines);
+    check_view(&rt, &rt, &lenient(Ask::Compare), &document, &lines);
     Ok(())
 }

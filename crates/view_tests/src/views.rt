@@ -4,11 +4,12 @@ use crate::samples::{FIRST_RUN, NO_NINTH, SHARED_MUTEX, TWO_NOTES};
 use program_io::Counted;
 use ranked_changes::Silent;
 use run_views::Places;
+use shown_runs::{Ask, Selection};
 use std::alloc::{AllocError, Global};
 use std::process::Abort;
 use std::test::Fail;
 use std::thread::Threads;
-use view_commands::{Command, Documents, Job, Selection, View, run};
+use view_commands::{Command, Documents, Job, run};
 
 const COMPARED: &str =
     "  0 0 mutex_take core 1 by logger mutex 0 ticks 0: true: the mutex was taken; control logger
@@ -65,30 +66,31 @@ pub(crate) const KEPT: &str =
 
 #[test]
 fn views(rt: HostRuntime) -> Result<(), Fail> {
-    expect(&rt, &rt, View::Compare, SHARED_MUTEX, COMPARED, NO_NINTH);
-    expect(&rt, &rt, View::Compare, FIRST_RUN, UNEDITED, "");
-    expect(&rt, &rt, View::Session, SHARED_MUTEX, KEPT, NO_NINTH);
+    expect(&rt, &rt, Ask::Compare, SHARED_MUTEX, COMPARED, NO_NINTH);
+    expect(&rt, &rt, Ask::Compare, FIRST_RUN, UNEDITED, "");
+    expect(&rt, &rt, Ask::Session, SHARED_MUTEX, KEPT, NO_NINTH);
     expect_traces(&rt, &rt)?;
     Ok(())
 }
 
 #[test]
 fn views_of_two_notifications(rt: HostRuntime) -> Result<(), Fail> {
-    expect(&rt, &rt, View::Compare, TWO_NOTES, INDEXED, "");
-    expect(&rt, &rt, View::Session, TWO_NOTES, INDEXED_KEPT, "");
+    expect(&rt, &rt, Ask::Compare, TWO_NOTES, INDEXED, "");
+    expect(&rt, &rt, Ask::Session, TWO_NOTES, INDEXED_KEPT, "");
     Ok(())
 }
 
 fn expect<R: Threads + Abort + Sync>(
     rt: &R,
     host: &HostRuntime,
-    view: View,
+    asked: Ask,
     document: &str,
     wanted: &str,
     note: &str,
 ) {
     let job = Job {
-        command: Command::Plain(view),
+        command: Command::Show(asked),
+        settled: false,
         documents: Documents::All,
         strict: false,
     };
@@ -131,14 +133,14 @@ fn expect_traces<R: Threads + Abort + Sync>(rt: &R, host: &HostRuntime) -> Resul
     Ok(())
 }
 
-fn trace_of(alloc: Global, task: &str, core: Option<u32>) -> Result<View, AllocError> {
+fn trace_of(alloc: Global, task: &str, core: Option<u32>) -> Result<Ask, AllocError> {
     let mut tasks = Vec::new(alloc);
     tasks.push(String::from_str(alloc, task)?)?;
     let mut cores = Vec::new(alloc);
     if let Some(core) = core {
         cores.push(core)?;
     }
-    Ok(View::Trace(Selection {
+    Ok(Ask::Trace(Selection {
         places: Places {
             from: 0,
             to: u32::MAX,

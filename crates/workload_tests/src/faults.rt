@@ -1,7 +1,7 @@
 //! Texts that are no workloads, and why and where: worked out by hand from the format's
 //! description.
 
-use crate::texts::workload;
+use crate::texts::{nested, workload};
 use bench_types::Fault;
 use session_text::Why;
 use std::alloc::Global;
@@ -124,19 +124,6 @@ fn interrupts_that_are_refused(rt: HostRuntime) -> Result<(), Fail> {
         check_interrupt(&rt, rt.alloc(), case)?;
     }
     Ok(())
-}
-
-/// A work in so many loops, one in another.
-fn nested(alloc: Global, loops: usize) -> Result<String, Fail> {
-    let mut text = String::new(alloc);
-    for _ in 0..loops {
-        text.push_str("{\"repeat\":1,\"of\":[")?;
-    }
-    text.push_str("{\"work\":1}")?;
-    for _ in 0..loops {
-        text.push_str("]}")?;
-    }
-    Ok(text)
 }
 
 #[test]

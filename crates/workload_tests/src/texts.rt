@@ -19,3 +19,16 @@ pub(crate) fn workload(
         "{SETTINGS}\"tasks\":[{{\"name\":\"control\",\"priority\":3,\"mask\":3,\"program\":[{items}]}},{IDLER}],\"interrupts\":[{interrupts}],\"ticks\":{ticks}}}"
     )
 }
+
+/// A work in so many loops, one in another.
+pub(crate) fn nested(alloc: Global, loops: usize) -> Result<String, AllocError> {
+    let mut text = String::new(alloc);
+    for _ in 0..loops {
+        text.push_str("{\"repeat\":1,\"of\":[")?;
+    }
+    text.push_str("{\"work\":1}")?;
+    for _ in 0..loops {
+        text.push_str("]}")?;
+    }
+    Ok(text)
+}

@@ -6,6 +6,7 @@ use Rattle.bench_types.specs.declared.note.NotifyAction.{NotifyAction}
 use Rattle.bench_types.specs.declared.core_action.CoreAction.TheVariants as core_action
 use Rattle.session_text.specs.declared.call.CallKind.{CallKind}
 use Rattle.session_text.specs.declared.call.CallKind.TheVariants as callkind
+use Rattle.session_text.specs.declared.detail.BrokenRule.TheVariants.{NoWorks}
 use Rattle.session_text.specs.declared.detail.Detail.TheVariants as detail
 use Rattle.session_text.specs.declared.detail.Expected.TheVariants.{Number}
 use Rattle.session_text.specs.declared.fault.TextFault.{TextFault}
@@ -49,7 +50,8 @@ work_number_at at d = typed Number d (as_u32 d) at
 
 -- a list has a work at least, or H2 there
 abbrev pub some_at : List ℕ → List ℕ → Result (List ℕ) TextFault
-some_at at works = if length works == 0 then Err (bad_shape at detail.None) else Ok works
+some_at at works =
+    if length works == 0 then Err (bad_shape at (detail.Rule NoWorks)) else Ok works
 
 -- one work, or a list of them
 abbrev pub works_or : List ℕ → Data → Option Items → Result (List ℕ) TextFault

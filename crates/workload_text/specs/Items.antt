@@ -4,6 +4,7 @@ use Rattle.std.specs.List.{flat_map}
 use Rattle.serde_json.specs.Data.{Data, Items, no_items, item}
 use Rattle.serde_json.specs.Find.{get, as_array}
 use Rattle.bench_types.specs.declared.fault.Fault.TheVariants.{BadArgument}
+use Rattle.session_text.specs.declared.detail.BrokenRule.TheVariants.{Nesting}
 use Rattle.session_text.specs.declared.detail.Detail.TheVariants as detail
 use Rattle.session_text.specs.declared.detail.Expected.TheVariants.{Array}
 use Rattle.session_text.specs.declared.fault.TextFault.{TextFault}
@@ -15,6 +16,7 @@ use Rattle.session_text.specs.ReadingRules.{◌>>=◌}
 use Rattle.task_programs.specs.declared.instruction.Instruction.{Instruction}
 use Rattle.task_programs.specs.declared.instruction.Instruction.TheVariants as instruction
 use Rattle.task_programs.specs.declared.instruction.ProgramCall.{ProgramCall}
+use Rattle.task_programs.specs.Limits.{max_nesting}
 use Rattle.workload_text.specs.declared.head.Head.{Head}
 use Rattle.workload_text.specs.declared.head.Head.TheVariants as head
 use Rattle.workload_text.specs.Heads.{head_at, only_of}
@@ -71,8 +73,11 @@ loop_item rounds start body =
 
 -- F5 at the item in which they stand: too many stand around them
 abbrev pub nested_fault : List ℕ → TextFault
-nested_fault at =
-    record { why = Bench BadArgument; path = path_text at; detail = detail.None }
+nested_fault at = record {
+  why = Bench BadArgument;
+  path = path_text at;
+  detail = detail.Rule (Nesting max_nesting);
+}
 
 abbrev pub none_inside : List ℕ → Items → Result (List Instruction) TextFault
 none_inside outer no_items = Ok []

@@ -1,4 +1,5 @@
 pub mod Documents
+pub mod Edits
 pub mod Heads
 pub mod Interrupts
 pub mod Items

@@ -5,6 +5,7 @@ use Rattle.serde_json.specs.Find.{get}
 use Rattle.bench_types.specs.declared.flaw.HeaderFlaw.{HeaderFlaw}
 use Rattle.bench_types.specs.declared.header.Header.{Header}
 use Rattle.bench_types.specs.declared.header.TaskArgs.{TaskArgs}
+use Rattle.session_text.specs.declared.detail.BrokenRule.TheVariants as rules
 use Rattle.session_text.specs.declared.detail.Detail.{Detail}
 use Rattle.session_text.specs.declared.detail.Detail.TheVariants as detail
 use Rattle.session_text.specs.declared.fault.TextFault.{TextFault}
@@ -28,6 +29,7 @@ use Rattle.task_programs.specs.declared.instruction.Instruction.{Instruction}
 use Rattle.task_programs.specs.declared.workload.Interrupt.{Interrupt}
 use Rattle.task_programs.specs.declared.workload.Workload.{Workload}
 use Rattle.task_programs.specs.Flaw.{workload_fault}
+use Rattle.task_programs.specs.Limits.{max_items, max_nesting, max_ticks}
 use Rattle.task_programs.specs.Workloads.{workload_flaw}
 use Rattle.workload_text.specs.Interrupts.{interrupts_at}
 use Rattle.workload_text.specs.Items.{branch_at, items_at}
@@ -119,18 +121,33 @@ flaw_path at workload (workloads.Interrupt index flaw) =
     item_path (member_path at (codes "interrupts")) index
 flaw_path at workload (workloads.Ticks ticks) = member_path at (codes "ticks")
 
+-- what is known of a flaw; no program that was read is misplaced
 abbrev pub instruction_detail : InstructionFlaw → Detail
+instruction_detail instructions.Unreached = detail.Rule rules.Unreached
+instruction_detail instructions.NoWork = detail.Rule rules.NoWork
 instruction_detail (instructions.Step flaw) = detail.Step flaw
-instruction_detail other = detail.None
+instruction_detail instructions.Finish = detail.Rule rules.Finish
+instruction_detail instructions.NoRounds = detail.Rule rules.NoRounds
+instruction_detail instructions.NoBody = detail.Rule rules.NoBody
+instruction_detail instructions.NoLoop = detail.Rule rules.NoLoop
+instruction_detail instructions.Nesting = detail.Rule (rules.Nesting max_nesting)
+instruction_detail instructions.Misplaced = detail.None
 
+-- no workload that was read has an interrupt that is none
 abbrev pub interrupt_detail : InterruptFlaw → Detail
+interrupt_detail interrupts.NoPeriod = detail.Rule rules.NoPeriod
+interrupt_detail interrupts.NoInterrupt = detail.None
 interrupt_detail (interrupts.Step flaw) = detail.Step flaw
-interrupt_detail other = detail.None
 
+-- the header of a workload that was read is accepted, and it has a program for each task
 abbrev pub flaw_detail : WorkloadFlaw → Detail
+flaw_detail (workloads.Header flaw) = detail.None
+flaw_detail workloads.NoQueues = detail.None
+flaw_detail (workloads.Programs count) = detail.None
+flaw_detail workloads.Items = detail.Rule (rules.Items max_items)
 flaw_detail (workloads.Instruction task index flaw) = instruction_detail flaw
 flaw_detail (workloads.Interrupt index flaw) = interrupt_detail flaw
-flaw_detail other = detail.None
+flaw_detail (workloads.Ticks ticks) = detail.Rule (rules.Ticks max_ticks)
 
 abbrev pub flaw_told : List ℕ → Workload → WorkloadFlaw → TextFault
 flaw_told at workload flaw = record {

@@ -12,8 +12,8 @@ ghost use Rattle.workload_text.specs.Heads.{break_at, call_head_at, form_of, for
 use bench_types::{Call, Items, NotifyAction};
 use json_data::Item;
 use session_text::{
-    CallKind, Detail, Expected, Format, Kind, Location, Names, Node, ReadFault, ReadItem, Stray,
-    call_at, each,
+    BrokenRule, CallKind, Detail, Expected, Format, Kind, Location, Names, Node, ReadFault,
+    ReadItem, Stray, call_at, each,
 };
 use task_programs::ProgramCall;
 
@@ -71,7 +71,7 @@ fn break_at(node: &Node<'_, '_, '_>, word: &str) -> Result<Head, ReadFault>
     }
 }
 
-fn as_u32(value: &Item<'_, '_>) -> Option<u32>
+pub(crate) fn as_u32(value: &Item<'_, '_>) -> Option<u32>
     ensures { result ≡ as_u32 (view value.now) }
 {
     u32::try_from(value.as_u64()?).ok()
@@ -102,7 +102,7 @@ fn some_at(node: &Node<'_, '_, '_>, works: Vec<u32>) -> Result<Vec<u32>, ReadFau
         (some_at (member_path (location_of node.now) (codes "work")) works.items) }
 {
     if works.is_empty() {
-        Err(node.bad_member("work", Detail::None))
+        Err(node.bad_member("work", Detail::Rule(BrokenRule::NoWorks)))
     } else {
         Ok(works)
     }
@@ -253,7 +253,7 @@ fn formed_at(names: &Names<'_>, form: Form, node: &Node<'_, '_, '_>) -> Result<H
 }
 
 #[tactic(auto, unfolding(crate::specs::Heads::object_head_at))]
-fn object_head_at(names: &Names<'_>, node: &Node<'_, '_, '_>) -> Result<Head, ReadFault>
+pub(crate) fn object_head_at(names: &Names<'_>, node: &Node<'_, '_, '_>) -> Result<Head, ReadFault>
     ensures { Gives (λ head. head) result
         (object_head_at names.now (location_of node.now) (data_of node.now)) }
 {
@@ -310,7 +310,7 @@ fn members_of_call(call: Call) -> &'static [&'static str]
     }
 }
 
-fn members_of_head(head: &Head) -> &'static [&'static str]
+pub(crate) fn members_of_head(head: &Head) -> &'static [&'static str]
     ensures { map (λ name. name.now) result.now ≡ members_of_head head.now }
 {
     match head {

@@ -9,9 +9,9 @@ ghost use Rattle.workload_text.specs.Items.{branch_at, call_at, call_item, call_
 use crate::head::{Head, head_at, only_of};
 use bench_types::{Fault, Items};
 use json_data::Gathered;
-use session_text::{Detail, Expected, Location, Names, Node, ReadFault, Why};
+use session_text::{BrokenRule, Detail, Expected, Location, Names, Node, ReadFault, Why};
 use std::alloc::{AllocError, Global};
-use task_programs::{Instruction, ProgramCall};
+use task_programs::{Instruction, MAX_NESTING, ProgramCall};
 
 /// So many instructions on. An accepted program ends long before the greatest index.
 fn further(index: u32, count: usize) -> u32
@@ -166,7 +166,8 @@ fn nested_fault(outer: &Node<'_, '_, '_>) -> ReadFault
     ensures { StopsAt (nested_fault (location_of outer.now)) result }
 {
     let why = Why::Bench(Fault::BadArgument);
-    ReadFault::at(outer.alloc, outer.location, why, Detail::None)
+    let rule = BrokenRule::Nesting(MAX_NESTING);
+    ReadFault::at(outer.alloc, outer.location, why, Detail::Rule(rule))
 }
 
 /// Reads the items of programs, under the names of the tasks.
@@ -195,7 +196,7 @@ fn item_at(
 }
 
 #[cycle(items)]
-fn headed_at(
+pub(crate) fn headed_at(
     reader: &ItemReader<'_, '_>,
     room: u32,
     head: &Head,

@@ -7,9 +7,9 @@ ghost use Rattle.task_programs.specs.Flaw.{instruction_fault};
 ghost use Rattle.workload_text.specs.Places.{end_at, item_with, loop_word, part_of, place_in};
 ghost use Rattle.workload_text.specs.Workloads.{instruction_detail};
 
-use session_text::{Detail, Location, ReadFault, Why};
+use session_text::{BrokenRule, Detail, Location, ReadFault, Why};
 use std::alloc::Global;
-use task_programs::{Instruction, InstructionFlaw};
+use task_programs::{Instruction, InstructionFlaw, MAX_NESTING};
 
 /// The index behind the item that begins at the index, which may be past the last instruction.
 fn end_at(program: &[Instruction], index: usize) -> usize
@@ -63,12 +63,20 @@ fn part_of(program: &[Instruction], index: usize, start: usize) -> Option<(&'sta
     }
 }
 
+// What is known of the flaw. No program that was read is misplaced.
 fn instruction_detail(flaw: InstructionFlaw) -> Detail
     ensures { result ≡ instruction_detail flaw }
 {
     match flaw {
+        InstructionFlaw::Unreached => Detail::Rule(BrokenRule::Unreached),
+        InstructionFlaw::NoWork => Detail::Rule(BrokenRule::NoWork),
         InstructionFlaw::Step(flaw) => Detail::Step(flaw),
-        _ => Detail::None,
+        InstructionFlaw::Finish => Detail::Rule(BrokenRule::Finish),
+        InstructionFlaw::NoRounds => Detail::Rule(BrokenRule::NoRounds),
+        InstructionFlaw::NoBody => Detail::Rule(BrokenRule::NoBody),
+        InstructionFlaw::NoLoop => Detail::Rule(BrokenRule::NoLoop),
+        InstructionFlaw::Nesting => Detail::Rule(BrokenRule::Nesting(MAX_NESTING)),
+        InstructionFlaw::Misplaced => Detail::None,
     }
 }
 

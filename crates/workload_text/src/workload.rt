@@ -21,13 +21,13 @@ use crate::place::Flawed;
 use bench_types::{Header, HeaderFlaw, Items};
 use json_data::{Document, Gathered, Scratch};
 use session_text::{
-    Detail, Format, Location, Names, Node, ReadFault, ReadItem, TaskShape, TextFault, Why,
-    document, judged_header, known_names, list_at, settings_at,
+    BrokenRule, Detail, Format, Location, Names, Node, ReadFault, ReadItem, TaskShape, TextFault,
+    Why, document, judged_header, known_names, list_at, settings_at,
 };
 use std::alloc::Global;
 use task_programs::{
-    CheckedWorkload, Instruction, InstructionFlaw, Interrupt, InterruptFlaw, Program, Workload,
-    WorkloadFlaw,
+    CheckedWorkload, Instruction, InstructionFlaw, Interrupt, InterruptFlaw, MAX_ITEMS, MAX_TICKS,
+    Program, Workload, WorkloadFlaw,
 };
 
 /// How often lists of items stand in one another at most.
@@ -60,7 +60,8 @@ fn workload_in(alloc: Global, document: &Document<'_>) -> Result<CheckedWorkload
     })
 }
 
-fn document_at(node: &Node<'_, '_, '_>) -> Result<CheckedWorkload, ReadFault>
+/// The workload that the value is, or that is its member `workload`.
+pub fn document_at(node: &Node<'_, '_, '_>) -> Result<CheckedWorkload, ReadFault>
     ensures { Gives (λ workload. workload) result
         (document_at (location_of node.now) (data_of node.now)) }
 {
@@ -90,8 +91,9 @@ fn held_at(
     accepted_under(&inner, shapes)
 }
 
+/// The workload that the value is.
 #[tactic(auto, unfolding(crate::specs::Workloads::workload_at))]
-fn workload_at(node: &Node<'_, '_, '_>) -> Result<CheckedWorkload, ReadFault>
+pub fn workload_at(node: &Node<'_, '_, '_>) -> Result<CheckedWorkload, ReadFault>
     ensures { Gives (λ workload. workload) result
         (workload_at (location_of node.now) (data_of node.now)) }
 {
@@ -101,9 +103,9 @@ fn workload_at(node: &Node<'_, '_, '_>) -> Result<CheckedWorkload, ReadFault>
 
 /// What a document has.
 #[derive(Drop)]
-struct Shapes {
+pub struct Shapes {
     /// Accepted or not.
-    header: Result<Header, HeaderFlaw>,
+    pub header: Result<Header, HeaderFlaw>,
     programs: Vec<Program>,
     interrupts: Vec<Interrupt>,
     ticks: u32,
@@ -195,8 +197,9 @@ fn contents_at(
     node: &Node<'_, '_, '_>,
 ) -> Result<Shapes, ReadFault>
     requires { ForOk header IsCheckedHeader }
-    ensures { Gives shapes_view result
+    ensures reading { Gives shapes_view result
         (contents_at header (location_of node.now) (data_of node.now)) }
+    ensures valid { IfOk result (λ shapes. IfOk shapes.header IsCheckedHeader) }
 {
     let names = known_names(node.alloc, &header)?;
     let programs = programs_at(&names, node)?;
@@ -213,8 +216,10 @@ fn contents_at(
 
 /// What the document has: shapes alone are judged.
 #[tactic(auto, unfolding(crate::specs::Workloads::shapes_at))]
-fn shapes_at(node: &Node<'_, '_, '_>) -> Result<Shapes, ReadFault>
-    ensures { Gives shapes_view result (shapes_at (location_of node.now) (data_of node.now)) }
+pub fn shapes_at(node: &Node<'_, '_, '_>) -> Result<Shapes, ReadFault>
+    ensures reading { Gives shapes_view result
+        (shapes_at (location_of node.now) (data_of node.now)) }
+    ensures valid { IfOk result (λ shapes. IfOk shapes.header IsCheckedHeader) }
 {
     let members = node.object()?;
     format_at(node)?;
@@ -241,7 +246,7 @@ fn shapes_at(node: &Node<'_, '_, '_>) -> Result<Shapes, ReadFault>
 }
 
 /// The workload, or F1 for the flaw of its header, or the fault of its first flaw.
-fn accepted_under(node: &Node<'_, '_, '_>, shapes: Shapes) -> Result<CheckedWorkload, ReadFault>
+pub fn accepted_under(node: &Node<'_, '_, '_>, shapes: Shapes) -> Result<CheckedWorkload, ReadFault>
     ensures { Gives (λ workload. workload) result
         (accepted_under (location_of node.now) shapes.header shapes.programs.items
         shapes.interrupts.items shapes.ticks) }
@@ -286,7 +291,8 @@ fn flaw_told(node: &Node<'_, '_, '_>, workload: &Workload, flaw: WorkloadFlaw) -
         }
         WorkloadFlaw::Items => {
             let location = Location::Member(node.location, "tasks");
-            ReadFault::at(node.alloc, &location, why, Detail::None)
+            let rule = BrokenRule::Items(MAX_ITEMS);
+            ReadFault::at(node.alloc, &location, why, Detail::Rule(rule))
         }
         WorkloadFlaw::Instruction { task, index, flaw } => {
             instruction_told(node, workload, task, index, flaw)
@@ -294,17 +300,20 @@ fn flaw_told(node: &Node<'_, '_, '_>, workload: &Workload, flaw: WorkloadFlaw) -
         WorkloadFlaw::Interrupt { index, flaw } => interrupt_told(node, index, flaw),
         WorkloadFlaw::Ticks(_) => {
             let location = Location::Member(node.location, "ticks");
-            ReadFault::at(node.alloc, &location, why, Detail::None)
+            let rule = BrokenRule::Ticks(MAX_TICKS);
+            ReadFault::at(node.alloc, &location, why, Detail::Rule(rule))
         }
     }
 }
 
+// No workload that was read has an interrupt that is none.
 fn interrupt_detail(flaw: InterruptFlaw) -> Detail
     ensures { result ≡ interrupt_detail flaw }
 {
     match flaw {
+        InterruptFlaw::NoPeriod => Detail::Rule(BrokenRule::NoPeriod),
+        InterruptFlaw::NoInterrupt => Detail::None,
         InterruptFlaw::Step(flaw) => Detail::Step(flaw),
-        _ => Detail::None,
     }
 }
 

@@ -1,21 +1,27 @@
-use Rattle.std.proofs.Common.{◌≡◌, sym, subst}
+use Rattle.std.proofs.Common.{◌≡◌, ◌++◌, ◌∙◌, [], List, ap, ap₂, cond, sym, subst}
 use Rattle.std.specs.Prelude.{All}
+use Rattle.bench_types.specs.declared.header.Header.{Header}
+use Rattle.bench_types.specs.declared.step.Step.{Step}
+use Rattle.run_sources.proofs.CheckedSources.{header_checked}
+use Rattle.ranked_changes.specs.declared.change.Change.{Change}
 use Rattle.ranked_changes.specs.Changed.{IsChangeOf}
-use Rattle.ranked_changes.specs.Changes.{changes_of}
+use Rattle.ranked_changes.specs.Changes.{changes_of, mask_changes, order_changes, priority_changes}
 use Rattle.ranked_changes.proofs.Allowed.{allowed}
 use Rattle.ranked_changes.proofs.changes.changes_of.Goals as goal
 
+pub returns-clause-changes : goal.returns-clause-changes
+returns-clause-changes c =
+    let family = c.args.family in
+    let header = c.header-header.ensures.header in
+    c.in_ok-append-2.ensures.items
+    ∙ ap₂ (λ (some more : List Change). some ++ more)
+    (c.in_ok-append.ensures.items
+    ∙ ap₂ (λ (some more : List Change). some ++ more)
+    (c.in_ok-changes.ensures ∙ ap (λ (header : Header). cond family.priority (priority_changes header) []) header)
+    (c.in_ok-masks.ensures ∙ ap (mask_changes family) header))
+    (c.in_ok-orders.ensures ∙ ap (λ (steps : List Step). cond family.order (order_changes steps) []) c.steps.ensures.steps)
+
 pub returns-clause-allowed : goal.returns-clause-allowed
 returns-clause-allowed c =
-    let session = c.args.session.now in
-    let same : c.append-2.new.self.items ≡ changes_of session c.args.family =
-    cc (
-      c.in_ok-append-2.ensures.items,
-      c.in_ok-append.ensures.items,
-      c.in_ok-changes.ensures,
-      c.in_ok-masks.ensures,
-      c.in_ok-orders.ensures,
-      c.header-header.ensures.header,
-      c.steps.ensures.steps,
-    ) in
-    subst (All (IsChangeOf session)) (sym same) (allowed session c.header-header.ensures.checked.checked c.args.family)
+    let source = c.args.source.now in
+    subst (All (IsChangeOf source)) (sym (returns-clause-changes c)) (allowed source (header_checked source c.header-header.ensures.checked) c.args.family)

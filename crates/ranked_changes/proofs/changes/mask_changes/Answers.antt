@@ -10,4 +10,4 @@ pub loop-task-preserved : goal.loop-task-preserved
 loop-task-preserved c =
     let header = c.args.header.now in
     c.in_ok-append.ensures.items ∙ ap₂ (λ (done more : List Change). done ++ more) c.loop-task.invariant c.in_ok-more.ensures
-    ∙ sym (flat_map_more (λ task. map (Mask task) (other_masks header task)) header.config.cores c.loop-task.task (omega arith))
+    ∙ sym (flat_map_more (λ task. map (Mask task) (other_masks c.args.family header task)) header.config.cores c.loop-task.task (omega arith))

@@ -7,5 +7,5 @@ use Rattle.ranked_changes.proofs.changes.mask_changes.Given as goal
 abbrev pub invariant-loop-task : goal.invariant-loop-task
 invariant-loop-task l =
     l.changes.items
-    ≡ flat_map (λ task. map (Mask task) (other_masks l.header task))
+    ≡ flat_map (λ task. map (Mask task) (other_masks l.family l.header task))
     (range_with_len l.header.config.cores (l.task - l.header.config.cores))

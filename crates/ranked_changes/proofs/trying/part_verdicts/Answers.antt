@@ -11,9 +11,9 @@ use Rattle.ranked_changes.proofs.trying.part_verdicts.Goals as goal
 
 pub returns : goal.returns
 returns g c =
-    let session = c.args.session.now in
+    let source = c.args.source.now in
     let slice = ap (λ it. it.slice.now) c.map.ensures.base ∙ c.par_iter.ensures in
     IfOk-then c.collect.result _ _ c.collect.ensures (λ v h.
     let chain = rw (c.with_min_len.ensures.base, c.map.ensures.f) at h.1 in
     rw h.2 (slice-AllZip chain.0 c.args.changes.now (chain.1 ∙ slice) (λ (made : Change) (verdict : Result Verdict AllocError). IfOk verdict
-    (IsVerdict c.args.judge (changed session made))) h.0 chain.2))
+    (IsVerdict c.args.judge (changed source made))) h.0 chain.2))

@@ -1,4 +1,4 @@
-use Rattle.std.proofs.Common.{◌≡◌, ◌∙◌, true}
+use Rattle.std.proofs.Common.{◌∙◌}
 use Rattle.run_comparisons.proofs.SameSteps.{same_calls}
 use Rattle.run_comparisons.proofs.alike.are_same_calls.Goals as goal
 

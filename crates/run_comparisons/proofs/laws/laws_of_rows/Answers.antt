@@ -1,13 +1,11 @@
-use Rattle.run_comparisons.proofs.Moved.{moved_stand_together, rows_are_of_one}
+use Rattle.run_comparisons.proofs.MadePairs.{each_stands}
 use Rattle.run_comparisons.proofs.NoDifference.{no_difference_is_said}
-use Rattle.run_comparisons.proofs.Tiling.{each_after, each_before}
+use Rattle.run_comparisons.proofs.WithItself.{alone_is_with_itself}
 use Rattle.run_comparisons.proofs.laws.laws_of_rows.Goals as goal
 
 pub returns : goal.returns
 returns c = record {
-  before = each_before;
-  after = each_after;
-  moved = moved_stand_together;
-  one = rows_are_of_one;
+  each = each_stands;
   said = no_difference_is_said;
+  alone = alone_is_with_itself;
 }

@@ -1,4 +1,4 @@
-use Rattle.std.proofs.Common.{◌≡◌, ◌∙◌, true, sym}
+use Rattle.std.proofs.Common.{◌∙◌, sym}
 use Rattle.run_comparisons.proofs.SameSteps.{same_steps}
 use Rattle.run_comparisons.proofs.made.is_same_step.Goals as goal
 

@@ -2,6 +2,7 @@ use Rattle.std.proofs.Common.{◌≡◌, ℕ, List, ◌++◌, append_assoc, code
 use Rattle.std.specs.Prelude.{OnOk}
 use Rattle.bench_types.specs.declared.header.Header.{Header}
 use Rattle.report_figures.specs.Limits.{value_text}
+use Rattle.run_sources.specs.Sources.{header_of}
 use Rattle.session_advice.specs.Advice.{head_line}
 use Rattle.session_advice.proofs.entries.push_head.Goals as goal
 
@@ -12,7 +13,7 @@ pub returns : goal.returns
 unfolding head_line
 returns c =
     let judged = c.args.base.now.judged in
-    let value : List ℕ = value_text c.args.base.now.session.now.header judged in
+    let value : List ℕ = value_text (header_of c.args.base.now.source.now) judged in
     let words : List ℕ = codes " changes tried\n" in
     let same = ap (λ (bytes : List ℕ). bytes ++ (codes "; " ++ (decimal c.args.count ++ words)))
     (c.in_ok-push_value.ensures ∙ ap (λ (header : Header). string_bytes c.args.text.now ++ value_text header judged) c.header.ensures.header)

@@ -7,5 +7,6 @@ returns c =
     let words = c.args.words.now in
     let priority = c.has_word.ensures ∙ lent_word (codes "priority") words in
     let mask = c.has_word-2.ensures ∙ lent_word (codes "mask") words in
-    let order = c.has_word-3.ensures ∙ lent_word (codes "order") words in
-    λ t. record { priority = priority t; mask = mask t; order = order t }
+    let pin = c.has_word-3.ensures ∙ lent_word (codes "pin") words in
+    let order = c.has_word-4.ensures ∙ lent_word (codes "order") words in
+    λ t. record { priority = priority t; mask = mask t; pin = pin t; order = order t }

@@ -3,8 +3,8 @@ use Rattle.std.specs.List.{list_all}
 use Rattle.clap.specs.Words.{Text, found_of, rows_of}
 use Rattle.report_figures.specs.declared.limits.Bound.TheVariants.{AtMost, AtLeast}
 use Rattle.session_reports.specs.Asked.{Asked}
-use Rattle.view_commands.specs.declared.request.Command.TheVariants.{Check}
-use Rattle.view_commands.specs.Options.{is_limit, limits_from, limits_in, settle_in, texts_in}
+use Rattle.shown_runs.specs.declared.ask.Ask.TheVariants.{Check}
+use Rattle.view_commands.specs.Options.{is_limit, limits_from, limits_in, texts_in}
 use Rattle.view_commands.proofs.Texts.{lent_are_limits, lent_limits}
 use Rattle.view_commands.proofs.options.check_of.Goals as goal
 
@@ -25,7 +25,7 @@ returns-then-not-are_limits c =
     let same = c.are_limits.ensures ∙ ap₂ are_lent c.as_slice-most.ensures.value c.as_slice-least.ensures.value
     ∙ lent_are_limits c.in_ok-most.most.items c.in_ok-least.least.items some more c.in_ok-most.ensures c.in_ok-least.ensures in
     let no : c.are_limits.result ≡ false = grind (arith, c.if-not-are_limits.true) in
-    sym (ap (λ (is : Bool). if is then Some (Check (record { settled = settle_in rows; limits = limits_in rows })) else None) (sym same ∙ no))
+    sym (ap (λ (is : Bool). if is then Some (Check (limits_in rows)) else None) (sym same ∙ no))
 
 pub returns : goal.returns
 returns c =
@@ -35,7 +35,7 @@ returns c =
     let same = c.are_limits.ensures ∙ ap₂ are_lent c.as_slice-most.ensures.value c.as_slice-least.ensures.value
     ∙ lent_are_limits c.in_ok-most.most.items c.in_ok-least.least.items some more c.in_ok-most.ensures c.in_ok-least.ensures in
     let yes : c.are_limits.result ≡ true = grind (arith, c.if-not-are_limits.false) in
-    let limits = c.in_ok-limits_in.ensures ∙ ap₂ lent c.as_slice-most.ensures.value c.as_slice-least.ensures.value
+    let limits = c.new.ensures ∙ c.in_ok-limits_in.ensures ∙ ap₂ lent c.as_slice-most.ensures.value c.as_slice-least.ensures.value
     ∙ lent_limits c.in_ok-most.most.items c.in_ok-least.least.items some more c.in_ok-most.ensures c.in_ok-least.ensures in
-    (λ t. Some (Check (record { settled = c.settle_in.ensures t; limits = limits t })))
-    ∙ sym (ap (λ (is : Bool). if is then Some (Check (record { settled = settle_in rows; limits = limits_in rows })) else None) (sym same ∙ yes))
+    (λ t. Some (Check (limits t)))
+    ∙ sym (ap (λ (is : Bool). if is then Some (Check (limits_in rows)) else None) (sym same ∙ yes))

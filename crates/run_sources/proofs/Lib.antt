@@ -1,0 +1,3 @@
+pub mod CheckedSources
+mod TrueFaults
+pub mod SourceRuns

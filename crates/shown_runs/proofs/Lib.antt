@@ -1,0 +1,2 @@
+mod Drawings
+mod NamesFound

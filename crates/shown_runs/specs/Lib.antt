@@ -1,0 +1,10 @@
+pub mod Checks
+pub mod Interests
+pub mod Pages
+pub mod Parts
+pub mod Pictures
+pub mod Reports
+pub mod Runs
+pub mod Selected
+pub mod Told
+pub mod Traces

@@ -1,5 +1,0 @@
-use Rattle.view_commands.proofs.OneView.{one_view}
-use Rattle.view_commands.proofs.answer.law_of_views.Goals as goal
-
-pub returns : goal.returns
-returns c = one_view

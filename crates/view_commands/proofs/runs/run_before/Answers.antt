@@ -1,0 +1,11 @@
+use Rattle.std.proofs.Common.{rules, ◌≡◌, OnOk, subst}
+use Rattle.run_sources.specs.declared.source.Source.{Source}
+use Rattle.run_sources.specs.declared.source.Source.TheVariants as source
+use Rattle.run_sources.specs.Sources.{IsSourceTooLong}
+use Rattle.view_commands.specs.EditedSources.{before_of}
+use Rattle.view_commands.proofs.runs.run_before.Goals as goal
+
+pub returns-in-Settled-clause-short : goal.returns-in-Settled-clause-short
+returns-in-Settled-clause-short c =
+    let same : source.Settled c.session-in-Settled.result.now ≡ before_of c.args.source.now = search rules in
+    subst (λ (one : Source). OnOk c.settled_run.result (¬ IsSourceTooLong one)) same c.settled_run.ensures.short

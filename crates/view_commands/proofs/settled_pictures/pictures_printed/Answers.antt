@@ -1,9 +1,0 @@
-use Rattle.std.proofs.Common.{Err, ap}
-use Rattle.settling.specs.declared.run.SettleFault.{SettleFault}
-use Rattle.view_commands.proofs.PicturesPrinted.{long_pictures}
-use Rattle.view_commands.proofs.settled_pictures.pictures_printed.Goals as goal
-
-pub returns-in-Err : goal.returns-in-Err
-returns-in-Err g c =
-    long_pictures c.args.extent c.args.edited.now.session c.args.edited.now.edits c.in-Err.fault c.not_settled.result
-    (λ is. c.in-Err.ensures.long (ap (λ (fault : SettleFault). Err fault) is)) c.not_settled.ensures.why c.not_settled.ensures.line

@@ -1,0 +1,58 @@
+-- Why nothing is told of an input.
+use Rattle.std.specs.Prelude.{ℕ, List, [], ◌++◌, codes, decimal, Option}
+use Rattle.bench_types.specs.declared.header.Header.{Header}
+use Rattle.bench_types.specs.Limits.{max_steps}
+use Rattle.program_io.specs.Hint.{too_long_line, too_many_steps_line}
+use Rattle.program_io.specs.Outputs.{Printed, refusal}
+use Rattle.program_io.specs.Refusal.{refusal_line}
+use Rattle.simulating.specs.Notes.{too_long_text}
+use Rattle.task_programs.specs.Limits.{max_ticks}
+
+-- a refusal line, and what people are told
+abbrev pub refused_lines : List ℕ → List ℕ → Printed
+refused_lines line hint = refusal (line ++ hint)
+
+-- the refusal line of a code, and what people are told
+abbrev pub refused_for : List ℕ → List ℕ → Printed
+refused_for code hint = refused_lines (refusal_line code []) hint
+
+-- H3: the input is too long
+abbrev pub too_long_input : Printed
+too_long_input = refused_for (codes "H3") too_long_line
+
+-- J2: the session has too many steps
+abbrev pub too_many_steps : Printed
+too_many_steps = refused_for (codes "J2") too_many_steps_line
+
+-- that the settled run has more steps than a session may have
+abbrev pub settled_too_long_line : List ℕ
+settled_too_long_line =
+    codes "the settled run has more than " ++ decimal max_steps ++ codes " steps\n"
+
+-- J2: the same, with the refusal line
+abbrev pub settled_too_long : Printed
+settled_too_long = refused_for (codes "J2") settled_too_long_line
+
+-- J2: the run of a workload has more steps than a session may have, and this task alone made the
+-- last calls
+abbrev pub simulated_too_long : Header → Option ℕ → Printed
+simulated_too_long header caller =
+    refused_for (codes "J2") (too_long_text header caller ++ codes "\n")
+
+-- that there are more ticks than a workload may have
+abbrev pub too_many_ticks_line : List ℕ
+too_many_ticks_line =
+    codes "ticks: a workload goes on for " ++ decimal max_ticks ++ codes " ticks at most\n"
+
+-- F5: the same, with the refusal line
+abbrev pub too_many_ticks : Printed
+too_many_ticks = refused_lines (refusal_line (codes "F5") (codes "ticks")) too_many_ticks_line
+
+-- that a document is no workload
+abbrev pub no_workload_line : List ℕ
+no_workload_line =
+    codes "top: expected a workload, an object with ticks and with neither session nor steps\n"
+
+-- H2: the same, with the refusal line
+abbrev pub no_workload : Printed
+no_workload = refused_lines (refusal_line (codes "H2") (codes "top")) no_workload_line

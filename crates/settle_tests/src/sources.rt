@@ -163,7 +163,7 @@ fn reports_of_runs(rt: HostRuntime) -> Result<(), Fail> {
     let mut meter = Meter::new(&rt);
     let run = made(&rt, &works(alloc)?)?;
     let table = report_of_run(alloc, &mut meter, &run, false, Form::Table)?;
-    assert!(&rt; table.contains("\n             5 A.ready\n"), "{table}");
+    assert!(&rt; table.contains("\n         5 A.ready\n"), "{table}");
     let after = made(&rt, &works_on(alloc, 2)?)?;
     let table = report_of_runs(alloc, &mut meter, &run, &after, false, Form::Table)?;
     assert!(&rt;

@@ -2,11 +2,13 @@
 """Hold runs that keep work, as scripts/kept.py makes them, to their properties and to true ones.
 
 400 random documents, or as many as the first argument says, are those of check-settled.py, and each
-second one has the run of a random workload with such edits. With either order of calls at one time
+second one has the run of a random workload with such edits; in each there are edits of work too.
+With either order of calls at one time
 
 - steps from outside are all there, in their order, each as long after the start as it was
 - the calls of each task are its calls in order, and then those that are not made
 - settling the run changes nothing
+- it is known as far as a search over it and the run before the edits says
 - of calls that stand first in the list first, the run without edits is the settled run, of which no
   pass is cut and all is known
 
@@ -28,6 +30,7 @@ import sys
 from collections import Counter, defaultdict
 
 import kept
+import known
 import settle
 import workloads
 
@@ -278,6 +281,7 @@ class Count:
 
     def __init__(self):
         self.wrong, self.shares = Counter(), defaultdict(Counter)
+        self.limits = Counter()
 
     def fail(self, what, why):
         """Tell that a property fails."""
@@ -298,6 +302,9 @@ class Count:
                 self.fail(what, f"{ties}: calls")
             if settle.settle(run.session | {"steps": copy.deepcopy(steps)}) != (steps, []):
                 self.fail(what, f"{ties}: settled")
+            if run.known != known.limit(document, run):
+                self.fail(what, f"{ties}: known")
+            self.limits[run.known["why"] if run.known else "all"] += 1
         run = kept.kept({"session": copy.deepcopy(document["session"]), "edits": []})
         settled, left = settle.settle(copy.deepcopy(document["session"]))
         if (run.steps, run.left(), run.cuts, run.known) != (settled, left, 0, None):
@@ -322,8 +329,9 @@ class Count:
                 counter["told"] += 1
                 counter.update(n for n, run in runs.items() if times_in(run, units)[0] == true)
         for ties, run in kept_runs.items():
-            known = times_in(run.steps[: run.known], units)[0]
-            share[f"{ties} as far as known"] += true[: len(known)] == known
+            place = run.known["place"] if run.known else len(run.steps)
+            part = times_in(run.steps[:place], units)[0]
+            share[f"{ties} as far as known"] += true[: len(part)] == part
 
 
 # All.
@@ -331,17 +339,28 @@ class Count:
 
 def document_of(number):
     """A random document; each second one has the run of a random workload."""
-    document = documents.document(random.Random(number))
+    rng = random.Random(number)
+    document = documents.document(rng)
+    document["edits"] = with_works(rng, document["session"], document["edits"])
     if number % 2 == 0:
         return document
-    rng = random.Random(number)
     workload = shorter(random_workloads.workload_of(rng))
     try:
         session = {"notes": 1} | Simulated(workload).session
     except OverflowError:
         return document
     edits = [documents.edit(rng, session) for _ in range(rng.randint(0, 6))]
-    return {"session": session, "edits": edits}
+    return {"session": session, "edits": with_works(rng, session, edits)}
+
+
+def with_works(rng, session, edits):
+    """Edits with edits of work among them; some are at no place, or where no call stands."""
+    units = session.get("units", 1)
+    for _ in range(rng.randint(0, 3)):
+        at = rng.randint(0, len(session["steps"]))
+        work = {rng.choice(("by", "less")): rng.choice((1, max(units // 3, 1), 2 * units))}
+        edits.insert(rng.randint(0, len(edits)), {"edit": "work", "at": at, **work})
+    return edits
 
 
 def shorter(workload):
@@ -352,7 +371,7 @@ def shorter(workload):
 def workloads_of(count, first):
     """The examples and some random workloads, each under its label."""
     for path in sorted(random_workloads.EXAMPLES.glob("*.json")):
-        yield "examples", shorter(json.loads(path.read_bytes()))
+        yield "examples", shorter(workloads.edited(json.loads(path.read_bytes())))
     for number in range(first, first + count):
         yield "random", shorter(random_workloads.workload_of(random.Random(number)))
 
@@ -365,6 +384,7 @@ def main():
     for number in range(first, first + many):
         count.hold(f"document {number}", document_of(number))
     print(f"{many} documents, {sum(count.wrong.values())} properties fail")
+    print("known:", ", ".join(f"{why} {number}" for why, number in sorted(count.limits.items())))
     for label, workload in workloads_of(many // 4, first):
         try:
             ran = Simulated(workload)

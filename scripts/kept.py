@@ -35,12 +35,15 @@ before a tick in the settled run, no call comes between them: the last unit of a
 are one.
 
 The edits `{"edit": "work", "at": 7, "by": 300}`, and `"less"` for `"by"`, give the call at a place
-so many units more of work, or fewer.
+so many units more of work, or fewer, but not fewer than none: one after another, and the second
+number of such a work is 0. They are refused where no call stands. They belong to the call that
+stands there then: one that replaces it has none of them.
 
 Standard input is as for settle.py, and so is the output. With `--known` the first place from which
-nothing is known is written last, as the member `known`: the first where a step from outside is
-next though the end of a task is timely, or behind a step that ends a call with another answer
-than the step in its place had before the edits.
+nothing is known is written last, as the member `known`, with the task and with why: `end`, the
+first where a step from outside is next though the end of the task is timely, or `answer`, behind a
+step that ends a call of the task with another answer than the same call had before the edits. A
+call that replaces one of the same task is the same; one that is inserted has none before.
 """
 
 import copy
@@ -177,14 +180,21 @@ def answers_in(session, run):
 
 @dataclass
 class Item:
-    """A step of the edited list, with the clocks that it has, and what edits add to its work."""
+    """A step of the edited list, with the clocks that it has, and how edits change its work.
+
+    Where it is a call of the document or stands for one, that one's task and what it was answered.
+    """
 
     step: dict
     clocks: dict
     joined: bool
-    answer: bool | None
-    more: int = 0
-    less: int = 0
+    caller: str | None = None
+    answer: bool | None = None
+    changes: list = field(default_factory=list)
+
+    def answer_before(self):
+        """What the same call was answered before the edits."""
+        return self.answer if self.step["by"] == self.caller else None
 
 
 def apply(items, end, edit):
@@ -192,14 +202,13 @@ def apply(items, end, edit):
     at = edit.get("at")
     if edit["edit"] == "insert":
         there = items[at] if at < len(items) else end
-        items.insert(at, Item(edit["step"], there.clocks, there.joined, None))
+        items.insert(at, Item(edit["step"], there.clocks, there.joined))
     elif edit["edit"] == "remove":
         del items[at]
     elif edit["edit"] == "replace":
-        items[at].step = edit["step"]
-    elif edit["edit"] == "work":
-        items[at].more += edit.get("by", 0)
-        items[at].less += edit.get("less", 0)
+        items[at].step, items[at].changes = edit["step"], []
+    elif edit["edit"] == "work" and workloads.is_call(items[at].step):
+        items[at].changes.append(edit.get("by", 0) - edit.get("less", 0))
 
 
 def edited_items(document):
@@ -209,9 +218,12 @@ def edited_items(document):
     at_places, behind_pass = clocks_in(session, run), [step["do"] == "pass" for step in run]
     answers = answers_in(session, run)
     *items, end = (
-        Item(step, at_places[place], place > 0 and behind_pass[place - 1], answers.get(place))
+        Item(step, at_places[place], place > 0 and behind_pass[place - 1])
         for step, place in zip([*session["steps"], None], [*places_in(session, run), len(run)])
     )
+    for item, place in zip(items, places_in(session, run)):
+        if workloads.is_call(item.step):
+            item.caller, item.answer = item.step["by"], answers.get(place)
     for edit in document["edits"] if "session" in document else ():
         session["steps"] = [item.step for item in items]
         if edit["edit"] == "change":
@@ -233,9 +245,9 @@ class Queue:
     last: tuple = START
     made: int = 0
 
-    def put(self, place, step, clock):
+    def put(self, place, step, clock, changes):
         """Put a call behind the others."""
-        self.calls.append((place, step, elapsed(self.last, clock)))
+        self.calls.append((place, step, changed(elapsed(self.last, clock), changes)))
         self.last = max(self.last, clock)
 
     def first(self):
@@ -243,24 +255,22 @@ class Queue:
         return self.calls[self.made]
 
 
-def adjusted(work, item):
-    """The work of a call with what edits add to it."""
-    if item.more == item.less == 0:
-        return work
-    return (max(work[0] + item.more - item.less, 0), 0)
+def changed(work, changes):
+    """The work of a call with changes in their order."""
+    for change in changes:
+        work = (max(work[0] + change, 0), 0)
+    return work
 
 
 def queues_of(items, end, numbers):
     """Of each task its calls with their works."""
     queues = {number: Queue() for number in numbers.values()}
     for place, item in enumerate(items):
-        if not is_outside(item.step) and item.step["do"] not in settle.BY_THEMSELVES:
+        if workloads.is_call(item.step):
             task = numbers[item.step["by"]]
-            queue = queues[task]
-            queue.put(place, item.step, item.clocks[task])
-            queue.calls[-1] = (place, item.step, adjusted(queue.calls[-1][2], item))
+            queues[task].put(place, item.step, item.clocks[task], item.changes)
     for task, queue in queues.items():
-        queue.put(len(items), None, end[task])
+        queue.put(len(items), None, end[task], [])
     return queues
 
 
@@ -280,7 +290,7 @@ class Run:
         self.joined = [
             item.joined and item.step["do"] == "tick" for item in items if is_outside(item.step)
         ]
-        self.answers, self.before = Answers(), [item.answer for item in items]
+        self.answers, self.items = Answers(), items
         self.ties, self.session, self.steps, self.known = ties, session, [], None
         self.cuts = 0
 
@@ -344,9 +354,13 @@ class Run:
         known = dict(self.answers.of)
         self.answers.note(table, step, place)
         for call in self.answers.of.keys() - known.keys():
-            other = self.before[call] not in (None, self.answers.of[call])
-            if other and self.known is None:
-                self.known = len(self.steps) + 1
+            before = self.items[call].answer_before()
+            if before not in (None, self.answers.of[call]):
+                self.limit(len(self.steps) + 1, self.items[call].step["by"], "answer")
+
+    def limit(self, place, task, why):
+        """From a place on it is not known what a task does."""
+        self.known = self.known or {"place": place, "task": task, "why": why}
 
     def cut(self):
         """Cut the next pass where a call or an end becomes timely within it."""
@@ -366,8 +380,9 @@ class Run:
         """Make the next step from outside, and give it."""
         if not self.outside:
             return None
-        if self.known is None and not self.is_within_tick() and self.ready():
-            self.known = len(self.steps)
+        if not self.is_within_tick() and (ready := self.ready()):
+            task = min(self.table.current[core] for core in ready)
+            self.limit(len(self.steps), self.names[task - self.table.cores], "end")
         self.cut()
         step = self.outside.pop(0)
         del self.joined[0]

@@ -13,7 +13,7 @@ use Rattle.bench_types.specs.declared.step.Step.{Step}
 use Rattle.bench_types.specs.declared.step.Step.TheVariants.{Tick, Switch, Interrupt, QueueInterrupt, ResumeInterrupt, Pass}
 use Rattle.bench_types.specs.declared.step.Step.TheVariants as steps
 use Rattle.bench_types.specs.Step.{IsCheckedStep}
-use Rattle.list_orders.proofs.Filters.{All-both, All-filter, All-filter_passes, All-weaker, find_none, list_any_none}
+use Rattle.list_orders.proofs.Filters.{All-both, All-filter, All-filter_passes, All-weaker, find_none}
 use Rattle.bench_model.specs.Session.{step_of}
 use Rattle.bench_model.specs.Sound.{IsSound}
 use Rattle.settled_runs.specs.declared.waiting_call.WaitingCall.{WaitingCall}
@@ -27,15 +27,16 @@ use Rattle.workload_runs.specs.Situations.{is_working}
 use Rattle.workload_runs.proofs.Searches.{least_below, least_over}
 use Rattle.kept_runs.specs.declared.call_order.CallOrder.TheVariants.{Oldest}
 use Rattle.kept_runs.specs.Clocks.{Clock, Clocks, clocks_after, clocks_along, elapsed, is_before}
-use Rattle.kept_runs.specs.Known.{is_at_end, is_due_end}
+use Rattle.kept_runs.specs.Items.{begins_call}
+use Rattle.kept_runs.specs.Known.{is_due_end, task_at_end}
 use Rattle.kept_runs.specs.Rule.{Progress, as_waiting, can_call, cut, due_calls, firsts, has_worked, in_order, is_before_time, is_within_tick, next_outside, next_step, outside_step, works_left}
 use Rattle.kept_runs.specs.Works.{Outside, Placed, Unmade, is_pass, is_tick, works_from}
-use Rattle.kept_runs.proofs.Ahead.{ahead, begins_call, caller_works, head_or, next_apart, next_behind, next_clock, next_is_head, outsides}
+use Rattle.kept_runs.proofs.Ahead.{ahead, caller_works, head_or, next_apart, next_behind, next_clock, next_is_head, outsides}
 use Rattle.kept_runs.proofs.Dues.{find_among_first, first_due, found_in, quiet_is}
 use Rattle.kept_runs.proofs.Elapsing.{elapsed_before, elapsed_more, not_before, up_to_itself, IsUpTo}
 use Rattle.kept_runs.specs.OrderLaws.{HasBegun}
 use Rattle.kept_runs.proofs.Firsts.{all_at, all_mapped, firsts_all, in_order_all, waiting_is}
-use Rattle.kept_runs.proofs.Placings.{clocks_of, firsts_next, waits_of, works_wait, IsNextWork}
+use Rattle.kept_runs.proofs.Placings.{clocks_of, firsts_next, waits_of, works_wait, IsNextWork, IsUnchanged}
 
 -- ---- where both stand
 
@@ -52,6 +53,7 @@ pub record Agrees (tasks : List ℕ) (waiting : List WaitingCall) (events run : 
   pub clocks : Clocks
   pub last : Clocks
   pub placed : List Placed
+  pub unchanged : AllByRecursion IsUnchanged placed
   pub sound : IsSound now.table
   pub checked : All (IsCheckedStep now.table.settings) run
   pub begins : AllByRecursion Begins (map waits_of placed)
@@ -77,7 +79,7 @@ module _ (tasks : List ℕ) (waiting : List WaitingCall) (events run : List Step
       let ends = clocks_along now.table agrees.clocks run in
       subst (λ unmade. AllByRecursion (IsToNext agrees.last now agrees.clocks run) (firsts unmade)) (sym agrees.unmade)
       (All-weaker (IsNextWork ends tasks agrees.last agrees.placed) (IsToNext agrees.last now agrees.clocks run) to_next
-      (firsts (works_from ends agrees.last tasks agrees.placed)) (firsts_next ends tasks agrees.placed agrees.last))
+      (firsts (works_from ends agrees.last tasks agrees.placed)) (firsts_next ends tasks agrees.placed agrees.last agrees.unchanged))
     where
       to_next : (one : Unmade) → IsNextWork (clocks_along now.table agrees.clocks run) tasks agrees.last agrees.placed one
           → IsToNext agrees.last now agrees.clocks run one
@@ -211,14 +213,9 @@ module _ (tasks : List ℕ) (waiting : List WaitingCall) (events : List Step) (s
             ap (λ b. b && true) less
 
     -- no task is at its end
-    pub not_at_end : is_at_end now ≡ false
-    unfolding is_at_end
-    not_at_end =
-        ap (λ b. not (is_within_tick now) && b)
-        (list_any_none (is_due_end now) (firsts now.unmade)
-        (All-weaker (IsToNext agrees.last now agrees.clocks (step ∷ run)) (λ one. is_due_end now one ≡ false) no_end (firsts now.unmade)
-        (firsts_to_next tasks waiting events (step ∷ run) now agrees)))
-        ∙ never (not (is_within_tick now))
+    pub not_at_end : task_at_end now ≡ None
+    unfolding task_at_end
+    not_at_end = which (is_within_tick now)
       where
         never : (b : Bool) → (b && false) ≡ false
         never true = refl
@@ -233,6 +230,14 @@ module _ (tasks : List ℕ) (waiting : List WaitingCall) (events : List Step) (s
             at true can =
                 let works = caller_works now.table one.task Yield agrees.sound refl can in
                 ap (λ b. is_none one.call && (b && can_call now.table one)) (not_worked one work works) ∙ never (is_none one.call)
+
+        which : (b : Bool) → cond b None (option_map (λ (one : Unmade). one.task) (find (is_due_end now) (firsts now.unmade))) ≡ None
+        which true = refl
+        which false =
+            ap (option_map (λ (one : Unmade). one.task))
+            (find_none (is_due_end now) (firsts now.unmade)
+            (All-weaker (IsToNext agrees.last now agrees.clocks (step ∷ run)) (λ one. is_due_end now one ≡ false) no_end (firsts now.unmade)
+            (firsts_to_next tasks waiting events (step ∷ run) now agrees)))
 
     none_due : quiet_step now.table (due_calls now) ≡ None
     unfolding due_calls

@@ -26,15 +26,11 @@ use Rattle.settled_runs.proofs.Timely.{timely_runs}
 use Rattle.step_times.specs.Times.{time_of}
 use Rattle.workload_runs.specs.Situations.{is_working}
 use Rattle.kept_runs.specs.Clocks.{Clock, Clocks, clock_after, clocks_after, clocks_along}
+use Rattle.kept_runs.specs.Items.{begins_call}
 use Rattle.kept_runs.specs.Works.{Outside, is_pass, is_tick}
 use Rattle.kept_runs.proofs.Elapsing.{some_later, up_to_itself, up_to_third, IsUpTo}
 
 -- ---- calls ahead
-
--- the task makes a call that is no `finish`
-abbrev pub begins_call : ℕ → Step → Bool
-begins_call task (steps.Call core other call) = eqb other task && not (is_finish call)
-begins_call task step = false
 
 -- the clocks of the task at its calls
 abbrev pub ahead : ℕ → Table → Clocks → List Step → List Clock

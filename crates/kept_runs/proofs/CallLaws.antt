@@ -18,7 +18,7 @@ use Rattle.kept_runs.proofs.Dues.{same_task}
 use Rattle.kept_runs.proofs.Keeping.{first_keeping, keeping_at}
 use Rattle.std.specs.Option.{option_or}
 use Rattle.std.proofs.lemmas.Option.{slice_get_within}
-use Rattle.bench_types.specs.declared.edit.Edit.{Edit}
+use Rattle.kept_edits.specs.declared.edit.KeptEdit.{KeptEdit}
 use Rattle.bench_types.specs.declared.step.Call.{Call}
 use Rattle.bench_types.specs.declared.step.Call.TheVariants.{Finish}
 use Rattle.bench_types.specs.declared.step.Step.{Step}
@@ -49,7 +49,7 @@ good_along : (made : List Step) (now : Progress) → IsGood now → IsGood (afte
 good_along [] now good = good
 good_along (step ∷ made) now good = good_along made (after step now) (good_after step now good)
 
-module _ (order : CallOrder) (session : Session) (edits : List Edit) (run : List Step) (left : List WaitingCall) (kept : IsKept order session edits run left)
+module _ (order : CallOrder) (session : Session) (edits : List KeptEdit) (run : List Step) (left : List WaitingCall) (kept : IsKept order session edits run left)
   where
     abbrev there : ℕ → Progress
     there place = progress_at order session edits kept.settled run place

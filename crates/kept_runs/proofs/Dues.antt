@@ -1,6 +1,6 @@
 -- Which call is found among the due ones.
 use Rattle.std.proofs.Common.{◌≡◌, ℕ, zero, suc, Bool, true, false, cond, not, eqb, List, [], ◌∷◌, ◌++◌, map, Option, Some, None, refl, sym, ap, subst, ◌∙◌, arith}
-use Rattle.std.specs.Prelude.{Contains, filter_map}
+use Rattle.std.specs.Prelude.{Contains, filter_map, fold}
 use Rattle.std.specs.List.{filter, find, AllByRecursion}
 use Rattle.std.specs.Option.{option_or}
 use Rattle.std.proofs.lemmas.Bool.Decides.{nat_tests}
@@ -15,7 +15,7 @@ use Rattle.settled_runs.proofs.Settlings.{Begins}
 use Rattle.settled_runs.proofs.Timely.{timely_same}
 use Rattle.kept_runs.specs.Clocks.{Clocks, elapsed, later_clock}
 use Rattle.kept_runs.specs.Rule.{as_waiting, firsts}
-use Rattle.kept_runs.specs.Works.{Placed, Unmade, with_clock, works_from}
+use Rattle.kept_runs.specs.Works.{Placed, Unmade, changed_work, with_clock, works_from}
 use Rattle.kept_runs.specs.OrderLaws.{HasBegun}
 use Rattle.kept_runs.proofs.Firsts.{all_at, contains_later, firsts_all, waiting_is}
 use Rattle.kept_runs.proofs.Placings.{waits_of}
@@ -112,7 +112,7 @@ module _ (table : Table) where
           rest = works_from ends next tasks placed
 
           one : Unmade
-          one = record { task = first.task; call = Some first.call; work = elapsed (last first.task) first.clock }
+          one = record { task = first.task; call = Some first.call; work = fold changed_work (elapsed (last first.task) first.clock) first.changes }
 
           apart : Unmade → Bool
           apart other = not (eqb other.task first.task)

@@ -24,22 +24,23 @@ use Rattle.settled_runs.proofs.Settlings.{Begins, Events}
 use Rattle.step_times.specs.Times.{time_of}
 use Rattle.workload_runs.specs.Situations.{is_working}
 use Rattle.kept_runs.specs.Clocks.{Clock, Clocks, clock_after, clocks_after, clocks_along, elapsed, later_clock, zero_clock}
-use Rattle.kept_runs.specs.Known.{is_at_end}
+use Rattle.kept_runs.specs.Items.{begins_call}
+use Rattle.kept_runs.specs.Known.{task_at_end}
 use Rattle.kept_runs.specs.Rule.{Progress, after, due_calls, next_step, outside_after, outside_step, rest_of, unmade_after, worked_after, IsRunFrom}
 use Rattle.kept_runs.specs.Rule as rule
 use Rattle.kept_runs.specs.Works.{is_pass, is_tick, with_clock, works_from}
 use Rattle.kept_runs.proofs.Agreeing.{call_next, calls_in, end_next, left_there, not_at_end, outside_next, Agrees}
-use Rattle.kept_runs.proofs.Ahead.{after_up_to, ahead, begins_call, outside_begins, outsides}
+use Rattle.kept_runs.proofs.Ahead.{after_up_to, ahead, outside_begins, outsides}
 use Rattle.kept_runs.proofs.Elapsing.{elapsed_none, elapsed_then, later_is, up_to_itself, up_to_third, IsUpTo}
 use Rattle.kept_runs.specs.OrderLaws.{HasBegun}
 use Rattle.kept_runs.proofs.Firsts.{without_first_all}
 use Rattle.kept_runs.proofs.Pieces.{outside_stays, unmade_stays}
-use Rattle.kept_runs.proofs.Placings.{clocks_of, clocks_other, clocks_without, placed_without, waits_of, waits_without, works_without}
+use Rattle.kept_runs.proofs.Placings.{clocks_of, clocks_other, clocks_without, placed_without, unchanged_without, waits_of, waits_without, works_without}
 
 -- no task is at its end where a step from outside comes
 abbrev pub IsKnownFrom : Progress → List Step → Type 0
 IsKnownFrom now [] = Unit {0}
-IsKnownFrom now (step ∷ run) = (comes_from_outside step ≡ true → is_at_end now ≡ false) × IsKnownFrom (after step now) run
+IsKnownFrom now (step ∷ run) = (comes_from_outside step ≡ true → task_at_end now ≡ None) × IsKnownFrom (after step now) run
 
 -- so goes the run, and all of it is known
 abbrev pub IsKnownRun : Progress → List Step → List WaitingCall → Type 0
@@ -69,6 +70,7 @@ module _ (tasks : List ℕ) where
       clocks = clocks_after step now.table agrees.clocks;
       last = agrees.last;
       placed = agrees.placed;
+      unchanged = agrees.unchanged;
       oldest = agrees.oldest;
       sound = after_sound step now.table agrees.sound (All-head (IsCheckedStep now.table.settings) step run agrees.checked);
       checked = checked_rest now.table step run agrees.sound agrees.checked;
@@ -116,6 +118,7 @@ module _ (tasks : List ℕ) where
       clocks = clocks_after step now.table agrees.clocks;
       last = agrees.last;
       placed = agrees.placed;
+      unchanged = agrees.unchanged;
       oldest = agrees.oldest;
       sound = after_sound step now.table agrees.sound (All-head (IsCheckedStep now.table.settings) step run agrees.checked);
       checked = checked_rest now.table step run agrees.sound agrees.checked;
@@ -239,6 +242,7 @@ module _ (tasks : List ℕ) where
       clocks = clocks_after made now.table agrees.clocks;
       last = last_after;
       placed = placed_without task agrees.placed;
+      unchanged = unchanged_without task agrees.placed agrees.unchanged;
       oldest = agrees.oldest;
       sound = after_sound made now.table agrees.sound (All-head (IsCheckedStep now.table.settings) made run agrees.checked);
       checked = checked_rest now.table made run agrees.sound agrees.checked;
@@ -342,6 +346,7 @@ module _ (tasks : List ℕ) where
     clocks = agrees.clocks;
     last = agrees.last;
     placed = agrees.placed;
+    unchanged = agrees.unchanged;
     oldest = agrees.oldest;
     sound = agrees.sound;
     checked = agrees.checked;
@@ -366,6 +371,7 @@ module _ (tasks : List ℕ) where
     clocks = agrees.clocks;
     last = agrees.last;
     placed = agrees.placed;
+    unchanged = agrees.unchanged;
     oldest = agrees.oldest;
     sound = agrees.sound;
     checked = agrees.checked;

@@ -5,7 +5,7 @@ use Rattle.std.specs.List.{filter, AllByRecursion}
 use Rattle.std.specs.Option.{option_or}
 use Rattle.std.proofs.lemmas.Bool.Decides.{nat_tests}
 use Rattle.std.proofs.lemmas.List.Elements.{All-cons, All-nil, recursion_from_All}
-use Rattle.bench_types.specs.declared.edit.Edit.{Edit}
+use Rattle.kept_edits.specs.declared.edit.KeptEdit.{KeptEdit}
 use Rattle.bench_types.specs.declared.fault.Fault.{Fault}
 use Rattle.bench_types.specs.declared.fault.Fault.TheVariants.{BadArgument}
 use Rattle.bench_types.specs.declared.kernel_data.Settings.{Settings}
@@ -15,7 +15,6 @@ use Rattle.bench_types.specs.declared.step.Step.TheVariants as steps
 use Rattle.bench_types.specs.Session.{Session, IsSession}
 use Rattle.bench_types.specs.Step.{settings_of, IsCheckedStep}
 use Rattle.list_orders.proofs.Filters.{All-append, All-filter, All-filter_passes, All-weaker}
-use Rattle.bench_model.specs.Edits.{after_edits}
 use Rattle.bench_model.specs.Sound.{IsSound}
 use Rattle.bench_model.specs.Start.{start}
 use Rattle.step_laws.proofs.Along.{settings_after, start_settings}
@@ -30,10 +29,10 @@ use Rattle.workload_runs.specs.Rule.{least}
 use Rattle.workload_runs.proofs.Searches.{least_below, least_over}
 use Rattle.kept_runs.specs.declared.call_order.CallOrder.{CallOrder}
 use Rattle.kept_runs.specs.Clocks.{Clocks, later_clock, zero_clock}
-use Rattle.kept_runs.specs.Items.{Item, edited_items}
+use Rattle.kept_runs.specs.Items.{Item, edited_items, edited_session}
 use Rattle.kept_runs.specs.KeptLaws.{KeptRunIsSession}
 use Rattle.kept_runs.specs.Rule.{Progress, after, after_steps, as_waiting, can_call, cut, due_calls, first_progress, firsts, has_worked, in_order, is_within_tick, next_step, outside_after, outside_step, rest_of, unmade_after, works_left, IsRunFrom}
-use Rattle.kept_runs.specs.Works.{Outside, Placed, Unmade, anchor_clocks, outside_item, outside_steps, placed_call, placed_calls, unmade_calls, user_tasks, with_clock, works_from}
+use Rattle.kept_runs.specs.Works.{Outside, Placed, Unmade, anchor_clocks, outside_item, outside_steps, placed_call, placed_calls, placed_item, unmade_calls, user_tasks, with_clock, works_from}
 use Rattle.kept_runs.proofs.Firsts.{all_mapped, firsts_all, in_order_all}
 use Rattle.kept_runs.proofs.Listed.{first_good, steps_of_edited}
 use Rattle.kept_runs.proofs.Pieces.{good_after, next_is, unmade_all, IsFromOutside}
@@ -182,26 +181,26 @@ module _ (settings : Settings) where
   )
 
   placed_may : (clocks : ℕ → Clocks) (item : Item) (placed : Placed) → IsCheckedStep settings item.step
-      → placed_call clocks item.anchor item.step ≡ Some placed → PlacedMay settings placed
+      → placed_item clocks item ≡ Some placed → PlacedMay settings placed
   placed_may clocks item placed checked is = at item.step checked is
     where
-      at : (step : Step) → IsCheckedStep settings step → placed_call clocks item.anchor step ≡ Some placed → PlacedMay settings placed
+      at : (step : Step) → IsCheckedStep settings step → placed_call clocks item.anchor item.changes step ≡ Some placed → PlacedMay settings placed
       at (steps.Call core task call) checked is = which (is_finish call) refl is
         where
           which : (b : Bool) → is_finish call ≡ b
-              → cond b None (Some (record { task = task; call = call; clock = clocks item.anchor task })) ≡ Some placed → PlacedMay settings placed
+              → cond b None (Some (record { task = task; call = call; clock = clocks item.anchor task; changes = item.changes })) ≡ Some placed → PlacedMay settings placed
           which true ends is = absurd (cc is)
           which false begins is =
-              let same : record { task = task; call = call; clock = clocks item.anchor task } ≡ placed = cc is in
+              let same : record { task = task; call = call; clock = clocks item.anchor task; changes = item.changes } ≡ placed = cc is in
               subst (PlacedMay settings) same
               (event_waits settings (steps.Call core task call) (ap not begins) checked core task call refl)
       at step checked is = absurd (cc is)
 
-pub first_keeping : (order : CallOrder) (session : Session) (edits : List Edit) (settled : List Step) → IsSession (after_edits session edits)
+pub first_keeping : (order : CallOrder) (session : Session) (edits : List KeptEdit) (settled : List Step) → IsSession (edited_session session edits)
     → IsKeeping (first_progress order session edits settled)
 unfolding first_progress unmade_calls outside_steps
 first_keeping order session edits settled is =
-    let edited = after_edits session edits in
+    let edited = edited_session session edits in
     let items = edited_items session edits in
     let clocks = anchor_clocks session settled in
     let good = start_good edited is in
@@ -216,7 +215,7 @@ first_keeping order session edits settled is =
       few = good.few;
       may = works_may settings (clocks (length session.steps)) (user_tasks session.header) (placed_calls clocks items)
           (λ task. zero_clock)
-          (all_mapped (λ (item : Item). placed_call clocks item.anchor item.step) (λ (item : Item). IsCheckedStep settings item.step) (PlacedMay settings)
+          (all_mapped (placed_item clocks) (λ (item : Item). IsCheckedStep settings item.step) (PlacedMay settings)
           (placed_may settings clocks) items here);
       good = first_good order session edits settled;
       checked = each_map (outside_item session settled) (IsCheckedOutside settings) (filter (λ (item : Item). comes_from_outside item.step) items)
@@ -239,7 +238,7 @@ pub kept_run_is_session : KeptRunIsSession
 unfolding first_progress
 kept_run_is_session order session edits run left is kept = record {
   header = is.header;
-  steps = subst (λ settings. All (IsCheckedStep settings) run) (start_settings (after_edits session edits).header)
+  steps = subst (λ settings. All (IsCheckedStep settings) run) (start_settings (edited_session session edits).header)
       (checked_along run (first_progress order session edits kept.settled) left (first_keeping order session edits kept.settled is) kept.is_run);
 }
 

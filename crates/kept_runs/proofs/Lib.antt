@@ -1,12 +1,15 @@
 pub mod Agreeing
 pub mod Ahead
+pub mod Answering
 pub mod CallLaws
+pub mod Changing
 pub mod Dues
 pub mod Elapsing
 pub mod Endings
 pub mod Firsts
 pub mod Following
 pub mod Keeping
+pub mod Limits
 pub mod Listed
 pub mod Orders
 pub mod OutsideStarts

@@ -1,27 +1,31 @@
 -- The edited list has the steps of the edited session; its calls in order are those of the run.
-use Rattle.std.proofs.Common.{◌≡◌, ℕ, suc, Bool, true, false, cond, not, eqb, ◌&&◌, List, [], ◌∷◌, ◌++◌, length, map, take, drop, Some, None, refl, sym, ap, subst, ◌∙◌, inl, inr, append_assoc}
-use Rattle.std.specs.Prelude.{◌⊎◌, is_ok, filter_map, slice_set}
+use Rattle.std.proofs.Common.{◌≡◌, ℕ, zero, suc, Bool, true, false, cond, not, eqb, ◌&&◌, List, [], ◌∷◌, ◌++◌, length, map, take, drop, Option, Some, None, refl, sym, ap, subst, ◌∙◌, inl, inr, append_assoc}
+use Rattle.std.specs.Prelude.{◌⊎◌, is_ok, filter_map, slice_get, slice_set}
 use Rattle.std.specs.List.{filter, AllByRecursion}
+use Rattle.std.specs.Option.{option_map_or}
 use Rattle.list_orders.proofs.Filters.{All-filter_passes}
 use Rattle.settled_runs.proofs.Pieces.{each_map}
 use Rattle.std.proofs.lemmas.List.{map-append, map-set, take-map, drop-map}
 use Rattle.bench_types.specs.declared.edit.Edit.{Edit}
 use Rattle.bench_types.specs.declared.edit.Edit.TheVariants.{Insert, Remove, Replace, ChangeTask}
+use Rattle.kept_edits.specs.declared.edit.KeptEdit.{KeptEdit}
+use Rattle.kept_edits.specs.declared.edit.KeptEdit.TheVariants.{Plain, Work}
+use Rattle.kept_edits.specs.declared.edit.WorkChange.{WorkChange}
 use Rattle.bench_types.specs.declared.step.Call.{Call}
 use Rattle.bench_types.specs.declared.step.Step.{Step}
 use Rattle.bench_types.specs.declared.step.Step.TheVariants.{Tick, Switch, Interrupt, QueueInterrupt, ResumeInterrupt, Pass}
 use Rattle.bench_types.specs.declared.step.Step.TheVariants as steps
 use Rattle.bench_types.specs.Session.{Session}
-use Rattle.bench_model.specs.Edits.{accepted, after_edit, after_edits, edited}
+use Rattle.bench_model.specs.Edits.{accepted, after_edit, edited}
 use Rattle.settled_runs.specs.declared.waiting_call.WaitingCall.{WaitingCall}
 use Rattle.settled_runs.specs.Settled.{is_finish}
 use Rattle.settled_runs.specs.SettleLaws.{call_of, calls_of, comes_from_outside, waiting_of}
 use Rattle.kept_runs.specs.declared.call_order.CallOrder.{CallOrder}
 use Rattle.kept_runs.specs.Clocks.{Clocks, later_clock, zero_clock}
-use Rattle.kept_runs.specs.Items.{Item, anchor_at, edited_items, items_after, items_along, items_edited, items_from}
+use Rattle.kept_runs.specs.Items.{Item, anchor_at, edited_items, edited_session, inserted_at, is_call, items_after, items_along, items_edited, items_from, items_worked}
 use Rattle.kept_runs.specs.KeptLaws.{KeptRunKeepsCalls}
 use Rattle.kept_runs.specs.Rule.{Progress, after, first_progress, unmade_after, without_first, IsRunFrom}
-use Rattle.kept_runs.specs.Works.{Placed, anchor_clocks, outside_item, outside_steps, placed_call, placed_calls, unmade_calls, user_tasks, with_clock, works_from}
+use Rattle.kept_runs.specs.Works.{Placed, anchor_clocks, outside_item, outside_steps, placed_call, placed_calls, placed_item, unmade_calls, user_tasks, with_clock, works_from}
 use Rattle.kept_runs.specs.OrderLaws.{HasBegun}
 use Rattle.kept_runs.proofs.Firsts.{all_mapped, calls_without, waits_in, IsDue}
 use Rattle.kept_runs.proofs.Pieces.{from_outside, good_after, origin, unmade_stays, ComesFromOutside, IsFromOutside, IsGood, IsQuiet}
@@ -41,7 +45,7 @@ steps_from index (step ∷ session) = ap (λ steps. step ∷ steps) (steps_from 
 edited_steps : (count : ℕ) (edit : Edit) (session : Session) (items : List Item) → steps_of items ≡ session.steps
     → steps_of (items_edited count edit items) ≡ (edited edit session).steps
 edited_steps count (Insert at step) session items same =
-    map-append step_at (take at items) (record { step = step; anchor = anchor_at count items at } ∷ drop at items)
+    map-append step_at (take at items) (record { step = step; anchor = anchor_at count items at; inserted = true; changes = [] } ∷ drop at items)
     ∙ (λ i. sym (take-map step_at at items) i ++ step ∷ sym (drop-map step_at at items) i)
     ∙ ap (λ steps. take at steps ++ step ∷ drop at steps) same
 edited_steps count (Remove at) session items same =
@@ -49,7 +53,8 @@ edited_steps count (Remove at) session items same =
     ∙ (λ i. sym (take-map step_at at items) i ++ sym (drop-map step_at (suc at) items) i)
     ∙ ap (λ steps. take at steps ++ drop (suc at) steps) same
 edited_steps count (Replace at step) session items same =
-    map-set step_at items at (record { step = step; anchor = anchor_at count items at }) ∙ ap (λ steps. slice_set steps at step) same
+    map-set step_at items at (record { step = step; anchor = anchor_at count items at; inserted = inserted_at items at; changes = [] })
+    ∙ ap (λ steps. slice_set steps at step) same
 edited_steps count (ChangeTask task priority mask) session items same = same
 
 after_steps_of : (count : ℕ) (session : Session) (edit : Edit) (items : List Item) → steps_of items ≡ session.steps
@@ -60,13 +65,38 @@ after_steps_of count session edit items same = at (is_ok (accepted session edit)
     at true = edited_steps count edit session items same
     at false = same
 
-steps_along : (count : ℕ) (edits : List Edit) (session : Session) (items : List Item) → steps_of items ≡ session.steps
-    → steps_of (items_along count session edits items) ≡ (after_edits session edits).steps
+-- a change of work changes no step
+set_same : (items : List Item) (at : ℕ) (item : Item) → option_map_or (λ (item : Item). item.step) (slice_get items at) item.step ≡ item.step
+    → steps_of (slice_set items at item) ≡ steps_of items
+set_same [] at item same = refl
+set_same (one ∷ items) zero item same = ap (λ step. step ∷ steps_of items) (sym same)
+set_same (one ∷ items) (suc at) item same = ap (λ steps. one.step ∷ steps) (set_same items at item same)
+
+worked_steps : (at : ℕ) (change : WorkChange) (items : List Item) → steps_of (items_worked at change items) ≡ steps_of items
+worked_steps at change items = there (slice_get items at) refl
+  where
+    there : (o : Option Item) → slice_get items at ≡ o
+        → steps_of
+        (option_map_or
+        (λ (item : Item). cond (is_call item.step) (slice_set items at (record item { changes = item.changes ++ change ∷ [] })) items) o items)
+        ≡ steps_of items
+    there None none = refl
+    there (Some item) some = which (is_call item.step)
+      where
+        which : (b : Bool) → steps_of (cond b (slice_set items at (record item { changes = item.changes ++ change ∷ [] })) items) ≡ steps_of items
+        which true = set_same items at (record item { changes = item.changes ++ change ∷ [] })
+            (ap (λ o. option_map_or (λ (item : Item). item.step) o item.step) some)
+        which false = refl
+
+steps_along : (count : ℕ) (edits : List KeptEdit) (session : Session) (items : List Item) → steps_of items ≡ session.steps
+    → steps_of (items_along count session edits items) ≡ (edited_session session edits).steps
 steps_along count [] session items same = same
-steps_along count (edit ∷ edits) session items same =
+steps_along count (Work at change ∷ edits) session items same =
+    steps_along count edits session (items_worked at change items) (worked_steps at change items ∙ same)
+steps_along count (Plain edit ∷ edits) session items same =
     steps_along count edits (after_edit session edit) (items_after count session edit items) (after_steps_of count session edit items same)
 
-pub steps_of_edited : (session : Session) (edits : List Edit) → steps_of (edited_items session edits) ≡ (after_edits session edits).steps
+pub steps_of_edited : (session : Session) (edits : List KeptEdit) → steps_of (edited_items session edits) ≡ (edited_session session edits).steps
 unfolding edited_items
 steps_of_edited session edits = steps_along (length session.steps) edits session (items_from 0 session.steps) (steps_from 0 session.steps)
 
@@ -113,7 +143,7 @@ module _ (task : ℕ) where
       at (steps.Call core caller call) is rest = rw is (which (is_finish call) refl)
         where
           which : (b : Bool) → is_finish call ≡ b
-              → placed_of (filter_map (λ item. placed_call clocks item.anchor item.step) (record { step = steps.Call core caller call; anchor = item.anchor } ∷ items))
+              → placed_of (filter_map (placed_item clocks) (record { step = steps.Call core caller call; anchor = item.anchor; inserted = item.inserted; changes = item.changes } ∷ items))
               ≡ calls_of task (steps.Call core caller call ∷ steps_of items)
           which true ends = rw ends (rest ∙ ap (λ none. none ++ calls_of task (steps_of items)) (sym (no_call (eqb caller task) call true refl)))
           which false begins =
@@ -197,17 +227,17 @@ works_begun ends last tasks (placed ∷ calls) all = (
   works_begun ends (with_clock last placed.task (later_clock (last placed.task) placed.clock)) tasks calls all.1,
 )
 
-pub placed_begun : (clocks : ℕ → Clocks) (item : Item) (placed : Placed) → Unit {0} → placed_call clocks item.anchor item.step ≡ Some placed → PlacedBegun placed
+pub placed_begun : (clocks : ℕ → Clocks) (item : Item) (placed : Placed) → Unit {0} → placed_item clocks item ≡ Some placed → PlacedBegun placed
 placed_begun clocks item placed any is = at item.step is
   where
-    at : (step : Step) → placed_call clocks item.anchor step ≡ Some placed → PlacedBegun placed
+    at : (step : Step) → placed_call clocks item.anchor item.changes step ≡ Some placed → PlacedBegun placed
     at (steps.Call core task call) is = which (is_finish call) refl is
       where
         which : (b : Bool) → is_finish call ≡ b
-            → cond b None (Some (record { task = task; call = call; clock = clocks item.anchor task })) ≡ Some placed → PlacedBegun placed
+            → cond b None (Some (record { task = task; call = call; clock = clocks item.anchor task; changes = item.changes })) ≡ Some placed → PlacedBegun placed
         which true ends is = absurd (cc is)
         which false begins is =
-            let same : record { task = task; call = call; clock = clocks item.anchor task } ≡ placed = cc is in
+            let same : record { task = task; call = call; clock = clocks item.anchor task; changes = item.changes } ≡ placed = cc is in
             subst PlacedBegun same begins
     at step is = absurd (cc is)
 
@@ -215,13 +245,13 @@ pub each_item : (items : List Item) → AllByRecursion (λ (item : Item). Unit {
 each_item [] = tt
 each_item (item ∷ items) = (tt, each_item items)
 
-pub first_good : (order : CallOrder) (session : Session) (edits : List Edit) (settled : List Step) → IsGood (first_progress order session edits settled)
+pub first_good : (order : CallOrder) (session : Session) (edits : List KeptEdit) (settled : List Step) → IsGood (first_progress order session edits settled)
 unfolding first_progress unmade_calls outside_steps
 first_good order session edits settled =
     let items = edited_items session edits in
     let clocks = anchor_clocks session settled in record {
       begun = works_begun (clocks (length session.steps)) (λ task. zero_clock) (user_tasks session.header) (placed_calls clocks items)
-          (all_mapped (λ (item : Item). placed_call clocks item.anchor item.step) (λ (item : Item). Unit {0}) PlacedBegun (placed_begun clocks) items
+          (all_mapped (placed_item clocks) (λ (item : Item). Unit {0}) PlacedBegun (placed_begun clocks) items
           (each_item items));
       outsides = each_map (outside_item session settled) ComesFromOutside (filter (λ (item : Item). comes_from_outside item.step) items)
           (All-filter_passes (λ (item : Item). comes_from_outside item.step) items);

@@ -99,7 +99,7 @@ module _ (session : Session) (settled : List Step) where
 
   outside_of : (before rest : List Step) (step : Step) (place : ℕ) → session.steps ≡ before ++ step ∷ rest → comes_from_outside step ≡ true
       → step ≡ step_there settled place → slice_index_or outers (count_by comes_from_outside before) (length settled) ≡ place
-      → outside_item session settled (record { step = step; anchor = length before }) ≡ made_there place
+      → outside_item session settled (record { step = step; anchor = length before; inserted = false; changes = [] }) ≡ made_there place
   unfolding step_there outside_there
   outside_of before rest step place parts comes is there =
       let same : is_alike step ≡ comes_from_outside = λ i it. alike_outside step comes it i in
@@ -131,7 +131,7 @@ module _ (session : Session) (settled : List Step) where
           → (filter comes_from_outside rest ≡ map (step_there settled) (drop (count_by comes_from_outside (before ++ step ∷ [])) outers)
           → items_outside (items_from (suc (length before)) rest) ≡ map made_there (drop (count_by comes_from_outside (before ++ step ∷ [])) outers))
           → map (outside_item session settled)
-          (cond b (record { step = step; anchor = length before }
+          (cond b (record { step = step; anchor = length before; inserted = false; changes = [] }
           ∷ filter (λ (item : Item). comes_from_outside item.step) (items_from (suc (length before)) rest))
           (filter (λ (item : Item). comes_from_outside item.step) (items_from (suc (length before)) rest)))
           ≡ map made_there (drop (count_by comes_from_outside before) outers)
@@ -146,7 +146,7 @@ module _ (session : Session) (settled : List Step) where
 
           first : (places : List ℕ) → drop (count_by comes_from_outside before) outers ≡ places
               → step ∷ filter comes_from_outside rest ≡ map (step_there settled) places
-              → outside_item session settled (record { step = step; anchor = length before })
+              → outside_item session settled (record { step = step; anchor = length before; inserted = false; changes = [] })
               ∷ map (outside_item session settled) (filter (λ (item : Item). comes_from_outside item.step) (items_from (suc (length before)) rest))
               ≡ map made_there places
           first [] same are = absurd (cc are)

@@ -3,19 +3,18 @@ use Rattle.std.proofs.Common.{◌≡◌, ℕ, ◌+◌, ◌-◌, ◌≤◌, Bool,
 use Rattle.std.specs.Prelude.{◌⊎◌}
 use Rattle.std.specs.List.{filter}
 use Rattle.std.proofs.lemmas.Bool.Decides.{nat_tests}
-use Rattle.bench_types.specs.declared.edit.Edit.{Edit}
+use Rattle.kept_edits.specs.declared.edit.KeptEdit.{KeptEdit}
 use Rattle.bench_types.specs.declared.step.Step.{Step}
 use Rattle.bench_types.specs.declared.step.Step.TheVariants.{Tick, Switch, Interrupt, QueueInterrupt, ResumeInterrupt, Pass}
 use Rattle.bench_types.specs.declared.step.Step.TheVariants as steps
 use Rattle.bench_types.specs.Session.{Session}
-use Rattle.bench_model.specs.Edits.{after_edits}
 use Rattle.settled_runs.specs.declared.waiting_call.WaitingCall.{WaitingCall}
 use Rattle.settled_runs.specs.SettleLaws.{comes_from_outside}
 use Rattle.step_times.specs.Times.{time_of}
 use Rattle.workload_runs.specs.Rule.{least}
 use Rattle.workload_runs.proofs.Searches.{least_below}
 use Rattle.kept_runs.specs.declared.call_order.CallOrder.{CallOrder}
-use Rattle.kept_runs.specs.Items.{Item, edited_items}
+use Rattle.kept_runs.specs.Items.{Item, edited_items, edited_session}
 use Rattle.kept_runs.specs.KeptLaws.{comings, time_behind, KeptRunKeepsOutside}
 use Rattle.kept_runs.specs.Rule.{Progress, after, cut, first_progress, outside_after, rest_of, works_left, IsRunFrom}
 use Rattle.kept_runs.specs.Works.{Outside, is_pass, outside_item, outside_steps}
@@ -154,17 +153,17 @@ module _ (units : ℕ) where
       at true rest = ap (λ steps. item.step ∷ steps) rest
       at false rest = rest
 
-  kept_outside : (order : CallOrder) (session : Session) (edits : List Edit) (settled run : List Step) (left : List WaitingCall)
-      → IsRunFrom (first_progress order session edits settled) run left → IsAlike units (after_edits session edits).steps run
+  kept_outside : (order : CallOrder) (session : Session) (edits : List KeptEdit) (settled run : List Step) (left : List WaitingCall)
+      → IsRunFrom (first_progress order session edits settled) run left → IsAlike units (edited_session session edits).steps run
   unfolding steps_in first_progress outside_steps
   kept_outside order session edits settled run left is =
       let items = edited_items session edits in
       let made = alike_along run (first_progress order session edits settled) left (first_good order session edits settled) is in
       let same = steps_outside session settled items ∙ ap (filter comes_from_outside) (steps_of_edited session edits) in
-      then_alike (after_edits session edits).steps (filter comes_from_outside (after_edits session edits).steps) run
-      (back (filter comes_from_outside (after_edits session edits).steps) (after_edits session edits).steps (outside_alone (after_edits session edits).steps))
+      then_alike (edited_session session edits).steps (filter comes_from_outside (edited_session session edits).steps) run
+      (back (filter comes_from_outside (edited_session session edits).steps) (edited_session session edits).steps (outside_alone (edited_session session edits).steps))
       (subst (λ steps. IsAlike units steps run) same made)
 
 pub kept_run_keeps_outside : KeptRunKeepsOutside
 kept_run_keeps_outside order session edits run left kept =
-    kept_outside (after_edits session edits).header.config.units order session edits kept.settled run left kept.is_run 0
+    kept_outside (edited_session session edits).header.config.units order session edits kept.settled run left kept.is_run 0

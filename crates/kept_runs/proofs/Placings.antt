@@ -1,6 +1,6 @@
 -- Calls in their order with their clocks, and the works that come of them.
 use Rattle.std.proofs.Common.{◌≡◌, ℕ, Bool, true, false, cond, not, eqb, List, [], ◌∷◌, map, Some, refl, sym, ap, ◌∙◌, arith}
-use Rattle.std.specs.Prelude.{filter_map}
+use Rattle.std.specs.Prelude.{filter_map, fold}
 use Rattle.std.specs.List.{filter, AllByRecursion}
 use Rattle.std.proofs.lemmas.Bool.Decides.{nat_tests}
 use Rattle.list_orders.proofs.Filters.{All-filter, All-filter_passes, All-weaker, All-both}
@@ -8,7 +8,7 @@ use Rattle.settled_runs.specs.declared.waiting_call.WaitingCall.{WaitingCall}
 use Rattle.settled_runs.specs.Settled as settled
 use Rattle.kept_runs.specs.Clocks.{Clock, Clocks, elapsed, later_clock}
 use Rattle.kept_runs.specs.Rule.{as_waiting, firsts, without_first}
-use Rattle.kept_runs.specs.Works.{Placed, Unmade, with_clock, works_from}
+use Rattle.kept_runs.specs.Works.{Placed, Unmade, changed_work, with_clock, works_from}
 use Rattle.kept_runs.proofs.Ahead.{head_or}
 use Rattle.kept_runs.proofs.Firsts.{firsts_all}
 
@@ -20,6 +20,10 @@ waits_of placed = record { task = placed.task; call = placed.call }
 abbrev pub clocks_of : ℕ → List Placed → List Clock
 clocks_of task [] = []
 clocks_of task (placed ∷ calls) = cond (eqb placed.task task) (placed.clock ∷ clocks_of task calls) (clocks_of task calls)
+
+-- nothing changes its work
+abbrev pub IsUnchanged : Placed → Type 0
+IsUnchanged placed = placed.changes ≡ []
 
 -- without the first of the task
 abbrev pub placed_without : ℕ → List Placed → List Placed
@@ -46,6 +50,15 @@ clocks_without task (one ∷ placed) clock rest are = at (eqb one.task task) ref
         → clocks_of task (cond b placed (one ∷ placed_without task placed)) ≡ rest
     at true own are later = cc are
     at false other are later = ap (λ b. cond b (one.clock ∷ clocks_of task (placed_without task placed)) (clocks_of task (placed_without task placed))) other ∙ later are
+
+pub unchanged_without : (task : ℕ) (placed : List Placed) → AllByRecursion IsUnchanged placed → AllByRecursion IsUnchanged (placed_without task placed)
+unchanged_without task [] all = tt
+unchanged_without task (one ∷ placed) all = at (eqb one.task task) (unchanged_without task placed all.1)
+  where
+    at : (b : Bool) → AllByRecursion IsUnchanged (placed_without task placed)
+        → AllByRecursion IsUnchanged (cond b placed (one ∷ placed_without task placed))
+    at true rest = all.1
+    at false rest = (all.0, rest)
 
 pub clocks_other : (task other : ℕ) (placed : List Placed) → eqb task other ≡ false → clocks_of other (placed_without task placed) ≡ clocks_of other placed
 clocks_other task other [] apart = refl
@@ -78,16 +91,17 @@ module _ (ends : Clocks) (tasks : List ℕ) where
   ends_next last [] = tt
   ends_next last (task ∷ some) = (refl, ends_next last some)
 
-  pub firsts_next : (placed : List Placed) (last : Clocks) → AllByRecursion (IsNextWork last placed) (firsts (works_from ends last tasks placed))
-  firsts_next [] last = firsts_all (IsNextWork last []) (works_from ends last tasks []) (ends_next last tasks)
-  firsts_next (one ∷ placed) last =
+  pub firsts_next : (placed : List Placed) (last : Clocks) → AllByRecursion IsUnchanged placed → AllByRecursion (IsNextWork last placed) (firsts (works_from ends last tasks placed))
+  firsts_next [] last unchanged = firsts_all (IsNextWork last []) (works_from ends last tasks []) (ends_next last tasks)
+  firsts_next (one ∷ placed) last unchanged =
       let next = with_clock last one.task (later_clock (last one.task) one.clock) in
       let rest = firsts (works_from ends next tasks placed) in
       let apart : Unmade → Bool = λ (other : Unmade). not (eqb other.task one.task) in (
-        ap (λ b. elapsed (last one.task) (head_or (ends one.task) (cond b (one.clock ∷ clocks_of one.task placed) (clocks_of one.task placed)))) (sym own),
+        ap (fold changed_work (elapsed (last one.task) one.clock)) unchanged.0
+            ∙ ap (λ b. elapsed (last one.task) (head_or (ends one.task) (cond b (one.clock ∷ clocks_of one.task placed) (clocks_of one.task placed)))) (sym own),
         All-weaker (λ other. IsNextWork next placed other × (apart other ≡ true)) (IsNextWork last (one ∷ placed)) other_next (filter apart rest)
             (All-both (IsNextWork next placed) (λ other. apart other ≡ true) (filter apart rest)
-            (All-filter (IsNextWork next placed) apart rest (firsts_next placed next))
+            (All-filter (IsNextWork next placed) apart rest (firsts_next placed next unchanged.1))
             (All-filter_passes apart rest)),
       )
     where
@@ -127,7 +141,7 @@ module _ (ends : Clocks) (tasks : List ℕ) where
       next = with_clock last one.task (later_clock (last one.task) one.clock)
 
       first : Unmade
-      first = record { task = one.task; call = Some one.call; work = elapsed (last one.task) one.clock }
+      first = record { task = one.task; call = Some one.call; work = fold changed_work (elapsed (last one.task) one.clock) one.changes }
 
       at : (b : Bool) → eqb one.task task ≡ b → cond b (one.clock ∷ clocks_of task placed) (clocks_of task placed) ≡ clock ∷ rest
           → (clocks_of task placed ≡ clock ∷ rest
@@ -150,6 +164,6 @@ module _ (ends : Clocks) (tasks : List ℕ) where
           (apart_clocks last one.task task (later_clock (last one.task) one.clock) more other)
           ∙ ap (λ own. works_from ends (with_clock (with_clock last task more) one.task (later_clock own one.clock)) tasks (placed_without task placed))
           (sym other_kept))
-          ∙ ap (λ own. record { task = one.task; call = Some one.call; work = elapsed own one.clock }
+          ∙ ap (λ own. record { task = one.task; call = Some one.call; work = fold changed_work (elapsed own one.clock) one.changes }
           ∷ works_from ends (with_clock (with_clock last task more) one.task (later_clock (with_clock last task more one.task) one.clock)) tasks
           (placed_without task placed)) (sym other_kept)

@@ -5,7 +5,6 @@ use Rattle.std.proofs.lemmas.Bool.Decides.{nat_tests}
 use Rattle.bench_types.specs.declared.step.Step.{Step}
 use Rattle.bench_types.specs.declared.step.Step.TheVariants.{Tick, Switch, Interrupt, QueueInterrupt, ResumeInterrupt, Pass}
 use Rattle.bench_types.specs.declared.step.Step.TheVariants as steps
-use Rattle.bench_model.specs.Edits.{after_edits}
 use Rattle.bench_model.specs.Session.{step_of}
 use Rattle.bench_model.specs.Table.{Table}
 use Rattle.settled_runs.specs.declared.waiting_call.WaitingCall.{WaitingCall}
@@ -13,6 +12,7 @@ use Rattle.settled_runs.specs.Settled.{events_of, is_event, is_finish, on_its_co
 use Rattle.settled_runs.specs.SettleLaws.{comes_from_outside}
 use Rattle.settled_runs.proofs.Pieces.{none_alone}
 use Rattle.settled_runs.proofs.Settlings.{before, refusals_are_answers}
+use Rattle.kept_runs.specs.Items.{edited_session}
 use Rattle.kept_runs.specs.KeptLaws.{KeptRefusalsAreAnswers, KeptRunIsSettled}
 use Rattle.kept_runs.specs.Rule.{Progress, after, first_progress, IsRunFrom}
 use Rattle.kept_runs.proofs.Listed.{first_good}
@@ -74,4 +74,4 @@ kept_run_is_settled order session edits run left kept =
 
 pub kept_refusals_are_answers : KeptRefusalsAreAnswers
 kept_refusals_are_answers order session edits run left place why kept =
-    refusals_are_answers (after_edits session edits).header run run [] place why (kept_run_is_settled order session edits run left kept)
+    refusals_are_answers (edited_session session edits).header run run [] place why (kept_run_is_settled order session edits run left kept)

@@ -24,10 +24,10 @@ use Rattle.settled_runs.specs.Settled.{events_of, is_event, is_finish, IsSettled
 use Rattle.settled_runs.specs.SettleLaws.{call_of, calls_of, waiting_of}
 use Rattle.settled_runs.proofs.Settlings.{settling_keeps_calls}
 use Rattle.kept_runs.specs.Clocks.{Clock, Clocks, clocks_after, clocks_along, clocks_at, zero_clock}
-use Rattle.kept_runs.specs.Items.{Item, event_from, is_alike, items_from, passes_at, place_of_event, places_of, settled_place}
+use Rattle.kept_runs.specs.Items.{Item, begins_call, event_from, is_alike, items_from, passes_at, place_of_event, places_of, settled_place}
 use Rattle.kept_runs.specs.Works.{anchor_clocks, placed_calls}
 use Rattle.kept_runs.proofs.Agreeing.{calls_in}
-use Rattle.kept_runs.proofs.Ahead.{ahead, begins_call, head_or}
+use Rattle.kept_runs.proofs.Ahead.{ahead, head_or}
 use Rattle.kept_runs.proofs.Placings.{clocks_of, waits_of}
 
 -- ---- places
@@ -43,7 +43,7 @@ map_shift f [] = refl
 map_shift f (place ∷ places) = ap (λ rest. f (suc place) ∷ rest) (map_shift f places)
 
 module _ (test : Step → Bool) where
-  places_cons : (step : Step) (run : List Step)
+  pub places_cons : (step : Step) (run : List Step)
       → places_of test (step ∷ run) ≡ cond (test step) (0 ∷ map suc (places_of test run)) (map suc (places_of test run))
   places_cons step run =
       ap (λ rest. cond (test step) (0 ∷ rest) rest)
@@ -175,12 +175,12 @@ counted test before step =
     let both = sum_by-append (λ x. cond (test x) 1 0) before (step ∷ []) in
     omega (arith, one, both)
 
-counted_first : (test : Step → Bool) (step : Step) (rest : List Step) → count_by test (step ∷ rest) ≡ cond (test step) 1 0 + count_by test rest
+pub counted_first : (test : Step → Bool) (step : Step) (rest : List Step) → count_by test (step ∷ rest) ≡ cond (test step) 1 0 + count_by test rest
 counted_first test step rest = sum_by-cons (λ x. cond (test x) 1 0) step rest
 
 -- ---- a task's calls
 
-alike_calls : (core task : ℕ) (call : Call) → is_finish call ≡ false → (step : Step) → is_alike (steps.Call core task call) step ≡ begins_call task step
+pub alike_calls : (core task : ℕ) (call : Call) → is_finish call ≡ false → (step : Step) → is_alike (steps.Call core task call) step ≡ begins_call task step
 alike_calls core task call begins (steps.Call other_core other_task other) =
     ap (λ f. eqb task other_task && not f && not (is_finish other)) begins ∙ at (eqb task other_task) refl (eqb other_task task) refl
   where
@@ -237,7 +237,7 @@ module _ (session : Session) (settled : List Step) (task : ℕ) where
   own_clock before rest (Pass units) parts is = absurd (cc is)
 
   placed_first : (clocks : ℕ → Clocks) (anchor : ℕ) (step : Step) (items : List Item)
-      → clocks_of task (placed_calls clocks (record { step = step; anchor = anchor } ∷ items))
+      → clocks_of task (placed_calls clocks (record { step = step; anchor = anchor; inserted = false; changes = [] } ∷ items))
       ≡ cond (begins_call task step) (clocks anchor task ∷ clocks_of task (placed_calls clocks items)) (clocks_of task (placed_calls clocks items))
   placed_first clocks anchor Tick items = refl
   placed_first clocks anchor (Switch core) items = refl
@@ -249,7 +249,7 @@ module _ (session : Session) (settled : List Step) (task : ℕ) where
     where
       at : (f own : Bool) → eqb other task ≡ own
           → clocks_of task
-          (cons_option (cond f None (Some (record { task = other; call = call; clock = clocks anchor other }))) (placed_calls clocks items))
+          (cons_option (cond f None (Some (record { task = other; call = call; clock = clocks anchor other; changes = [] }))) (placed_calls clocks items))
           ≡ cond (own && not f) (clocks anchor task ∷ clocks_of task (placed_calls clocks items)) (clocks_of task (placed_calls clocks items))
       at true true is = refl
       at true false is = refl
@@ -350,7 +350,7 @@ waits_from clocks (steps.Call core task call ∷ session) index = at (is_finish 
   where
     at : (f : Bool) → map waits_of (placed_calls clocks (items_from (suc index) session)) ≡ calls_in (events_of session)
         → map waits_of
-        (cons_option (cond f None (Some (record { task = task; call = call; clock = clocks index task }))) (placed_calls clocks (items_from (suc index) session)))
+        (cons_option (cond f None (Some (record { task = task; call = call; clock = clocks index task; changes = [] }))) (placed_calls clocks (items_from (suc index) session)))
         ≡ calls_in (cond (not f) (steps.Call core task call ∷ events_of session) (events_of session))
     at true rest = rest
     at false rest = ap (λ waits. record { task = task; call = call } ∷ waits) rest

@@ -5,3 +5,4 @@ pub mod Rule
 pub mod Known
 pub mod KeptLaws
 pub mod OrderLaws
+pub mod WorkLaws

@@ -1,17 +1,16 @@
 -- The run that keeps work: which step stands at each of its places.
 use Rattle.std.specs.Prelude.{◌≡◌, ℕ, ◌-◌, ◌==◌, Bool, true, false, not, ◌&&◌, ◌||◌, nat_lt, nat_le, List, [], ◌∷◌, ◌++◌, map, find, filter, filter_map, fold, take, slice_get, Option, Some, None, option_map, if◌then◌else◌, ⊤}
 use Rattle.std.specs.Option.{option_or, option_map_or}
-use Rattle.bench_types.specs.declared.edit.Edit.{Edit}
 use Rattle.bench_types.specs.declared.step.Call.TheVariants.{Yield}
 use Rattle.bench_types.specs.declared.step.Step.{Step}
 use Rattle.bench_types.specs.declared.step.Step.TheVariants.{Pass}
 use Rattle.bench_types.specs.declared.step.Step.TheVariants as steps
 use Rattle.bench_types.specs.Session.{Session}
 use Rattle.bench_model.specs.Control.{current}
-use Rattle.bench_model.specs.Edits.{after_edits}
 use Rattle.bench_model.specs.Session.{step_of}
 use Rattle.bench_model.specs.Start.{start}
 use Rattle.bench_model.specs.Table.{Table}
+use Rattle.kept_edits.specs.declared.edit.KeptEdit.{KeptEdit}
 use Rattle.list_orders.specs.Search.{numbers}
 use Rattle.settled_runs.specs.declared.waiting_call.WaitingCall.{WaitingCall}
 use Rattle.settled_runs.specs.Settled.{is_finish, is_timely, on_its_core, quiet_step, IsSettled}
@@ -21,7 +20,7 @@ use Rattle.workload_runs.specs.Rule.{least}
 use Rattle.kept_runs.specs.declared.call_order.CallOrder.{CallOrder}
 use Rattle.kept_runs.specs.declared.call_order.CallOrder.TheVariants.{Oldest, LeastCore}
 use Rattle.kept_runs.specs.Clocks.{Clocks, clocks_after, is_before, zero_clock}
-use Rattle.kept_runs.specs.Items.{edited_items}
+use Rattle.kept_runs.specs.Items.{edited_items, edited_session}
 use Rattle.kept_runs.specs.Works.{Outside, Unmade, is_pass, outside_steps, unmade_calls, with_clock}
 
 -- where the run stands
@@ -169,10 +168,10 @@ IsRunFrom now (step ∷ run) left =
     (next_step now ≡ Some step) × IsRunFrom (after step now) run left
 
 -- the start, by the settled run of the session before the edits
-unfoldable pub first_progress : CallOrder → Session → List Edit → List Step → Progress
+unfoldable pub first_progress : CallOrder → Session → List KeptEdit → List Step → Progress
 first_progress order session edits settled = record {
   order = order;
-  table = start (after_edits session edits).header;
+  table = start (edited_session session edits).header;
   worked = λ task. zero_clock;
   unmade = unmade_calls session settled (edited_items session edits);
   outside = outside_steps session settled (edited_items session edits);
@@ -180,7 +179,7 @@ first_progress order session edits settled = record {
 }
 
 -- The run of an edited session that keeps work, and the calls that are not made.
-pub record IsKept (order : CallOrder) (session : Session) (edits : List Edit) (run : List Step)
+pub record IsKept (order : CallOrder) (session : Session) (edits : List KeptEdit) (run : List Step)
     (left : List WaitingCall) : Type 0 where
   -- the settled run of the session before the edits, and the calls that are not made there
   pub settled : List Step
@@ -190,6 +189,6 @@ pub record IsKept (order : CallOrder) (session : Session) (edits : List Edit) (r
 
 -- at a place of the run: behind so many of its steps
 unfoldable pub progress_at :
-    CallOrder → Session → List Edit → List Step → List Step → ℕ → Progress
+    CallOrder → Session → List KeptEdit → List Step → List Step → ℕ → Progress
 progress_at order session edits settled run place =
     after_steps (first_progress order session edits settled) (take place run)

@@ -1,11 +1,13 @@
 -- The calls of an edited list, each with its work, and its steps from outside.
-use Rattle.std.specs.Prelude.{ℕ, ◌+◌, ◌-◌, ◌==◌, Bool, true, false, ◌&&◌, nat_lt, List, [], ◌∷◌, length, map, filter, filter_map, Option, Some, None, if◌then◌else◌}
+use Rattle.std.specs.Prelude.{ℕ, ◌+◌, ◌-◌, ◌==◌, Bool, true, false, ◌&&◌, nat_lt, List, [], ◌∷◌, length, map, filter, filter_map, fold, Option, Some, None, if◌then◌else◌}
 use Rattle.bench_types.specs.declared.header.Header.{Header}
 use Rattle.bench_types.specs.declared.step.Call.{Call}
 use Rattle.bench_types.specs.declared.step.Step.{Step}
 use Rattle.bench_types.specs.declared.step.Step.TheVariants.{Tick, Pass}
 use Rattle.bench_types.specs.declared.step.Step.TheVariants as steps
 use Rattle.bench_types.specs.Session.{Session}
+use Rattle.kept_edits.specs.declared.edit.WorkChange.{WorkChange}
+use Rattle.kept_edits.specs.declared.edit.WorkChange.TheVariants.{More, Fewer}
 use Rattle.list_orders.specs.Search.{numbers}
 use Rattle.settled_runs.specs.Settled.{is_finish}
 use Rattle.settled_runs.specs.SettleLaws.{comes_from_outside}
@@ -19,21 +21,26 @@ anchor_clocks session settled anchor =
 
 -- ---- calls
 
--- a call of the list with its task's clock there
+-- a call of the list with its task's clock there, and with the changes of its work
 pub record Placed : Type 0 where
   pub task : ℕ
   pub call : Call
   pub clock : Clock
+  pub changes : List WorkChange
 
-abbrev pub placed_call : (ℕ → Clocks) → ℕ → Step → Option Placed
-placed_call clocks anchor (steps.Call core task call) =
+abbrev pub placed_call : (ℕ → Clocks) → ℕ → List WorkChange → Step → Option Placed
+placed_call clocks anchor changes (steps.Call core task call) =
     if is_finish call then None
-    else Some (record { task = task; call = call; clock = clocks anchor task })
-placed_call clocks anchor step = None
+    else Some
+    (record { task = task; call = call; clock = clocks anchor task; changes = changes })
+placed_call clocks anchor changes step = None
+
+abbrev pub placed_item : (ℕ → Clocks) → Item → Option Placed
+placed_item clocks item = placed_call clocks item.anchor item.changes item.step
 
 -- all calls of the list but those of `finish`
 abbrev pub placed_calls : (ℕ → Clocks) → List Item → List Placed
-placed_calls clocks items = filter_map (λ item. placed_call clocks item.anchor item.step) items
+placed_calls clocks items = filter_map (placed_item clocks) items
 
 -- a call that is not made yet, or the end of a task
 pub record Unmade : Type 0 where
@@ -43,12 +50,18 @@ pub record Unmade : Type 0 where
   -- how long the task has to work for it behind its call before
   pub work : Clock
 
+-- so many units more, or fewer; no steps without time count behind them
+abbrev pub changed_work : Clock → WorkChange → Clock
+changed_work work (More units) = record { units = work.units + units; later = 0 }
+changed_work work (Fewer units) = record { units = work.units - units; later = 0 }
+
 -- with another clock for the task
 abbrev pub with_clock : Clocks → ℕ → Clock → Clocks
 with_clock clocks task clock other = if other == task then clock else clocks other
 
 -- The works of calls in their order: what elapsed from the latest clock of a call of the task
--- before, which is given, to the call's own. Behind the last call come the ends of these tasks.
+-- before, which is given, to the call's own, and then the changes in their order. Behind the last
+-- call come the ends of these tasks.
 abbrev pub works_from : Clocks → Clocks → List ℕ → List Placed → List Unmade
 works_from ends last tasks [] =
     map
@@ -57,7 +70,7 @@ works_from ends last tasks (placed ∷ calls) =
     record {
       task = placed.task;
       call = Some placed.call;
-      work = elapsed (last placed.task) placed.clock;
+      work = fold changed_work (elapsed (last placed.task) placed.clock) placed.changes;
     }
     ∷ works_from ends
     (with_clock last placed.task (later_clock (last placed.task) placed.clock)) tasks calls

@@ -3,12 +3,15 @@
 //! the laws, one a clause.
 #![tactic(auto)]
 
-ghost use Rattle.kept_runs.specs.KeptLaws.{BeginningsAreShorter, CallsAreWorkedFor, CallsComeAtOnce, KeptRefusalsAreAnswers, KeptRunIsOne, KeptRunIsSession, KeptRunIsSettled, KeptRunKeepsCalls, KeptRunKeepsOutside, ThereIsAKeptRun, UneditedRunIsKnown, UneditedRunIsSettled};
+ghost use Rattle.kept_runs.specs.KeptLaws.{BeginningsAreShorter, CallsAreWorkedFor, CallsComeAtOnce, KeptRefusalsAreAnswers, KeptRunIsOne, KeptRunIsSession, KeptRunIsSettled, KeptRunKeepsCalls, KeptRunKeepsOutside, KnownUntilComesFirst, ThereIsAKeptRun, UneditedRunIsKnown, UneditedRunIsSettled};
 ghost use Rattle.kept_runs.specs.OrderLaws.{LeastCoreCallComesFirst, OldestCallComesFirst, OutsideComesLast};
+ghost use Rattle.kept_runs.specs.WorkLaws.{PlainEditsChangeNoWork, WorkEditsChangeOneCall};
 
 mod call_order;
+mod known_limit;
 
 pub use call_order::CallOrder;
+pub use known_limit::{KnownLimit, LimitReason};
 
 /// The run that keeps work.
 pub fn laws_of_kept_runs()
@@ -32,6 +35,16 @@ pub fn laws_of_kept_runs()
     // Without edits it is the settled run, where the oldest call comes first, and all is known.
     ensures unedited_run_is_settled { UneditedRunIsSettled }
     ensures unedited_run_is_known { UneditedRunIsKnown }
+    // It is known up to the first of all that limits that.
+    ensures known_until_comes_first { KnownUntilComesFirst }
+{}
+
+/// How edits change works.
+pub fn laws_of_work_edits()
+    // Edits of the session alone change none.
+    ensures plain_edits_change_no_work { PlainEditsChangeNoWork }
+    // An edit of work changes that of the call at its place, and no other.
+    ensures work_edits_change_one_call { WorkEditsChangeOneCall }
 {}
 
 /// When the run makes calls.

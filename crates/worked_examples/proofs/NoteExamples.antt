@@ -7,7 +7,7 @@ use Rattle.bench_model.specs.Notifying.{notify, interrupted, state_forgotten, bi
 use Rattle.worked_examples.proofs.Examples.{computed}
 
 -- whoever names this computes with notifications
-unfoldable of_notes : ℕ
+unfoldable pub of_notes : ℕ
 unfolding notified slot_in wait_entered wait_ended take_entered take_ended state_cleared value_cleared
 of_notes = 0
 

@@ -1,5 +1,6 @@
 use Rattle.kept_runs.proofs.Endings.{beginnings_are_shorter, there_is_a_kept_run}
 use Rattle.kept_runs.proofs.Keeping.{kept_run_is_session}
+use Rattle.kept_runs.proofs.Limits.{known_until_comes_first}
 use Rattle.kept_runs.proofs.Listed.{kept_run_keeps_calls}
 use Rattle.kept_runs.proofs.Outsides.{kept_run_keeps_outside}
 use Rattle.kept_runs.proofs.Runs.{kept_run_is_one}
@@ -36,3 +37,6 @@ returns-clause-kept_refusals_are_answers c = kept_refusals_are_answers
 
 pub returns-clause-unedited_run_is_known : goal.returns-clause-unedited_run_is_known
 returns-clause-unedited_run_is_known c = unedited_run_is_known
+
+pub returns-clause-known_until_comes_first : goal.returns-clause-known_until_comes_first
+returns-clause-known_until_comes_first c = known_until_comes_first

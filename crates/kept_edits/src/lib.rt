@@ -1,0 +1,8 @@
+//! Edits of a session whose run keeps work: those of the session, and of how long tasks work.
+#![tactic(auto)]
+
+mod edit;
+#[cfg(test)]
+mod tests;
+
+pub use edit::{KeptEdit, WorkChange, plain_edits};

@@ -2,7 +2,5 @@
 #![tactic(auto)]
 
 mod edit;
-#[cfg(test)]
-mod tests;
 
 pub use edit::{KeptEdit, WorkChange, plain_edits};

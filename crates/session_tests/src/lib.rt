@@ -7,4 +7,6 @@ mod checked;
 #[cfg(test)]
 mod edited;
 #[cfg(test)]
+mod kept;
+#[cfg(test)]
 mod runs;

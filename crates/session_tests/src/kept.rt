@@ -1,6 +1,6 @@
-//! Tests of edits.
-use crate::{KeptEdit, WorkChange, plain_edits};
+//! Edits of the work of calls.
 use bench_types::{Edit, Step};
+use kept_edits::{KeptEdit, WorkChange, plain_edits};
 use std::test::Fail;
 
 #[test]

@@ -968,7 +968,7 @@ Commands:
   timeline  Draws the runs before and after the edits, as an SVG picture
   report    Prints the numbers of the run, or of the runs before and after the edits
   check     Says whether numbers of the run after the edits keep limits
-  advise    Tries changes of the session, and prints those that make a number lowest
+  advise    Tries changes of the tasks, and prints those that make a number lowest
   page      Writes one HTML file of the runs: picture, trace, comparison and report
   simulate  Prints the run of a workload, as the document of a session
 
@@ -980,8 +980,8 @@ Documents, each a JSON text, in FILE or on standard input:
   session         the cores, priorities and tasks, and the steps of a run
   bench document  a session, and edits of it: they are made one after another, and those that are
                   refused are passed over
-  workload        what each task does, and the interrupts that come: it stands for the session that
-                  is its run
+  workload        what each task does, and the interrupts that come; edits of it may stand beside
+                  it: its run is shown, or those before and after the edits
 
 Exit status:
   0  it was shown
@@ -1122,7 +1122,7 @@ exit status is 0 where all are kept, 1 where not, and 2 where a name is none.
 
 Example: smp_view check --settle --at-most control.blocked.mutex=3 examples/settled/shorter-timeout.json
 '
-advise_help='Tries changes of the session, and prints those that make a number lowest
+advise_help='Tries changes of the tasks, and prints those that make a number lowest
 
 Usage: smp_view advise [OPTIONS] --task <NAME> --less <NUMBER> [FILE]
 
@@ -1139,9 +1139,10 @@ Options:
   -h, --help            Print help
 
 It tries each change of one task'\''s priority (priority) and mask (mask: of at most 4 cores all masks, of
-more each core alone and all cores), and each exchange of two neighbouring calls of different tasks
-(order), each alone, and prints the best: the least number first, of equals the smaller change, with
-what it costs the other tasks.
+more each core alone and all cores; pin: each core alone), and of a session each exchange of two
+neighbouring calls of different tasks (order), each alone, and prints the best: the least number
+first, of equals the smaller change, with what it costs the other tasks. A workload is simulated
+with each change.
 
 Example: smp_view advise --settle --task control --less blocked.mutex --over priority examples/settled/mutex-events.json
 '
@@ -1178,7 +1179,7 @@ Options:
   -h, --help           Print help
 
 A workload says what each task does, which interrupts come, and for how many ticks. Its run is
-settled. Every other command shows a workload by its run, too.
+settled. With edits it is the run after them. Every other command shows a workload by its run, too.
 
 Example: smp_view simulate --ticks 100 examples/workloads/two-periods.json
 '
@@ -1267,8 +1268,8 @@ bad_line 'advice without a task and a number' 'the following required arguments 
   --task <NAME>
   --less <NUMBER>
 ' advise "$first"
-bad_line 'advice on changes of no such name' '--over takes priority, mask and order, with commas between them' advise --task A --less run --over priority,masks
-bad_line 'advice on no changes' '--over takes priority, mask and order, with commas between them' advise --task A --less run --over=
+bad_line 'advice on changes of no such name' '--over takes priority, mask, pin and order, with commas between them' advise --task A --less run --over priority,masks
+bad_line 'advice on no changes' '--over takes priority, mask, pin and order, with commas between them' advise --task A --less run --over=
 bad_line 'advice with a count that is no number' "invalid value 'x' for '--best <COUNT>'" advise --task A --less run --best x
 bad_line '--json twice' "the argument '--json' cannot be used multiple times" report --json --json
 bad_line 'a settled picture of a task' "unexpected argument '--task' found" timeline --settle --task A

@@ -26,11 +26,14 @@ use Rattle.workload_runs.specs.Rule.{least}
 use Rattle.workload_runs.specs.Situations.{is_working}
 use Rattle.workload_runs.proofs.Searches.{least_below, least_over}
 use Rattle.kept_runs.specs.declared.call_order.CallOrder.TheVariants.{Oldest}
-use Rattle.kept_runs.specs.Clocks.{Clock, Clocks, clocks_after, clocks_along, elapsed, is_before}
+use Rattle.kept_runs.specs.declared.clocks.Clock.{Clock}
+use Rattle.kept_runs.specs.Clocks.{Clocks, clocks_after, clocks_along, elapsed, is_before}
 use Rattle.kept_runs.specs.Items.{begins_call}
 use Rattle.kept_runs.specs.Known.{is_due_end, task_at_end}
 use Rattle.kept_runs.specs.Rule.{Progress, as_waiting, can_call, cut, due_calls, firsts, has_worked, in_order, is_before_time, is_within_tick, next_outside, next_step, outside_step, works_left}
-use Rattle.kept_runs.specs.Works.{Outside, Placed, Unmade, is_pass, is_tick, works_from}
+use Rattle.kept_runs.specs.declared.works.Outside.{Outside}
+use Rattle.kept_runs.specs.declared.works.Unmade.{Unmade}
+use Rattle.kept_runs.specs.Works.{Placed, is_pass, is_tick, works_from}
 use Rattle.kept_runs.proofs.Ahead.{ahead, caller_works, head_or, next_apart, next_behind, next_clock, next_is_head, outsides}
 use Rattle.kept_runs.proofs.Dues.{find_among_first, first_due, found_in, quiet_is}
 use Rattle.kept_runs.proofs.Elapsing.{elapsed_before, elapsed_more, not_before, up_to_itself, IsUpTo}

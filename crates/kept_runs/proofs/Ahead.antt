@@ -25,9 +25,11 @@ use Rattle.settled_runs.proofs.Rests.{running_below}
 use Rattle.settled_runs.proofs.Timely.{timely_runs}
 use Rattle.step_times.specs.Times.{time_of}
 use Rattle.workload_runs.specs.Situations.{is_working}
-use Rattle.kept_runs.specs.Clocks.{Clock, Clocks, clock_after, clocks_after, clocks_along}
+use Rattle.kept_runs.specs.declared.clocks.Clock.{Clock}
+use Rattle.kept_runs.specs.Clocks.{Clocks, clock_after, clocks_after, clocks_along}
 use Rattle.kept_runs.specs.Items.{begins_call}
-use Rattle.kept_runs.specs.Works.{Outside, is_pass, is_tick}
+use Rattle.kept_runs.specs.declared.works.Outside.{Outside}
+use Rattle.kept_runs.specs.Works.{is_pass, is_tick}
 use Rattle.kept_runs.proofs.Elapsing.{some_later, up_to_itself, up_to_third, IsUpTo}
 
 -- ---- calls ahead

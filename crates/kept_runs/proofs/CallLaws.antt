@@ -30,7 +30,7 @@ use Rattle.settled_runs.specs.SettleLaws.{comes_from_outside}
 use Rattle.settled_runs.proofs.Pieces.{each_unmap, find_among, find_fails, find_passes, none_found}
 use Rattle.kept_runs.specs.KeptLaws.{CallsAreWorkedFor, CallsComeAtOnce}
 use Rattle.kept_runs.specs.Rule.{Progress, after, after_steps, as_waiting, call_of_core, due_calls, first_progress, firsts, has_worked, in_order, next_step, outside_step, progress_at, IsKept, IsRunFrom}
-use Rattle.kept_runs.specs.Works.{Unmade}
+use Rattle.kept_runs.specs.declared.works.Unmade.{Unmade}
 use Rattle.kept_runs.specs.OrderLaws.{HasBegun}
 use Rattle.kept_runs.proofs.Firsts.{all_at, all_mapped, firsts_all, mapped_contains, waiting_is, IsDue}
 use Rattle.kept_runs.proofs.Listed.{first_good}

@@ -19,7 +19,8 @@ use Rattle.settled_runs.specs.Settled.{is_finish}
 use Rattle.kept_runs.specs.Clocks.{Clocks, elapsed, later_clock, zero_clock}
 use Rattle.kept_runs.specs.Items.{Item, anchor_at, edited_items, inserted_at, is_call, items_after, items_along, items_edited, items_from, items_worked}
 use Rattle.kept_runs.specs.WorkLaws.{PlainEditsChangeNoWork, WorkEditsChangeOneCall}
-use Rattle.kept_runs.specs.Works.{Placed, Unmade, anchor_clocks, changed_work, placed_call, placed_calls, placed_item, unmade_calls, user_tasks, with_clock, works_from}
+use Rattle.kept_runs.specs.declared.works.Unmade.{Unmade}
+use Rattle.kept_runs.specs.Works.{Placed, anchor_clocks, changed_work, placed_call, placed_calls, placed_item, unmade_calls, user_tasks, with_clock, works_from}
 
 -- ---- edits of the session alone
 

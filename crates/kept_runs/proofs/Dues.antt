@@ -15,7 +15,8 @@ use Rattle.settled_runs.proofs.Settlings.{Begins}
 use Rattle.settled_runs.proofs.Timely.{timely_same}
 use Rattle.kept_runs.specs.Clocks.{Clocks, elapsed, later_clock}
 use Rattle.kept_runs.specs.Rule.{as_waiting, firsts}
-use Rattle.kept_runs.specs.Works.{Placed, Unmade, changed_work, with_clock, works_from}
+use Rattle.kept_runs.specs.declared.works.Unmade.{Unmade}
+use Rattle.kept_runs.specs.Works.{Placed, changed_work, with_clock, works_from}
 use Rattle.kept_runs.specs.OrderLaws.{HasBegun}
 use Rattle.kept_runs.proofs.Firsts.{all_at, contains_later, firsts_all, waiting_is}
 use Rattle.kept_runs.proofs.Placings.{waits_of}

@@ -18,7 +18,8 @@ use Rattle.settled_runs.proofs.Pieces.{piece_of}
 use Rattle.workload_runs.specs.Rule.{least}
 use Rattle.kept_runs.specs.KeptLaws.{BeginningsAreShorter, ThereIsAKeptRun}
 use Rattle.kept_runs.specs.Rule.{Progress, after, as_waiting, cut, due_calls, first_progress, next_step, outside_after, rest_of, unmade_after, without_first, works_left, AreNext, IsRunFrom}
-use Rattle.kept_runs.specs.Works.{Outside, Unmade}
+use Rattle.kept_runs.specs.declared.works.Outside.{Outside}
+use Rattle.kept_runs.specs.declared.works.Unmade.{Unmade}
 use Rattle.kept_runs.proofs.Firsts.{due_are_due, waiting_is, without_at, IsDue, IsFirst}
 use Rattle.kept_runs.proofs.Keeping.{cut_some, first_keeping, keeping_after, may_wait, next_checked, which_next, IsKeeping}
 use Rattle.kept_runs.proofs.Pieces.{from_outside, outside_stays, quiet_inside, IsFromOutside, IsQuiet}

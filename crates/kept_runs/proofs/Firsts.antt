@@ -17,7 +17,7 @@ use Rattle.kept_runs.specs.declared.call_order.CallOrder.{CallOrder}
 use Rattle.kept_runs.specs.declared.call_order.CallOrder.TheVariants.{Oldest, LeastCore}
 use Rattle.kept_runs.specs.OrderLaws.{HasBegun}
 use Rattle.kept_runs.specs.Rule.{Progress, as_waiting, call_of_core, due_calls, firsts, has_worked, in_order, is_within_tick, without_first}
-use Rattle.kept_runs.specs.Works.{Unmade}
+use Rattle.kept_runs.specs.declared.works.Unmade.{Unmade}
 
 -- ---- lists
 

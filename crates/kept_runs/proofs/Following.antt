@@ -23,7 +23,8 @@ use Rattle.settled_runs.proofs.Pieces.{piece_of, without_all, IsPiece}
 use Rattle.settled_runs.proofs.Settlings.{Begins, Events}
 use Rattle.step_times.specs.Times.{time_of}
 use Rattle.workload_runs.specs.Situations.{is_working}
-use Rattle.kept_runs.specs.Clocks.{Clock, Clocks, clock_after, clocks_after, clocks_along, elapsed, later_clock, zero_clock}
+use Rattle.kept_runs.specs.declared.clocks.Clock.{Clock}
+use Rattle.kept_runs.specs.Clocks.{Clocks, clock_after, clocks_after, clocks_along, elapsed, later_clock, zero_clock}
 use Rattle.kept_runs.specs.Items.{begins_call}
 use Rattle.kept_runs.specs.Known.{task_at_end}
 use Rattle.kept_runs.specs.Rule.{Progress, after, due_calls, next_step, outside_after, outside_step, rest_of, unmade_after, worked_after, IsRunFrom}

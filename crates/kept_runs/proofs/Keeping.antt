@@ -32,7 +32,9 @@ use Rattle.kept_runs.specs.Clocks.{Clocks, later_clock, zero_clock}
 use Rattle.kept_runs.specs.Items.{Item, edited_items, edited_session}
 use Rattle.kept_runs.specs.KeptLaws.{KeptRunIsSession}
 use Rattle.kept_runs.specs.Rule.{Progress, after, after_steps, as_waiting, can_call, cut, due_calls, first_progress, firsts, has_worked, in_order, is_within_tick, next_step, outside_after, outside_step, rest_of, unmade_after, works_left, IsRunFrom}
-use Rattle.kept_runs.specs.Works.{Outside, Placed, Unmade, anchor_clocks, outside_item, outside_steps, placed_call, placed_calls, placed_item, unmade_calls, user_tasks, with_clock, works_from}
+use Rattle.kept_runs.specs.declared.works.Outside.{Outside}
+use Rattle.kept_runs.specs.declared.works.Unmade.{Unmade}
+use Rattle.kept_runs.specs.Works.{Placed, anchor_clocks, outside_item, outside_steps, placed_call, placed_calls, placed_item, unmade_calls, user_tasks, with_clock, works_from}
 use Rattle.kept_runs.proofs.Firsts.{all_mapped, firsts_all, in_order_all}
 use Rattle.kept_runs.proofs.Listed.{first_good, steps_of_edited}
 use Rattle.kept_runs.proofs.Pieces.{good_after, next_is, unmade_all, IsFromOutside}

@@ -18,7 +18,7 @@ use Rattle.bench_model.specs.Sound.{IsSound}
 use Rattle.std.proofs.lemmas.Bool.{cases_eq}
 use Rattle.kept_runs.specs.OrderLaws.{HasBegun, LeastCoreCallComesFirst, NoneCanBeMade, OldestCallComesFirst, OutsideComesLast}
 use Rattle.kept_runs.specs.Rule.{Progress, as_waiting, call_of_core, due_calls, firsts, has_worked, in_order, is_within_tick, next_step, outside_step}
-use Rattle.kept_runs.specs.Works.{Unmade}
+use Rattle.kept_runs.specs.declared.works.Unmade.{Unmade}
 use Rattle.kept_runs.proofs.Agreeing.{due_apart}
 use Rattle.kept_runs.proofs.Dues.{found_in, quiet_is}
 use Rattle.kept_runs.proofs.Firsts.{all_at, all_mapped, contains_each, contains_later, firsts_all, in_order_all, mapped_contains, waiting_is}

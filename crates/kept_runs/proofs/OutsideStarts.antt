@@ -13,7 +13,8 @@ use Rattle.settled_runs.specs.Settled.{is_event, IsSettled}
 use Rattle.settled_runs.specs.SettleLaws.{comes_from_outside}
 use Rattle.settled_runs.proofs.Settlings.{settling_keeps_events}
 use Rattle.kept_runs.specs.Items.{Item, is_alike, items_from, passes_at, places_of, settled_place}
-use Rattle.kept_runs.specs.Works.{Outside, is_behind_pass, is_pass, is_tick, outside_item}
+use Rattle.kept_runs.specs.declared.works.Outside.{Outside}
+use Rattle.kept_runs.specs.Works.{is_behind_pass, is_pass, is_tick, outside_item}
 use Rattle.kept_runs.proofs.Ahead.{outsides}
 use Rattle.kept_runs.proofs.Starts.{at_places, counted, event_place}
 

@@ -17,7 +17,8 @@ use Rattle.kept_runs.specs.declared.call_order.CallOrder.{CallOrder}
 use Rattle.kept_runs.specs.Items.{Item, edited_items, edited_session}
 use Rattle.kept_runs.specs.KeptLaws.{comings, time_behind, KeptRunKeepsOutside}
 use Rattle.kept_runs.specs.Rule.{Progress, after, cut, first_progress, outside_after, rest_of, works_left, IsRunFrom}
-use Rattle.kept_runs.specs.Works.{Outside, is_pass, outside_item, outside_steps}
+use Rattle.kept_runs.specs.declared.works.Outside.{Outside}
+use Rattle.kept_runs.specs.Works.{is_pass, outside_item, outside_steps}
 use Rattle.kept_runs.proofs.Listed.{first_good, steps_of, steps_of_edited}
 use Rattle.kept_runs.proofs.Pieces.{from_outside, good_after, none_next, origin, outside_stays, quiet_inside, IsFromOutside, IsGood, IsQuiet}
 

@@ -12,7 +12,8 @@ use Rattle.settled_runs.specs.SettleLaws.{comes_from_outside}
 use Rattle.settled_runs.specs.declared.waiting_call.WaitingCall.{WaitingCall}
 use Rattle.settled_runs.proofs.Pieces.{IsPiece, piece_of}
 use Rattle.kept_runs.specs.Rule.{Progress, after, cut, due_calls, next_step, outside_after, outside_step, rest_of, unmade_after, without_first}
-use Rattle.kept_runs.specs.Works.{Outside, Unmade}
+use Rattle.kept_runs.specs.declared.works.Outside.{Outside}
+use Rattle.kept_runs.specs.declared.works.Unmade.{Unmade}
 use Rattle.kept_runs.specs.OrderLaws.{HasBegun}
 use Rattle.kept_runs.proofs.Firsts.{due_are_due, without_first_all, IsDue}
 

@@ -6,9 +6,11 @@ use Rattle.std.proofs.lemmas.Bool.Decides.{nat_tests}
 use Rattle.list_orders.proofs.Filters.{All-filter, All-filter_passes, All-weaker, All-both}
 use Rattle.settled_runs.specs.declared.waiting_call.WaitingCall.{WaitingCall}
 use Rattle.settled_runs.specs.Settled as settled
-use Rattle.kept_runs.specs.Clocks.{Clock, Clocks, elapsed, later_clock}
+use Rattle.kept_runs.specs.declared.clocks.Clock.{Clock}
+use Rattle.kept_runs.specs.Clocks.{Clocks, elapsed, later_clock}
 use Rattle.kept_runs.specs.Rule.{as_waiting, firsts, without_first}
-use Rattle.kept_runs.specs.Works.{Placed, Unmade, changed_work, with_clock, works_from}
+use Rattle.kept_runs.specs.declared.works.Unmade.{Unmade}
+use Rattle.kept_runs.specs.Works.{Placed, changed_work, with_clock, works_from}
 use Rattle.kept_runs.proofs.Ahead.{head_or}
 use Rattle.kept_runs.proofs.Firsts.{firsts_all}
 

@@ -23,7 +23,8 @@ use Rattle.settled_runs.specs.declared.waiting_call.WaitingCall.{WaitingCall}
 use Rattle.settled_runs.specs.Settled.{events_of, is_event, is_finish, IsSettled}
 use Rattle.settled_runs.specs.SettleLaws.{call_of, calls_of, waiting_of}
 use Rattle.settled_runs.proofs.Settlings.{settling_keeps_calls}
-use Rattle.kept_runs.specs.Clocks.{Clock, Clocks, clocks_after, clocks_along, clocks_at, zero_clock}
+use Rattle.kept_runs.specs.declared.clocks.Clock.{Clock}
+use Rattle.kept_runs.specs.Clocks.{Clocks, clocks_after, clocks_along, clocks_at, zero_clock}
 use Rattle.kept_runs.specs.Items.{Item, begins_call, event_from, is_alike, items_from, passes_at, place_of_event, places_of, settled_place}
 use Rattle.kept_runs.specs.Works.{anchor_clocks, placed_calls}
 use Rattle.kept_runs.proofs.Agreeing.{calls_in}

@@ -8,13 +8,7 @@ use Rattle.bench_model.specs.Table.{Table}
 use Rattle.settled_runs.specs.SettleLaws.{comes_from_outside}
 use Rattle.step_times.specs.Times.{time_of}
 use Rattle.workload_runs.specs.Situations.{is_working}
-
--- how long a task worked
-pub record Clock : Type 0 where
-  -- the units of time that found it at work
-  pub units : ℕ
-  -- the steps from outside without time that found it so since the last of these units
-  pub later : ℕ
+use Rattle.kept_runs.specs.declared.clocks.Clock.{Clock}
 
 -- of each task its clock
 abbrev pub Clocks : Type 0

@@ -18,7 +18,8 @@ use Rattle.kept_runs.specs.declared.known_limit.KnownLimit.{KnownLimit}
 use Rattle.kept_runs.specs.Items.{edited_session}
 use Rattle.kept_runs.specs.Known.{known_until, limits}
 use Rattle.kept_runs.specs.Rule.{Progress, firsts, has_worked, is_within_tick, progress_at, AreNext, IsKept, IsRunFrom}
-use Rattle.kept_runs.specs.Works.{Unmade, is_pass}
+use Rattle.kept_runs.specs.declared.works.Unmade.{Unmade}
+use Rattle.kept_runs.specs.Works.{is_pass}
 
 -- an edited session has one run at most that keeps work
 abbrev pub KeptRunIsOne : Type 0

@@ -17,7 +17,7 @@ use Rattle.kept_runs.specs.declared.known_limit.KnownLimit.{KnownLimit}
 use Rattle.kept_runs.specs.declared.known_limit.LimitReason.TheVariants.{End, Answer}
 use Rattle.kept_runs.specs.Items.{Item, begins_call, edited_items, edited_session, is_alike, passes_at, settled_place}
 use Rattle.kept_runs.specs.Rule.{Progress, can_call, firsts, has_worked, is_within_tick, progress_at}
-use Rattle.kept_runs.specs.Works.{Unmade}
+use Rattle.kept_runs.specs.declared.works.Unmade.{Unmade}
 
 -- ---- the ends of tasks
 

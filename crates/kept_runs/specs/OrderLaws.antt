@@ -7,7 +7,7 @@ use Rattle.bench_model.specs.Sound.{IsSound}
 use Rattle.settled_runs.specs.Settled.{is_finish, is_timely, on_its_core, quiet_step}
 use Rattle.kept_runs.specs.declared.call_order.CallOrder.TheVariants.{Oldest, LeastCore}
 use Rattle.kept_runs.specs.Rule.{Progress, firsts, has_worked, is_within_tick, next_step, outside_step}
-use Rattle.kept_runs.specs.Works.{Unmade}
+use Rattle.kept_runs.specs.declared.works.Unmade.{Unmade}
 
 -- it is no `finish`
 abbrev pub HasBegun : Unmade → Type 0

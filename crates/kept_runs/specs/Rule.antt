@@ -21,7 +21,9 @@ use Rattle.kept_runs.specs.declared.call_order.CallOrder.{CallOrder}
 use Rattle.kept_runs.specs.declared.call_order.CallOrder.TheVariants.{Oldest, LeastCore}
 use Rattle.kept_runs.specs.Clocks.{Clocks, clocks_after, is_before, zero_clock}
 use Rattle.kept_runs.specs.Items.{edited_items, edited_session}
-use Rattle.kept_runs.specs.Works.{Outside, Unmade, is_pass, outside_steps, unmade_calls, with_clock}
+use Rattle.kept_runs.specs.declared.works.Outside.{Outside}
+use Rattle.kept_runs.specs.declared.works.Unmade.{Unmade}
+use Rattle.kept_runs.specs.Works.{is_pass, outside_steps, unmade_calls, with_clock}
 
 -- where the run stands
 pub record Progress : Type 0 where

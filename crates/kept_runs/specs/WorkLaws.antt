@@ -7,7 +7,8 @@ use Rattle.bench_model.specs.Edits.{after_edits}
 use Rattle.kept_edits.specs.declared.edit.KeptEdit.TheVariants.{Plain}
 use Rattle.kept_edits.specs.declared.edit.WorkChange.{WorkChange}
 use Rattle.kept_runs.specs.Items.{Item, edited_items, edited_session, is_call, items_worked}
-use Rattle.kept_runs.specs.Works.{Unmade, changed_work, unmade_calls}
+use Rattle.kept_runs.specs.declared.works.Unmade.{Unmade}
+use Rattle.kept_runs.specs.Works.{changed_work, unmade_calls}
 
 -- edits of the session alone change the work of no call, and leave the session that they say
 abbrev pub PlainEditsChangeNoWork : Type 0

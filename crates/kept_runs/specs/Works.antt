@@ -11,7 +11,10 @@ use Rattle.kept_edits.specs.declared.edit.WorkChange.TheVariants.{More, Fewer}
 use Rattle.list_orders.specs.Search.{numbers}
 use Rattle.settled_runs.specs.Settled.{is_finish}
 use Rattle.settled_runs.specs.SettleLaws.{comes_from_outside}
-use Rattle.kept_runs.specs.Clocks.{Clock, Clocks, clocks_at, elapsed, later_clock, zero_clock}
+use Rattle.kept_runs.specs.declared.clocks.Clock.{Clock}
+use Rattle.kept_runs.specs.declared.works.Outside.{Outside}
+use Rattle.kept_runs.specs.declared.works.Unmade.{Unmade}
+use Rattle.kept_runs.specs.Clocks.{Clocks, clocks_at, elapsed, later_clock, zero_clock}
 use Rattle.kept_runs.specs.Items.{Item, passes_at, settled_place}
 
 -- the clocks of the step of a session at that index, by the session's settled run
@@ -41,14 +44,6 @@ placed_item clocks item = placed_call clocks item.anchor item.changes item.step
 -- all calls of the list but those of `finish`
 abbrev pub placed_calls : (ℕ → Clocks) → List Item → List Placed
 placed_calls clocks items = filter_map (placed_item clocks) items
-
--- a call that is not made yet, or the end of a task
-pub record Unmade : Type 0 where
-  pub task : ℕ
-  -- the end has none
-  pub call : Option Call
-  -- how long the task has to work for it behind its call before
-  pub work : Clock
 
 -- so many units more, or fewer; no steps without time count behind them
 abbrev pub changed_work : Clock → WorkChange → Clock
@@ -86,11 +81,6 @@ unmade_calls session settled items =
     (user_tasks session.header) (placed_calls (anchor_clocks session settled) items)
 
 -- ---- steps from outside
-
-pub record Outside : Type 0 where
-  pub step : Step
-  -- a tick of which the last unit went by right before it in the settled run
-  pub joined : Bool
 
 abbrev pub is_tick : Step → Bool
 is_tick Tick = true

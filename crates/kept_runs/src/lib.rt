@@ -8,10 +8,14 @@ ghost use Rattle.kept_runs.specs.OrderLaws.{LeastCoreCallComesFirst, OldestCallC
 ghost use Rattle.kept_runs.specs.WorkLaws.{PlainEditsChangeNoWork, WorkEditsChangeOneCall};
 
 mod call_order;
+mod clocks;
 mod known_limit;
+mod works;
 
 pub use call_order::CallOrder;
+pub use clocks::Clock;
 pub use known_limit::{KnownLimit, LimitReason};
+pub use works::{Outside, Unmade};
 
 /// The run that keeps work.
 pub fn laws_of_kept_runs()

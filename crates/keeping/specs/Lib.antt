@@ -1,0 +1,4 @@
+pub mod Queues
+pub mod Works
+pub mod Elapsing
+pub mod Progress

@@ -1,0 +1,8 @@
+use Rattle.std.proofs.Common.{◌≤◌, length}
+use Rattle.std.specs.Prelude.{All}
+use Rattle.bench_types.specs.Step.{settings_of}
+use Rattle.keeping.specs.Works.{IsUnmade}
+use Rattle.keeping_tests.proofs.runs.checked_calls.Given as goal
+
+abbrev pub invariant-loop-one : goal.invariant-loop-one
+invariant-loop-one l = record { all : All (IsUnmade (settings_of l.header)) l.checked.items; few : length l.checked.items ≤ l.one-index }

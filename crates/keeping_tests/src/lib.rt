@@ -1,0 +1,5 @@
+//! Tests of runs that keep work. There is nothing else here.
+#![tactic(auto)]
+
+#[cfg(test)]
+mod runs;

@@ -400,6 +400,22 @@ def of_wrong_shape(check, rng):
         print("%d of a wrong shape that a schema can't tell, %s" % (many, kind))
 
 
+def works(check, rng):
+    """Edits of work, which format 3 alone has. The program reads none, so the schema is held alone."""
+    first = {key: value for key, value in header(rng).items() if key not in ("notes", "queues", "units")}
+    heads = [{**first, "format": 1}, {**first, "format": 2, "notes": 1}, {**first, "format": 3, "notes": 1, "queues": []}]
+    edit = {"edit": "work", "at": 7}
+    good = [{**edit, "by": 300}, {**edit, "less": 300}, {**edit, "by": 0}, {**edit, "less": 4294967295}]
+    bad = [edit, {**edit, "by": 1, "less": 1}, {**edit, "by": -1}, {**edit, "less": 4294967296}, {**edit, "by": "1"},
+           {**edit, "by": 1, "step": {"do": "tick"}}, {"edit": "work", "by": 1}, {"edit": "works", "at": 7, "by": 1}]
+    for head in heads:
+        for made, fine in [(made, head["format"] == 3) for made in good] + [(made, False) for made in bad]:
+            document = {"session": {**head, "steps": []}, "edits": [{"edit": "remove", "at": 0}, made]}
+            if check.valid["bench"](document) != fine:
+                check.fault("bench %s" % ("not valid" if fine else "valid"), json.dumps(document))
+    print("%d documents with an edit of work" % (len(heads) * len(good + bad)))
+
+
 def main():
     check = Check(sys.argv[1])
     rng = random.Random(SEED)
@@ -409,6 +425,7 @@ def main():
     written(check)
     accepted(check, rng)
     of_wrong_shape(check, rng)
+    works(check, rng)
     told, odd = sum(WRONG.values()), sum(UNTELLABLE.values())
     print("%d accepted, %d of wrong shape of which a schema can't tell %d: %d wrong"
           % (sum(ACCEPTED.values()), told + odd, odd, check.faults))

@@ -30,27 +30,27 @@ use Rattle.bench_commands.specs.Answer.{store_text, printed_with}
 use Rattle.bench_commands.proofs.Opened.{few_steps, opens}
 
 -- what is told of a text that was not read
-pub refused_printed : {E : Type 0} (mode : Mode) (text : Bench → List ℕ) (input : List ℕ) (fault : TextFault) (result : Result Printed E) →
+pub refused_printed : {E : Type 0} (mode : Mode) (text : Bench Edit → List ℕ) (input : List ℕ) (fault : TextFault) (result : Result Printed E) →
     (bench_text input ≡ Err fault) ⊎ (fault ≡ record { why = NoMemory; path = []; detail = None })
     → IfOk result (λ printed. IsPrintedFault refused_with input fault printed) → (fault.why ≡ NoMemory → IsErr result) → IfOk result
     (λ printed. IsPrintedAnswer (output_of text (bench_text input)) (twice_note_as_read input (bench_text input)) (notes_of mode (bench_text input))
     (IsBenchTextHint input (bench_text input)) printed)
 refused_printed mode text input fault (Err e) reading printed memory = tt
 refused_printed mode text input fault (Ok printed) (inl read) line memory =
-    subst (λ (r : Result Bench TextFault). IsPrintedAnswer (output_of text r) (twice_note_as_read input r) (notes_of mode r) (IsBenchTextHint input r) printed)
+    subst (λ (r : Result (Bench Edit) TextFault). IsPrintedAnswer (output_of text r) (twice_note_as_read input r) (notes_of mode r) (IsBenchTextHint input r) printed)
     (sym read)
     (record { hint = line.hint; is_hint = λ refused. line.is_hint; is_printed = line.is_printed })
 refused_printed mode text input fault (Ok printed) (inr none) line memory = absurd (cc (memory (ap (λ (f : TextFault). f.why) none)))
 
 -- what is told of a text that was read
-pub read_printed : {E : Type 0} (mode : Mode) (text : Bench → List ℕ) (input line : List ℕ) (bench : Bench) (printed : Printed) (result : Result Printed E) →
+pub read_printed : {E : Type 0} (mode : Mode) (text : Bench Edit → List ℕ) (input line : List ℕ) (bench : Bench Edit) (printed : Printed) (result : Result Printed E) →
     bench_text input ≡ Ok bench → line ≡ twice_note input
     → printed ≡ printed_with (output_of_bench text bench) (bench_notes mode bench) too_many_steps_line → IfOk result (λ output. output ≡ warned line printed)
     → IfOk result (λ printed. IsPrintedAnswer (output_of text (bench_text input)) (twice_note_as_read input (bench_text input)) (notes_of mode
     (bench_text input)) (IsBenchTextHint input (bench_text input)) printed)
 read_printed mode text input line bench printed (Err e) read is_line is_printed given = tt
 read_printed mode text input line bench printed (Ok output) read is_line is_printed given =
-    subst (λ (r : Result Bench TextFault). IsPrintedAnswer (output_of text r) (twice_note_as_read input r) (notes_of mode r) (IsBenchTextHint input r) output)
+    subst (λ (r : Result (Bench Edit) TextFault). IsPrintedAnswer (output_of text r) (twice_note_as_read input r) (notes_of mode r) (IsBenchTextHint input r) output)
     (sym read)
     (record {
       hint = too_many_steps_line;
@@ -61,7 +61,7 @@ read_printed mode text input line bench printed (Ok output) read is_line is_prin
     })
 
 -- a session that was checked is not opened only where it has too many steps
-pub too_long_output : (text : Bench → List ℕ) (bench : Bench) (span : ℕ) (why : OpenRefusal) → IsCheckedBench bench → is_within 1 max_span span ≡ true →
+pub too_long_output : (text : Bench Edit → List ℕ) (bench : Bench Edit) (span : ℕ) (why : OpenRefusal) → IsCheckedBench bench → is_within 1 max_span span ≡ true →
     (open_check bench.header bench.steps span ≡ Ok tt → why ≡ refusal.NoMemory) → why ≡ TooLong
     → refused (codes "J2") [] ≡ output_of_bench text bench
 too_long_output text bench span why checked within memory long = go (nat_lt max_steps (length bench.steps)) refl
@@ -73,7 +73,7 @@ too_long_output text bench span why checked within memory long = go (nat_lt max_
         absurd (cc (memory (opens bench.header bench.steps span checked.is_session within fits), long))
 
 -- what is told of a session that was not opened
-pub not_opened_printed : {E : Type 0} (text : Bench → List ℕ) (notes : List ℕ) (bench : Bench) (why : OpenRefusal) (result : Result Printed E) → OnOk result
+pub not_opened_printed : {E : Type 0} (text : Bench Edit → List ℕ) (notes : List ℕ) (bench : Bench Edit) (why : OpenRefusal) (result : Result Printed E) → OnOk result
     (why ≡ TooLong) → IfOk result (λ printed. printed ≡ refused_with (refusal_line (codes "J2") []) too_many_steps_line)
     → (why ≡ TooLong → refused (codes "J2") [] ≡ output_of_bench text bench) → IfOk result
     (λ printed. printed ≡ printed_with (output_of_bench text bench) notes too_many_steps_line)
@@ -82,7 +82,7 @@ not_opened_printed text notes bench why (Ok answer) long line printed = line ∙
     (printed long)
 
 -- what is told of a session that was opened
-pub opened_printed : (mode : Mode) (notes : List ℕ) (bench : Bench) (span : ℕ) (kept : CheckpointedSession) (printed : Printed) → span ≡ span_of mode →
+pub opened_printed : (mode : Mode) (notes : List ℕ) (bench : Bench Edit) (span : ℕ) (kept : CheckpointedSession) (printed : Printed) → span ≡ span_of mode →
     open_check bench.header bench.steps span ≡ Ok tt
     → kept ≡ first_kept span (record { header = bench.header; steps = bench.steps })
     → printed ≡ noted (fine (store_text mode kept bench.edits)) notes → printed ≡ printed_with (output_of_bench (bench_output mode) bench) notes
@@ -106,7 +106,7 @@ unfolding edit_notes
 no_notes session edits none = sym (ap (λ (list : List Edit). flat_map refused_line (refused_edits session list)) none)
 
 -- the lines of the edits of a document, by the number of its steps in the store
-pub counted : (bench : Bench) (kept : CheckpointedSession) (span count : ℕ) → kept ≡ first_kept span (record { header = bench.header; steps = bench.steps }) →
+pub counted : (bench : Bench Edit) (kept : CheckpointedSession) (span count : ℕ) → kept ≡ first_kept span (record { header = bench.header; steps = bench.steps }) →
     count ≡ length kept.session.steps → All (IsCheckedEdit bench.header) bench.edits
     → IsCounted count bench.edits (record { header = bench.header; steps = bench.steps })
 counted bench kept span count same is checked = record { many = sym (is ∙ ap (λ (k : CheckpointedSession). length k.session.steps) same); checked = checked }

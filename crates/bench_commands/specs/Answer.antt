@@ -91,18 +91,18 @@ store_text (Replay span tally) kept edits = edited_text tally kept edits
 store_text (WhatIf span) kept edits = trials_text kept 0 edits
 
 -- by the mode, what is written for a bench document
-abbrev pub bench_output : Mode → Bench → List ℕ
+abbrev pub bench_output : Mode → Bench Edit → List ℕ
 bench_output mode bench =
     store_text mode
     (first_kept (span_of mode) (record { header = bench.header; steps = bench.steps })) bench.edits
 
 -- by what is written for a bench document; J2 comes after all other refusals
-abbrev pub output_of_bench : (Bench → List ℕ) → Bench → Output
+abbrev pub output_of_bench : (Bench Edit → List ℕ) → Bench Edit → Output
 output_of_bench text bench =
     if nat_lt max_steps (length bench.steps) then refused (codes "J2") []
     else record { is_refused = false; text = text bench }
 
-abbrev pub output_of : (Bench → List ℕ) → Result Bench TextFault → Output
+abbrev pub output_of : (Bench Edit → List ℕ) → Result (Bench Edit) TextFault → Output
 output_of text (Ok bench) = output_of_bench text bench
 output_of text (Err fault) = refused (why_text fault.why) fault.path
 
@@ -113,14 +113,14 @@ output mode input =
     else output_of (bench_output mode) (bench_text input)
 
 -- by the mode, a line for each edit that is refused
-abbrev pub bench_notes : Mode → Bench → List ℕ
+abbrev pub bench_notes : Mode → Bench Edit → List ℕ
 bench_notes (Replay span tally) bench =
     edit_notes (record { header = bench.header; steps = bench.steps }) bench.edits
 bench_notes (WhatIf span) bench =
     trial_notes (record { header = bench.header; steps = bench.steps }) bench.edits
 
 -- none where no document was read
-abbrev pub notes_of : Mode → Result Bench TextFault → List ℕ
+abbrev pub notes_of : Mode → Result (Bench Edit) TextFault → List ℕ
 notes_of mode (Ok bench) = bench_notes mode bench
 notes_of mode (Err fault) = []
 

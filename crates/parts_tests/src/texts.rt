@@ -25,4 +25,5 @@ mod suspending;
 mod units;
 mod unknown_names;
 mod values;
+mod work_edits;
 mod writing;

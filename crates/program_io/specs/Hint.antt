@@ -10,6 +10,7 @@ use Rattle.bench_types.specs.declared.step_flaw.StepFlaw.{StepFlaw}
 use Rattle.bench_types.specs.declared.step_flaw.StepFlaw.TheVariants as flaws
 use Rattle.bench_types.specs.Limits.{min_cores, max_cores, max_priorities, max_tasks, max_mutexes, max_notes, max_queues, max_units, max_name, max_input, max_steps}
 use Rattle.bench_types.specs.Name.{is_within}
+use Rattle.bench_types.specs.declared.edit.Edit.{Edit}
 use Rattle.session_text.specs.declared.bench.Bench.{Bench}
 use Rattle.session_text.specs.declared.detail.Detail.{Detail}
 use Rattle.session_text.specs.declared.detail.Detail.TheVariants as detail
@@ -297,7 +298,7 @@ abbrev pub too_many_steps_line : List ℕ
 too_many_steps_line = codes "the session has more than " ++ decimal max_steps ++ codes " steps\n"
 
 -- by what a text is read as: a bench document that is read is refused for its number of steps alone
-abbrev pub IsBenchTextHint : List ℕ → Result Bench TextFault → List ℕ → Type 0
+abbrev pub IsBenchTextHint : List ℕ → Result (Bench Edit) TextFault → List ℕ → Type 0
 IsBenchTextHint input (Ok bench) hint = hint ≡ too_many_steps_line
 IsBenchTextHint input (Err fault) hint = IsFaultHint input fault.why fault.path fault.detail hint
 

@@ -1,6 +1,6 @@
 -- An edit: `edit` says which, and after it stand the members of its kind.
 use Rattle.std.specs.Prelude.{ℕ, List, [], ◌∷◌, codes, bytes_eq, find, Option, Some, option_map, is_some, Result, Ok, if◌then◌else◌}
-use Rattle.serde_json.specs.Data.{Data}
+use Rattle.serde_json.specs.Data.{Data, Members}
 use Rattle.bench_types.specs.declared.header.Header.{Header}
 use Rattle.bench_types.specs.declared.step.Step.{Step}
 use Rattle.bench_types.specs.declared.edit.Edit.{Edit}
@@ -67,13 +67,19 @@ edit_of_kind_at format names Change at d = do
   mask ← number_at at (codes "mask") d
   Ok (edit.ChangeTask task priority mask)
 
+-- an edit of a kind, at an object with no members beside those of the kind
+unfoldable pub edit_among :
+    Format → TaskNames → EditKind → List ℕ → Data → Members → Result Edit TextFault
+edit_among format names which at d members = do
+  made ← edit_of_kind_at format names which at d
+  only ← only_at at (edit_members_of which) members
+  Ok made
+
 unfoldable pub edit_at : Format → TaskNames → List ℕ → Data → Result Edit TextFault
 edit_at format names at d = do
   members ← object_at at d
   which ← edit_kind_at at d
-  made ← edit_of_kind_at format names which at d
-  only ← only_at at (edit_members_of which) members
-  Ok made
+  edit_among format names which at d members
 
 -- the format that an edit is read in where it stands alone: the third where the header says which
 -- queues there are, else the second, so its step may have an index

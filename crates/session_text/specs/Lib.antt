@@ -7,6 +7,7 @@ pub mod Detail
 pub mod Edit
 pub mod Format
 pub mod Header
+pub mod KeptEdit
 pub mod Member
 pub mod Names
 pub mod Nearest

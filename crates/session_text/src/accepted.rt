@@ -12,6 +12,7 @@ use crate::fault::{ReadFault, Why};
 use crate::path::Location;
 use bench_types::{Edit, Header, Step, StepFlaw};
 use json_data::Item;
+use kept_edits::KeptEdit;
 use std::alloc::Global;
 
 /// What can be found at fault under a header, or under what else it has to fit.
@@ -52,6 +53,22 @@ impl HasCheck<Header> for Edit {
 
     fn judge(&self, header: &Header) -> Option<StepFlaw> {
         self.flaw(header)
+    }
+}
+
+impl HasCheck<Header> for KeptEdit {
+    ghost use Rattle.kept_edits.specs.Edits.{IsKeptEdit};
+    ghost use Rattle.session_text.specs.KeptEdit.{kept_flaw};
+
+    ghost flaw_of = { kept_flaw };
+
+    ghost IsChecked = { IsKeptEdit };
+
+    fn judge(&self, header: &Header) -> Option<StepFlaw> {
+        match self {
+            KeptEdit::Plain(edit) => edit.flaw(header),
+            KeptEdit::Work { .. } => None,
+        }
     }
 }
 

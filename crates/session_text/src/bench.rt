@@ -3,17 +3,16 @@ ghost use Rattle.std.specs.Prelude.{◌≡◌, [], All, IfOk, OnOk};
 ghost use Rattle.std.specs.Result.{ForOk};
 ghost use Rattle.json_data.specs.Doubled.{doubled_in_text, first_doubled};
 ghost use Rattle.json_data.specs.View.{document_view, tokens_view, view};
-ghost use Rattle.bench_types.specs.Edit.{IsCheckedEdit};
 ghost use Rattle.bench_types.specs.Header.{IsCheckedHeader};
-ghost use Rattle.session_text.specs.Bench.{bench_accepted, bench_at, bench_text, edited_at, edits_accepted, shapes_at, unedited_at, IsCheckedBench};
+ghost use Rattle.session_text.specs.Bench.{bench_accepted, bench_at, bench_of_text, bench_text, edited_at, edits_accepted, kept_bench_text, shapes_at, unedited_at, IsBenchOf, IsCheckedBench, IsKeptBench};
 ghost use Rattle.session_text.specs.Node.{data_of, location_of};
 ghost use Rattle.session_text.specs.Noted.{doubled_view};
 ghost use Rattle.session_text.specs.ReadingRules.{Gives};
 ghost use Rattle.session_text.specs.Session.{IsRefusedAtOnce, ReadsAs};
 
-use crate::accepted::{Source, items_accepted};
+use crate::accepted::{HasCheck, Source, items_accepted};
 use crate::array::list_at;
-use crate::edit::EditReader;
+use crate::edit::{EditReader, ReadEdit};
 use crate::fault::{ReadFault, TextFault};
 use crate::node::Node;
 use crate::noted::{Noted, doubled_member};
@@ -21,21 +20,24 @@ use crate::path::Location;
 use crate::session::{document, known_names, session_accepted, session_at};
 use bench_types::{Edit, Header, HeaderFlaw, Items, Step};
 use json_data::{Document, Gathered, Scratch};
+use kept_edits::KeptEdit;
 use std::alloc::Global;
+use std::marker::PhantomData;
 
-/// A session, and edits of it that are to be made in their order.
+/// A session, and edits of it that are to be made in their order: edits of the session alone, or of
+/// how long its tasks work too.
 #[derive(Debug, Drop)]
-pub struct Bench {
+pub struct Bench<E = Edit> {
     pub header: Header,
     pub steps: Items<Step>,
-    pub edits: Items<Edit>,
+    pub edits: Items<E>,
 }
 
 /// Reads a bench document from a JSON text: an object with `session` and `edits`, or a session
 /// alone.
 ///
 /// Whether a session has the locations of its edits is not looked at.
-#[tactic(auto, unfolding(crate::specs::Bench::bench_text))]
+#[tactic(auto, unfolding(crate::specs::Bench::bench_of_text))]
 pub fn read_bench(alloc: Global, text: &[u8]) -> Result<Bench, TextFault>
     // The session and its edits, or the first fault with its path, or that memory ran out.
     ensures reading { ReadsAs (λ bench. bench) result (bench_text text.now) }
@@ -49,9 +51,13 @@ pub fn read_bench(alloc: Global, text: &[u8]) -> Result<Bench, TextFault>
 }
 
 /// The bench that is the document.
-fn bench_in(alloc: Global, document: &Document<'_>) -> Result<Bench, ReadFault>
-    ensures reading { Gives (λ bench. bench) result (bench_at [] (document_view document.now)) }
-    ensures checked { IfOk result IsCheckedBench }
+fn bench_in<E: ReadEdit + HasCheck<Header>>(
+    alloc: Global,
+    document: &Document<'_>,
+) -> Result<Bench<E>, ReadFault>
+    ensures reading { Gives (λ bench. bench) result
+        (bench_at E.reading E.flaw_of [] (document_view document.now)) }
+    ensures checked { IfOk result (IsBenchOf E.IsChecked) }
 {
     bench_at(&Node {
         alloc,
@@ -61,11 +67,39 @@ fn bench_in(alloc: Global, document: &Document<'_>) -> Result<Bench, ReadFault>
 }
 
 /// The same, with its first member that stands twice.
-#[tactic(auto, unfolding(crate::specs::Bench::bench_text))]
 pub fn read_bench_noted(alloc: Global, text: &[u8]) -> Result<Noted<Bench>, TextFault>
     ensures reading { ReadsAs (λ noted. noted.document) result (bench_text text.now) }
     ensures no_text { IsRefusedAtOnce text.now result }
     ensures checked { IfOk result (λ noted. IsCheckedBench noted.document) }
+    ensures doubled { IfOk result
+        (λ noted. doubled_view noted.doubled ≡ doubled_in_text text.now) }
+{
+    read_noted(alloc, text)
+}
+
+/// The same with edits of work too, which format 3 has.
+pub fn read_kept_bench_noted(
+    alloc: Global,
+    text: &[u8],
+) -> Result<Noted<Bench<KeptEdit>>, TextFault>
+    ensures reading { ReadsAs (λ noted. noted.document) result (kept_bench_text text.now) }
+    ensures no_text { IsRefusedAtOnce text.now result }
+    ensures checked { IfOk result (λ noted. IsKeptBench noted.document) }
+    ensures doubled { IfOk result
+        (λ noted. doubled_view noted.doubled ≡ doubled_in_text text.now) }
+{
+    read_noted(alloc, text)
+}
+
+#[tactic(auto, unfolding(crate::specs::Bench::bench_of_text))]
+fn read_noted<E: ReadEdit + HasCheck<Header>>(
+    alloc: Global,
+    text: &[u8],
+) -> Result<Noted<Bench<E>>, TextFault>
+    ensures reading { ReadsAs (λ noted. noted.document) result
+        (bench_of_text E.reading E.flaw_of text.now) }
+    ensures no_text { IsRefusedAtOnce text.now result }
+    ensures checked { IfOk result (λ noted. IsBenchOf E.IsChecked noted.document) }
     ensures doubled { IfOk result
         (λ noted. doubled_view noted.doubled ≡ doubled_in_text text.now) }
 {
@@ -74,10 +108,13 @@ pub fn read_bench_noted(alloc: Global, text: &[u8]) -> Result<Noted<Bench>, Text
     Ok(noted_bench(alloc, &document)?)
 }
 
-fn noted_bench(alloc: Global, document: &Document<'_>) -> Result<Noted<Bench>, ReadFault>
+fn noted_bench<E: ReadEdit + HasCheck<Header>>(
+    alloc: Global,
+    document: &Document<'_>,
+) -> Result<Noted<Bench<E>>, ReadFault>
     ensures reading { Gives (λ noted. noted.document) result
-        (bench_at [] (document_view document.now)) }
-    ensures checked { IfOk result (λ noted. IsCheckedBench noted.document) }
+        (bench_at E.reading E.flaw_of [] (document_view document.now)) }
+    ensures checked { IfOk result (λ noted. IsBenchOf E.IsChecked noted.document) }
     ensures doubled { IfOk result
         (λ noted. doubled_view noted.doubled ≡ first_doubled (tokens_view document.now)) }
 {
@@ -89,10 +126,10 @@ fn noted_bench(alloc: Global, document: &Document<'_>) -> Result<Noted<Bench>, R
     })
 }
 
-fn bench_at(node: &Node<'_, '_, '_>) -> Result<Bench, ReadFault>
+fn bench_at<E: ReadEdit + HasCheck<Header>>(node: &Node<'_, '_, '_>) -> Result<Bench<E>, ReadFault>
     ensures reading { Gives (λ bench. bench) result
-        (bench_at (location_of node.now) (data_of node.now)) }
-    ensures checked { IfOk result IsCheckedBench }
+        (bench_at E.reading E.flaw_of (location_of node.now) (data_of node.now)) }
+    ensures checked { IfOk result (IsBenchOf E.IsChecked) }
 {
     match node.value.item().get("session") {
         Some(session) => edited_at(node, &Gathered::of(session)),
@@ -102,10 +139,12 @@ fn bench_at(node: &Node<'_, '_, '_>) -> Result<Bench, ReadFault>
 
 /// The session with no edits.
 #[tactic(auto, unfolding(crate::specs::Bench::unedited_at))]
-fn unedited_at(node: &Node<'_, '_, '_>) -> Result<Bench, ReadFault>
+fn unedited_at<E: ReadEdit + HasCheck<Header>>(
+    node: &Node<'_, '_, '_>,
+) -> Result<Bench<E>, ReadFault>
     ensures reading { Gives (λ bench. bench) result
         (unedited_at (location_of node.now) (data_of node.now)) }
-    ensures checked { IfOk result IsCheckedBench }
+    ensures checked { IfOk result (IsBenchOf E.IsChecked) }
 {
     let (_format, header, steps) = session_at(node)?;
     let (header, steps) = session_accepted(node, header, steps)?;
@@ -118,10 +157,14 @@ fn unedited_at(node: &Node<'_, '_, '_>) -> Result<Bench, ReadFault>
 
 /// The session, which was found as the member `session`, and its edits.
 #[tactic(auto, unfolding(crate::specs::Bench::edited_at))]
-fn edited_at(node: &Node<'_, '_, '_>, session: &Gathered<'_, '_>) -> Result<Bench, ReadFault>
+fn edited_at<E: ReadEdit + HasCheck<Header>>(
+    node: &Node<'_, '_, '_>,
+    session: &Gathered<'_, '_>,
+) -> Result<Bench<E>, ReadFault>
     ensures reading { Gives (λ bench. bench) result
-        (edited_at (location_of node.now) (data_of node.now) (view session.now)) }
-    ensures checked { IfOk result IsCheckedBench }
+        (edited_at E.reading E.flaw_of (location_of node.now) (data_of node.now)
+        (view session.now)) }
+    ensures checked { IfOk result (IsBenchOf E.IsChecked) }
 {
     let (header, steps, edits) = shapes_at(node, session)?;
     bench_accepted(node, session, header, steps, edits)
@@ -129,12 +172,12 @@ fn edited_at(node: &Node<'_, '_, '_>, session: &Gathered<'_, '_>) -> Result<Benc
 
 /// The header, accepted or not, the steps and the edits: shapes alone are judged.
 #[tactic(auto, unfolding(crate::specs::Bench::shapes_at))]
-fn shapes_at(
+fn shapes_at<E: ReadEdit>(
     node: &Node<'_, '_, '_>,
     session: &Gathered<'_, '_>,
-) -> Result<(Result<Header, HeaderFlaw>, Vec<Step>, Vec<Edit>), ReadFault>
+) -> Result<(Result<Header, HeaderFlaw>, Vec<Step>, Vec<E>), ReadFault>
     ensures reading { Gives (λ read. (read.0, read.1.items, read.2.items)) result
-        (shapes_at (location_of node.now) (data_of node.now) (view session.now)) }
+        (shapes_at E.reading (location_of node.now) (data_of node.now) (view session.now)) }
     ensures valid { IfOk result (λ read. IfOk read.0 IsCheckedHeader) }
 {
     let members = node.object()?;
@@ -147,6 +190,7 @@ fn shapes_at(
     let reader = EditReader {
         format,
         names: &names,
+        of: PhantomData::<E>,
     };
     let edits = list_at(&reader, node, "edits")?;
     drop(names);
@@ -156,18 +200,18 @@ fn shapes_at(
 
 /// The bench, or the fault of its session, or else of its first edit at fault.
 #[tactic(auto, unfolding(crate::specs::Bench::bench_accepted))]
-fn bench_accepted(
+fn bench_accepted<E: HasCheck<Header> + Drop>(
     node: &Node<'_, '_, '_>,
     session: &Gathered<'_, '_>,
     header: Result<Header, HeaderFlaw>,
     steps: Vec<Step>,
-    edits: Vec<Edit>,
-) -> Result<Bench, ReadFault>
+    edits: Vec<E>,
+) -> Result<Bench<E>, ReadFault>
     requires { ForOk header IsCheckedHeader }
     ensures reading { Gives (λ bench. bench) result
-        (bench_accepted (location_of node.now) (data_of node.now) (view session.now)
+        (bench_accepted E.flaw_of (location_of node.now) (data_of node.now) (view session.now)
         header steps.items edits.items) }
-    ensures checked { IfOk result IsCheckedBench }
+    ensures checked { IfOk result (IsBenchOf E.IsChecked) }
 {
     let inner = Node {
         alloc: node.alloc,
@@ -184,10 +228,15 @@ fn bench_accepted(
 }
 
 #[tactic(auto, unfolding(crate::specs::Bench::edits_accepted))]
-fn edits_accepted(node: &Node<'_, '_, '_>, header: &Header, edits: &[Edit]) -> Result<(), ReadFault>
+fn edits_accepted<E: HasCheck<Header>>(
+    node: &Node<'_, '_, '_>,
+    header: &Header,
+    edits: &[E],
+) -> Result<(), ReadFault>
     ensures reading { Gives (λ done. done) result
-        (edits_accepted header.now (location_of node.now) (data_of node.now) edits.now) }
-    ensures checked { OnOk result (All (IsCheckedEdit header.now) edits.now) }
+        (edits_accepted E.flaw_of header.now (location_of node.now) (data_of node.now)
+        edits.now) }
+    ensures checked { OnOk result (All (E.IsChecked header.now) edits.now) }
 {
     let source = Source {
         alloc: node.alloc,

@@ -2,9 +2,10 @@
 ghost use Rattle.std.specs.Prelude.{◌≡◌, [], IfOk, Ok, map};
 ghost use Rattle.bench_types.specs.Edit.{IsCheckedEdit};
 ghost use Rattle.bench_types.specs.Header.{header_check};
+ghost use Rattle.json_data.specs.ObjectView.{members_view};
 ghost use Rattle.json_data.specs.View.{document_view};
 ghost use Rattle.session_text.specs.Detail.{words_of};
-ghost use Rattle.session_text.specs.Edit.{edit_kind_at, edit_kind_of, edit_kinds, edit_members_of, edit_of_kind_at, edit_text, lone_edit_at, lone_format, new_step_at};
+ghost use Rattle.session_text.specs.Edit.{edit_among, edit_kind_at, edit_kind_of, edit_kinds, edit_members_of, edit_of_kind_at, edit_text, lone_edit_at, lone_format, new_step_at};
 ghost use Rattle.session_text.specs.Node.{data_of, location_of};
 ghost use Rattle.session_text.specs.ReadingRules.{Gives};
 ghost use Rattle.session_text.specs.Session.{IsRefusedAtOnce, ReadsAs};
@@ -19,8 +20,9 @@ use crate::path::Location;
 use crate::session::document;
 use crate::step::StepReader;
 use bench_types::{Edit, Header, Step};
-use json_data::{Document, Gathered, Scratch};
+use json_data::{Document, Gathered, Object, Scratch};
 use std::alloc::Global;
+use std::marker::PhantomData;
 
 /// Reads an edit of a session with this header from a JSON text.
 ///
@@ -76,11 +78,7 @@ fn lone_edit_at(node: &Node<'_, '_, '_>, header: &Header) -> Result<Edit, ReadFa
     ensures checked { IfOk result (IsCheckedEdit header.now) }
 {
     let names = Names::of(node.alloc, header)?;
-    let reader = EditReader {
-        format: lone_format(header),
-        names: &names,
-    };
-    let edit = reader.read(node)?;
+    let edit = Edit::read(lone_format(header), &names, node)?;
     match edit.flaw(header) {
         None => Ok(edit),
         Some(flaw) => {
@@ -100,13 +98,13 @@ pub(crate) enum EditKind {
 }
 
 impl EditKind {
-    fn words() -> &'static [&'static str]
+    pub(crate) fn words() -> &'static [&'static str]
         ensures { map (λ word. word.now) result.now ≡ words_of edit_kinds }
     {
         &["insert", "remove", "replace", "change"]
     }
 
-    fn of(word: &str) -> Option<EditKind>
+    pub(crate) fn of(word: &str) -> Option<EditKind>
         ensures { result ≡ edit_kind_of word.now }
     {
         match word {
@@ -186,27 +184,69 @@ fn edit_of_kind_at(
     }
 }
 
-/// Reads edits in a format, under the names of the tasks.
-#[derive(Clone, Copy)]
-pub(crate) struct EditReader<'n, 'a> {
-    pub(crate) format: Format,
-    pub(crate) names: &'n Names<'a>,
+/// The edit of a kind, at an object with no members beside those of the kind.
+#[tactic(auto, unfolding(crate::specs::Edit::edit_among))]
+pub(crate) fn edit_among(
+    format: Format,
+    names: &Names<'_>,
+    kind: EditKind,
+    node: &Node<'_, '_, '_>,
+    members: &Object<'_, '_, '_>,
+) -> Result<Edit, ReadFault>
+    ensures { Gives (λ edit. edit) result
+        (edit_among format names.now kind (location_of node.now) (data_of node.now)
+        (members_view members.now)) }
+{
+    let edit = edit_of_kind_at(format, names, kind, node)?;
+    node.only(kind.members(), members)?;
+    Ok(edit)
 }
 
-impl<'v> ReadItem<'v> for EditReader<'_, '_> {
-    type Item = Edit;
+/// What edits of a document may be.
+pub(crate) trait ReadEdit: Copy + Drop {
+    ghost use Rattle.std.specs.Prelude.{ℕ, List, Result};
+    ghost use Rattle.serde_json.specs.Data.{Data};
+    ghost use Rattle.session_text.specs.declared.fault.TextFault.{TextFault};
+    ghost use Rattle.session_text.specs.declared.format.Format.{Format};
+    ghost use Rattle.session_text.specs.Names.{TaskNames};
+    ghost use Rattle.session_text.specs.Node.{data_of, location_of};
+    ghost use Rattle.session_text.specs.ReadingRules.{Gives};
 
-    ghost use Rattle.session_text.specs.Detail.{words_of};
+    ghost reading: { Format → TaskNames → List ℕ → Data → Result Self TextFault };
+
+    /// The edit at the node, in a format and under the names of the tasks.
+    fn read(format: Format, names: &Names<'_>, node: &Node<'_, '_, '_>) -> Result<Self, ReadFault>
+        ensures { Gives (λ edit. edit) result
+            (reading format names.now (location_of node.now) (data_of node.now)) };
+}
+
+impl ReadEdit for Edit {
     ghost use Rattle.session_text.specs.Edit.{edit_at};
 
-    ghost reading = { λ edits. edit_at edits.format edits.names.now };
+    ghost reading = { edit_at };
 
     #[tactic(auto, unfolding(crate::specs::Edit::edit_at))]
-    fn read(&self, node: &Node<'_, '_, 'v>) -> Result<Edit, ReadFault> {
+    fn read(format: Format, names: &Names<'_>, node: &Node<'_, '_, '_>) -> Result<Edit, ReadFault> {
         let members = node.object()?;
         let kind = edit_kind_at(node)?;
-        let edit = edit_of_kind_at(self.format, self.names, kind, node)?;
-        node.only(kind.members(), &members)?;
-        Ok(edit)
+        edit_among(format, names, kind, node, &members)
+    }
+}
+
+/// Reads edits in a format, under the names of the tasks.
+#[derive(Clone, Copy)]
+pub(crate) struct EditReader<'n, 'a, E> {
+    pub(crate) format: Format,
+    pub(crate) names: &'n Names<'a>,
+    pub(crate) of: PhantomData<E>,
+}
+
+impl<'v, E: ReadEdit> ReadItem<'v> for EditReader<'_, '_, E> {
+    type Item = E;
+
+    ghost reading = { λ edits. E.reading edits.format edits.names.now };
+
+    fn read(&self, node: &Node<'_, '_, 'v>) -> Result<E, ReadFault> {
+        E::read(self.format, self.names, node)
     }
 }

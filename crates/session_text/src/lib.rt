@@ -13,6 +13,7 @@ mod edit;
 mod fault;
 mod format;
 mod header;
+mod kept_edit;
 mod member;
 mod names;
 mod nearest;
@@ -26,7 +27,7 @@ mod unknown_name;
 
 pub use accepted::item_fault;
 pub use array::{ReadItem, each, list_at};
-pub use bench::{Bench, read_bench, read_bench_noted};
+pub use bench::{Bench, read_bench, read_bench_noted, read_kept_bench_noted};
 pub use call::{CallKind, call_at};
 pub use detail::{BrokenRule, Detail, Expected, Found, Words};
 pub use edit::read_edit;

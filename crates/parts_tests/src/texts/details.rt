@@ -23,7 +23,7 @@ fn detail_of(alloc: Global, step: &str) -> Result<Detail, Fail> {
 }
 
 /// The text that is told, the nearest word, and all words.
-type Printed = (Option<&'static str>, Option<&'static str>, &'static str);
+pub type Printed = (Option<&'static str>, Option<&'static str>, &'static str);
 
 pub fn text_of(shown: &Shown) -> Option<&str> {
     match shown {
@@ -39,7 +39,7 @@ pub fn word_of(nearest: &Option<Words>) -> Option<&str> {
     }
 }
 
-fn check_stray(rt: &impl Abort, stray: &Stray, printed: &Printed) {
+pub fn check_stray(rt: &impl Abort, stray: &Stray, printed: &Printed) {
     let (text, nearest, words) = *printed;
     expect_same(rt, &text_of(&stray.text), &text);
     expect_same(rt, &word_of(&stray.nearest), &nearest);

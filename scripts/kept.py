@@ -258,7 +258,7 @@ class Queue:
 def changed(work, changes):
     """The work of a call with changes in their order."""
     for change in changes:
-        work = (max(work[0] + change, 0), 0)
+        work = (min(max(work[0] + change, 0), 2**63 - 1), 0)
     return work
 
 

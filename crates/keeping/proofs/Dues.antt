@@ -106,58 +106,100 @@ some_same r s xs same = λ i. first_some (λ x. same x i) xs
 
 -- ---- the search
 
--- the search for the first due call went over so many cores: it found the call at this index, none
--- where that is the number of calls
-pub record IsSearched (table : Table) (works : Works) (timed : Bool) (cores first : ℕ) (found : Option Step) : Type 0 where
+-- the search for the first call, or end, of which something comes went over so many cores: it found
+-- the one at this index, none where that is the number of calls
+pub record IsSearched {Y : Type 0} (table : Table) (works : Works) (comes : ℕ → Option Y) (cores first : ℕ) (found : Option Y) : Type 0 where
   pub within : first ≤ length works.calls.items
   pub none : first ≡ length works.calls.items → found ≡ None
   pub some :
       first < length works.calls.items →
       (core : ℕ) × (core < table.settings.cores) × (slice_index works.queues.heads.items (current table.control core) ≡ first)
-      × (found ≡ due_on table works timed core) × ((step : Step) × (found ≡ Some step))
-  pub others :
-      (core : ℕ) → core < cores → slice_index works.queues.heads.items (current table.control core) < first
-      → due_on table works timed core ≡ None
+      × (found ≡ comes core) × ((y : Y) × (found ≡ Some y))
+  pub others : (core : ℕ) → core < cores → slice_index works.queues.heads.items (current table.control core) < first → comes core ≡ None
 
-pub search_begins : (table : Table) (works : Works) (timed : Bool) (first : ℕ) → first ≡ length works.calls.items → IsSearched table works timed 0 first None
-search_begins table works timed first all = record {
+pub search_begins : {Y : Type 0} (table : Table) (works : Works) (comes : ℕ → Option Y) (first : ℕ) → first ≡ length works.calls.items
+    → IsSearched table works comes 0 first None
+search_begins table works comes first all = record {
   within = omega (arith, all);
   none = λ same. refl;
   some = λ low. absurd (omega (arith, all, low));
   others = λ core low. absurd (omega (arith, low));
 }
 
-pub search_passes : (table : Table) (works : Works) (timed : Bool) (core first : ℕ) (found : Option Step) → IsSearched table works timed core first found
-    → (first ≤ slice_index works.queues.heads.items (current table.control core)) ⊎ (due_on table works timed core ≡ None)
-    → IsSearched table works timed (core + 1) first found
-search_passes table works timed core first found searched why = record {
+pub search_passes : {Y : Type 0} (table : Table) (works : Works) (comes : ℕ → Option Y) (core first : ℕ) (found : Option Y)
+    → IsSearched table works comes core first found
+    → (first ≤ slice_index works.queues.heads.items (current table.control core)) ⊎ (comes core ≡ None)
+    → IsSearched table works comes (core + 1) first found
+search_passes table works comes core first found searched why = record {
   within = searched.within;
   none = searched.none;
   some = searched.some;
   others = λ other low early. elim (cases_eq other core) [
-    | inl same ↦ ap (due_on table works timed) same ∙ at why (subst (λ core. slice_index works.queues.heads.items (current table.control core) < first) same early)
+    | inl same ↦ ap comes same ∙ at why (subst (λ core. slice_index works.queues.heads.items (current table.control core) < first) same early)
     | inr away ↦ searched.others other (omega (arith, low, away)) early
   ];
 }
   where
-    at : (first ≤ slice_index works.queues.heads.items (current table.control core)) ⊎ (due_on table works timed core ≡ None)
-        → slice_index works.queues.heads.items (current table.control core) < first → due_on table works timed core ≡ None
+    at : (first ≤ slice_index works.queues.heads.items (current table.control core)) ⊎ (comes core ≡ None)
+        → slice_index works.queues.heads.items (current table.control core) < first → comes core ≡ None
     at (inl behind) early = absurd (omega (arith, behind, early))
     at (inr none) early = none
 
-pub search_finds : (table : Table) (works : Works) (timed : Bool) (core first : ℕ) (found : Option Step) (step : Step) → core < table.settings.cores
-    → IsSearched table works timed core first found → slice_index works.queues.heads.items (current table.control core) < first
-    → due_on table works timed core ≡ Some step
-    → IsSearched table works timed (core + 1) (slice_index works.queues.heads.items (current table.control core)) (Some step)
-search_finds table works timed core first found step below searched early is = record {
+pub search_finds : {Y : Type 0} (table : Table) (works : Works) (comes : ℕ → Option Y) (core first : ℕ) (found : Option Y) (y : Y) → core < table.settings.cores
+    → IsSearched table works comes core first found → slice_index works.queues.heads.items (current table.control core) < first
+    → comes core ≡ Some y
+    → IsSearched table works comes (core + 1) (slice_index works.queues.heads.items (current table.control core)) (Some y)
+search_finds table works comes core first found y below searched early is = record {
   within = omega (arith, early, searched.within);
   none = λ same. absurd (omega (arith, same, early, searched.within));
-  some = λ low. (core, below, refl, sym is, (step, refl));
+  some = λ low. (core, below, refl, sym is, (y, refl));
   others = λ other low before. elim (cases_eq other core) [
     | inl same ↦ absurd (omega (arith, ap (λ core. slice_index works.queues.heads.items (current table.control core)) same, before))
     | inr away ↦ searched.others other (omega (arith, low, away)) (omega (arith, before, early))
   ];
 }
+
+pub moved :
+    {Y : Type 0} (table : Table) (works : Works) (comes : ℕ → Option Y) (cores first place : ℕ) (found y : Option Y) → first ≡ place → found ≡ y
+    → IsSearched table works comes cores place y → IsSearched table works comes cores first found
+moved table works comes cores first place found y same like searched =
+    subst (λ first. IsSearched table works comes cores first found) (sym same)
+    (subst (λ found. IsSearched table works comes cores place found) (sym like) searched)
+
+-- What is found is the first that something comes of, where on each core the same comes of it, and it
+-- is at the head of some core's task.
+module _ {Y : Type 0} (table : Table) (works : Works) (comes made : ℕ → Option Y)
+    (there : (core : ℕ) → core < table.settings.cores
+    → slice_index works.queues.heads.items (current table.control core) < length works.calls.items
+    → comes core ≡ made (slice_index works.queues.heads.items (current table.control core)))
+    (owned : (index : ℕ) (y : Y) → index < length works.calls.items → made index ≡ Some y
+    → (core : ℕ) × (core < table.settings.cores) × (slice_index works.queues.heads.items (current table.control core) ≡ index))
+    (cores first : ℕ) (found : Option Y) (all : cores ≡ table.settings.cores) (searched : IsSearched table works comes cores first found) where
+  -- nothing comes of any before it
+  none_before : (index : ℕ) → index < first → made index ≡ None
+  none_before index low = which (made index) refl
+    where
+      which : (o : Option Y) → made index ≡ o → made index ≡ None
+      which None none = none
+      which (Some y) some =
+          let below : index < length works.calls.items = omega (arith, low, searched.within) in
+          let own = owned index y below some in
+          let none = searched.others own.0 (omega (arith, own.1, all)) (omega (arith, own.2, low)) in
+          ap made (sym own.2) ∙ sym (there own.0 own.1 (omega (arith, own.2, below))) ∙ none
+
+  pub search_found : found ≡ first_some made (range_with_len 0 (length works.calls.items))
+  search_found = elim (cases_lt first (length works.calls.items)) [
+    | inl low ↦
+        let some = searched.some low in
+        let it : made first ≡ Some some.4.0
+        = ap made (sym some.2) ∙ sym (there some.0 some.1 (omega (arith, some.2, low))) ∙ sym some.3 ∙ some.4.1 in
+        some.4.1
+        ∙ sym (found_some made (length works.calls.items) 0 first some.4.0 (omega arith) (omega (arith, low)) it (λ j past early. none_before j early))
+    | inr high ↦
+        let same : first ≡ length works.calls.items = omega (arith, high, searched.within) in
+        searched.none same
+        ∙ sym (none_some made (length works.calls.items) 0 (λ j past early. none_before j (omega (arith, early, same))))
+  ]
 
 -- ---- what is found
 
@@ -172,7 +214,7 @@ module _ (works : Works) (now : Progress) (sound : IsSound now.table) (fit : Are
   abbrev table : Table
   table = now.table
 
-  checked_at : (index : ℕ) → index < length calls → IsUnmade table.settings (call_at calls index)
+  pub checked_at : (index : ℕ) → index < length calls → IsUnmade table.settings (call_at calls index)
   checked_at index below = All-get_or (IsUnmade table.settings) calls index _ below fit.checked
 
   pub callers : (index : ℕ) → index < length calls → (call_at calls index).task < table.settings.tasks
@@ -182,7 +224,7 @@ module _ (works : Works) (now : Progress) (sound : IsSound now.table) (fit : Are
   running_task core below = let sized = sound.consistent.sized in
       omega (arith, sized.rows, sound.consistent.in_place.is_task core (omega (arith, sized.cores, below)))
 
-  worked_as : (one : Unmade) → one.task < table.settings.tasks → is_worked_for (clock_at works.worked.items one.task) timed one ≡ has_worked now one
+  pub worked_as : (one : Unmade) → one.task < table.settings.tasks → is_worked_for (clock_at works.worked.items one.task) timed one ≡ has_worked now one
   unfolding has_worked
   worked_as one low = let same = holds.worked one.task (omega (arith, low, fit.worked_each)) in λ i. is_worked_for (same i) (timely i) one
 
@@ -200,7 +242,7 @@ module _ (works : Works) (now : Progress) (sound : IsSound now.table) (fit : Are
   first_calls = ap firsts (sym holds.unmade) ∙ firsts_are calls table.settings.tasks heads works.queues.next.items fit.rows callers
 
   -- something that comes of first calls, by their indices
-  by_index : {Z : Type 0} (r : Unmade → Option Z)
+  pub by_index : {Z : Type 0} (r : Unmade → Option Z)
       → first_some r (firsts now.unmade) ≡ first_some (λ index. cond (is_first heads calls index) (r (call_at calls index)) None) (range_with_len 0 (length calls))
   by_index r =
       ap (first_some r) first_calls ∙ some_mapped r (call_at calls) (filter (is_first heads calls) (range_with_len 0 (length calls)))
@@ -279,45 +321,24 @@ module _ (works : Works) (now : Progress) (sound : IsSound now.table) (fit : Are
       at true own true (Some call) is found =
           which own call is (is_timely table (on_its_core table (record { task = (call_at calls index).task; call = call }))) refl found
 
-  -- no call before the one that was found can be made
-  none_before : (cores first : ℕ) (found : Option Step) → cores ≡ table.settings.cores → IsSearched table works timed cores first found → (index : ℕ)
-      → index < first → due_at index ≡ None
-  none_before cores first found all searched index low = at (due_at index) refl
-    where
-      below : index < length calls
-      below = omega (arith, low, searched.within)
+  -- a call that can be made is at the head of some core's task
+  due_owned : (index : ℕ) (step : Step) → index < length calls → due_at index ≡ Some step
+      → (core : ℕ) × (core < table.settings.cores) × (slice_index heads (current table.control core) ≡ index)
+  due_owned index step low found =
+      let due = due_parts index step found in
+      let core = core_running table (call_at calls index).task in
+      let test = timely_runs table core (call_at calls index).task due.call ((checked_at index low).begins due.call due.is) due.can in
+      let runs : current table.control core ≡ (call_at calls index).task = grind (arith, nat_tests, test) in
+      let own = due.own in
+      let head : slice_index heads (call_at calls index).task ≡ index = grind (arith, nat_tests, own) in
+      (core, running_below table (call_at calls index).task sound, ap (slice_index heads) runs ∙ head)
 
-      not_there : (step : Step) → due_at index ≡ Some step → due_at index ≡ None
-      not_there step is =
-          let due = due_parts index step is in
-          let core = core_running table (call_at calls index).task in
-          let core_low = running_below table (call_at calls index).task sound in
-          let test = timely_runs table core (call_at calls index).task due.call ((checked_at index below).begins due.call due.is) due.can in
-          let runs : current table.control core ≡ (call_at calls index).task = grind (arith, nat_tests, test) in
-          let own = due.own in
-          let head : slice_index heads (call_at calls index).task ≡ index = grind (arith, nat_tests, own) in
-          let there : slice_index heads (current table.control core) ≡ index = ap (slice_index heads) runs ∙ head in
-          let none = searched.others core (omega (arith, core_low, all)) (omega (arith, there, low)) in
-          ap due_at (sym there) ∙ sym (due_is core core_low (omega (arith, there, below))) ∙ none
-
-      at : (o : Option Step) → due_at index ≡ o → due_at index ≡ None
-      at None none = none
-      at (Some step) some = not_there step some
-
-  pub search_ends : (cores first : ℕ) (found : Option Step) → cores ≡ table.settings.cores → IsSearched table works timed cores first found
+  pub search_ends : (cores first : ℕ) (found : Option Step) → cores ≡ table.settings.cores
+      → IsSearched table works (due_on table works timed) cores first found
       → found ≡ find (is_timely table) (map (on_its_core table) (worked_calls now))
   search_ends cores first found all searched =
-      let before = none_before cores first found all searched in
-      elim (cases_lt first (length calls)) [
-        | inl low ↦
-            let some = searched.some low in
-            let there = due_is some.0 some.1 (omega (arith, some.2, low)) in
-            let due : due_at first ≡ Some some.4.0 = ap due_at (sym some.2) ∙ sym there ∙ sym some.3 ∙ some.4.1 in
-            some.4.1 ∙ sym (found_some due_at (length calls) 0 first some.4.0 (omega arith) (omega (arith, low)) due (λ j past early. before j early)) ∙ sym oldest_is
-        | inr high ↦
-            let same : first ≡ length calls = omega (arith, high, searched.within) in
-            searched.none same ∙ sym (none_some due_at (length calls) 0 (λ j past early. before j (omega (arith, early, same)))) ∙ sym oldest_is
-      ]
+      search_found table works (due_on table works timed) due_at (λ core below some. due_is core below some) due_owned cores first found all searched
+      ∙ sym oldest_is
 
   -- ---- the call of a core
 
@@ -430,10 +451,3 @@ module _ (works : Works) (now : Progress) (sound : IsSound now.table) (fit : Are
       → None ≡ find (is_timely table) (map (on_its_core table) (in_order LeastCore table (worked_calls now)))
   least_core_none others =
       sym (none_some (due_on table works timed) table.settings.cores 0 (λ less past low. others less (omega (arith, low)))) ∙ sym least_core_is
-
-pub moved :
-    (table : Table) (works : Works) (timed : Bool) (cores first place : ℕ) (found step : Option Step) → first ≡ place → found ≡ step
-    → IsSearched table works timed cores place step → IsSearched table works timed cores first found
-moved table works timed cores first place found step same like searched =
-    subst (λ first. IsSearched table works timed cores first found) (sym same)
-    (subst (λ found. IsSearched table works timed cores place found) (sym like) searched)

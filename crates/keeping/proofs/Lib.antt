@@ -1,7 +1,9 @@
 pub mod Rows
 pub mod Linked
 pub mod Dues
+pub mod Ends
 pub mod Lefts
 pub mod Elapses
 pub mod Going
 pub mod Running
+pub mod FirstEnds

@@ -1,5 +1,5 @@
 -- The calls that are to be made, and how long their tasks worked.
-use Rattle.std.specs.Prelude.{◌≡◌, ℕ, ◌-◌, ◌<◌, ◌≤◌, nat_le, Bool, not, ◌&&◌, ◌||◌, List, length, filter, filter_map, All, Option, Some, None, option_and_then, slice_get, slice_index, slice_index_or, false, if◌then◌else◌}
+use Rattle.std.specs.Prelude.{◌≡◌, ℕ, ◌-◌, ◌<◌, ◌≤◌, nat_le, Bool, not, ◌&&◌, ◌||◌, List, length, filter, filter_map, All, Option, Some, None, is_none, option_and_then, slice_get, slice_index, slice_index_or, false, if◌then◌else◌}
 use Rattle.std.specs.Option.{option_map_or}
 use Rattle.bench_types.specs.declared.kernel_data.Settings.{Settings}
 use Rattle.bench_types.specs.declared.step.Call.{Call}
@@ -45,12 +45,22 @@ due_on table works timed core =
     then timely_on table core one else None)
     (first_of works (current table.control core))
 
+abbrev pub can_call_on : Table → ℕ → ℕ → Bool
+can_call_on table core task = is_timely table (steps.Call core task Yield)
+
+-- the core's task, where it is at its end: it has worked for as long as it did, and could call
+abbrev pub end_on : Table → Works → Bool → ℕ → Option ℕ
+end_on table works timed core =
+    option_and_then
+    (λ one. if is_none one.call
+    && (is_worked_for (clock_at works.worked.items one.task) timed one
+    && can_call_on table core one.task)
+    then Some one.task else None)
+    (first_of works (current table.control core))
+
 -- the first calls for which tasks have worked
 abbrev pub worked_calls : Progress → List WaitingCall
 worked_calls now = filter_map as_waiting (filter (has_worked now) (firsts now.unmade))
-
-abbrev pub can_call_on : Table → ℕ → ℕ → Bool
-can_call_on table core task = is_timely table (steps.Call core task Yield)
 
 -- the units that the core's task has left to work, where it could call
 abbrev pub left_on : Table → Works → ℕ → ℕ

@@ -37,7 +37,7 @@ fn is_working(kernel: &Kernel, task: u32) -> bool
 }
 
 /// A step from outside, which takes so much time, comes: it finds the tasks that work.
-pub(crate) fn elapse(kernel: &Kernel, time: u32, worked: &mut [Clock])
+pub fn elapse(kernel: &Kernel, time: u32, worked: &mut [Clock])
     requires tasks { length worked.old ≡ kernel.now.settings.tasks }
     requires small { AreSmall worked.old }
     ensures many { length worked.new ≡ length worked.old }

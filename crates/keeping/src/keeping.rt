@@ -1,11 +1,13 @@
 //! How far a run was made.
 ghost use Rattle.std.specs.Prelude.{◌≡◌, ◌<◌, ◌≤◌, ◌+◌, ◌-◌, ◌++◌, ◌∷◌, ◌^◌, [], ℕ, All, Err, IfOk, OnErr, OnOk, Some, true, filter_map, find, length, map, min};
+ghost use Rattle.std.specs.Option.{option_or};
 ghost use Rattle.bench_types.specs.Header.{IsCheckedHeader};
 ghost use Rattle.bench_types.specs.Limits.{max_steps};
 ghost use Rattle.bench_types.specs.Step.{settings_of};
 ghost use Rattle.settled_runs.specs.Settled.{is_timely, on_its_core};
 ghost use Rattle.settled_runs.specs.SettleLaws.{comes_from_outside};
-ghost use Rattle.kept_runs.specs.Rule.{Progress, after, as_waiting, cut, due_calls, is_within_tick, next_step, outside_step};
+ghost use Rattle.kept_runs.specs.Known.{end_limit, task_at_end};
+ghost use Rattle.kept_runs.specs.Rule.{Progress, after, as_waiting, cut, due_calls, is_before_time, is_within_tick, next_step, outside_step};
 ghost use Rattle.kept_runs.specs.Works.{is_pass};
 ghost use Rattle.keeping.specs.Progress.{caller_of, is_joined, progress_at_start, takes_time, Holds, IsComing, IsGone, IsNextIn};
 ghost use Rattle.keeping.specs.Works.{IsUnmade};
@@ -15,7 +17,7 @@ use crate::elapsing::elapse;
 use crate::run::KeepFault;
 use crate::works::Works;
 use bench_types::{Call, Header, MAX_STEPS, Step};
-use kept_runs::{CallOrder, Outside, Unmade};
+use kept_runs::{CallOrder, KnownLimit, LimitReason, Outside, Unmade};
 use session_runs::{Run, RunMaker};
 use settled_runs::WaitingCall;
 use settling::quiet_work;
@@ -70,7 +72,7 @@ fn is_pass(step: &Step) -> bool
 }
 
 // Whether the next step from outside takes time, or there is none.
-fn is_before_time(units: u32, next: Option<Outside>) -> bool
+fn takes_time(units: u32, next: Option<Outside>) -> bool
     ensures { result ≡ takes_time units next }
 {
     match next {
@@ -132,6 +134,15 @@ impl Keeping {
         self.passed && is_joined(self.outside.next())
     }
 
+    // Whether time goes by next: the next step from outside takes time, or there is none.
+    fn is_before_time(&self) -> bool
+        requires { (now : Progress) × Holds self.now now }
+        ensures { (now : Progress) → Holds self.now now → result ≡ is_before_time now }
+    {
+        let units = self.run.kernel().settings().units;
+        takes_time(units, self.outside.next())
+    }
+
     // The first of the due calls that is not refused with E1 to E5.
     fn due_call(&self) -> Option<Step>
         requires { (now : Progress) × Holds self.now now }
@@ -141,9 +152,8 @@ impl Keeping {
         if self.is_within_tick() {
             return None;
         }
-        let kernel = self.run.kernel();
-        let timed = is_before_time(kernel.settings().units, self.outside.next());
-        self.works.next_call(kernel, self.order, timed)
+        let timed = self.is_before_time();
+        self.works.next_call(self.run.kernel(), self.order, timed)
     }
 
     // A pass ends where a task has worked for its call, or its end.
@@ -183,6 +193,47 @@ impl Keeping {
             return Some(step);
         }
         self.outside_step()
+    }
+
+    // The first task that is at its end; none between a tick and its last unit.
+    fn task_at_end(&self) -> Option<u32>
+        requires { (now : Progress) × Holds self.now now }
+        ensures { (now : Progress) → Holds self.now now → result ≡ task_at_end now }
+    {
+        if self.is_within_tick() {
+            return None;
+        }
+        let timed = self.is_before_time();
+        self.works.task_at_end(self.run.kernel(), timed)
+    }
+
+    // The limit where the step is next: it comes from outside though a task is at its end.
+    fn end_limit(&self, step: &Step) -> Option<KnownLimit>
+        requires { (now : Progress) × Holds self.now now }
+        ensures { (now : Progress) → Holds self.now now → result
+            ≡ end_limit (self.now.run.steps ++ step.now ∷ []) (length self.now.run.steps) now }
+    {
+        if !comes_from_outside(step) {
+            return None;
+        }
+        let task = self.task_at_end()?;
+        Some(KnownLimit {
+            place: self.run.steps().len(),
+            task,
+            reason: LimitReason::End,
+        })
+    }
+
+    /// The first limit by an end, where the step is next: the one before, or else that of the step.
+    pub(crate) fn first_end(&self, before: Option<KnownLimit>, step: &Step) -> Option<KnownLimit>
+        requires { (now : Progress) × Holds self.now now }
+        ensures { (now : Progress) → Holds self.now now → result ≡ option_or before
+            (end_limit (self.now.run.steps ++ step.now ∷ []) (length self.now.run.steps) now) }
+    {
+        match before {
+            Some(limit) => Some(limit),
+            None => self.end_limit(step),
+        }
     }
 
     // A step from outside comes, which the kernel has not made yet.

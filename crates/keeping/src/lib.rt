@@ -8,4 +8,5 @@ mod queues;
 mod run;
 mod works;
 
-pub use run::{KeepFault, keep_run};
+pub use elapsing::elapse;
+pub use run::{KeepFault, Kept, keep_run};

@@ -5,12 +5,13 @@ ghost use Rattle.bench_types.specs.Limits.{max_steps};
 ghost use Rattle.bench_types.specs.Step.{settings_of};
 ghost use Rattle.kept_runs.specs.Rule.{IsRunFrom};
 ghost use Rattle.smp_kernel.specs.Counting.{meter_after, CountsUpTo};
+ghost use Rattle.keeping.specs.Ends.{first_end};
 ghost use Rattle.keeping.specs.Progress.{progress_at_start, IsComing, IsKeptTooLong};
 ghost use Rattle.keeping.specs.Works.{IsUnmade};
 
 use crate::keeping::Keeping;
 use bench_types::Header;
-use kept_runs::{CallOrder, Outside, Unmade};
+use kept_runs::{CallOrder, KnownLimit, Outside, Unmade};
 use session_runs::Run;
 use smp_kernel::Meter;
 use std::alloc::{AllocError, Global};
@@ -38,6 +39,15 @@ impl From<AllocError> for KeepFault {
     }
 }
 
+/// A run that keeps work.
+#[derive(Debug, Drop)]
+pub struct Kept {
+    pub run: Run,
+    /// The first place where a step from outside comes though a task is at its end: behind it is
+    /// not known what the task does.
+    pub end: Option<KnownLimit>,
+}
+
 /// The run that makes these calls when their tasks have worked for them, between these steps from
 /// outside. The meter counts its steps.
 pub fn keep_run(
@@ -47,25 +57,32 @@ pub fn keep_run(
     unmade: Vec<Unmade>,
     outside: Vec<Outside>,
     meter: &mut Meter,
-) -> Result<Run, KeepFault>
+) -> Result<Kept, KeepFault>
     requires header { IsCheckedHeader header.now }
     requires unmade { All (IsUnmade (settings_of header.now)) unmade.items }
     requires outside { All (IsComing (settings_of header.now)) outside.items }
     requires few { length unmade.items < 2 ^ 32 }
-    ensures header { IfOk result (λ run. run.session.header ≡ header.now) }
+    ensures header { IfOk result (λ kept. kept.run.session.header ≡ header.now) }
     ensures run { IfOk result
-        (λ run. IsRunFrom (progress_at_start order header.now unmade.items outside.items)
-        run.session.steps run.left) }
-    ensures room { IfOk result (λ run. length run.session.steps ≤ max_steps) }
+        (λ kept. IsRunFrom (progress_at_start order header.now unmade.items outside.items)
+        kept.run.session.steps kept.run.left) }
+    ensures end { IfOk result
+        (λ kept. kept.end
+        ≡ first_end (progress_at_start order header.now unmade.items outside.items)
+        kept.run.session.steps) }
+    ensures room { IfOk result (λ kept. length kept.run.session.steps ≤ max_steps) }
     ensures long { result ≡ Err KeepFault.TooManySteps
         → IsKeptTooLong (progress_at_start order header.now unmade.items outside.items) }
     ensures counted { IfOk result
-        (λ run. meter.new ≡ meter_after (length run.session.steps) meter.old) }
+        (λ kept. meter.new ≡ meter_after (length kept.run.session.steps) meter.old) }
     ensures some { OnErr result (CountsUpTo max_steps meter.old meter.new) }
 {
     let mut keeping = Keeping::start(alloc, order, header, unmade, outside)?;
+    let mut end = None;
     while let Some(step) = keeping.next_step() {
+        end = keeping.first_end(end, &step);
         keeping.make(step, meter)?;
     }
-    Ok(keeping.finish(alloc)?)
+    let run = keeping.finish(alloc)?;
+    Ok(Kept { run, end })
 }

@@ -1,13 +1,14 @@
 //! The calls that are to be made, and how long their tasks worked.
-ghost use Rattle.std.specs.Prelude.{◌≡◌, ◌<◌, ◌≤◌, All, IfOk, find, map, filter_map, length, slice_index, slice_set};
+ghost use Rattle.std.specs.Prelude.{◌≡◌, ◌<◌, ◌≤◌, All, IfOk, find, map, filter_map, length, option_map, slice_index, slice_set};
 ghost use Rattle.bench_model.specs.Equal.{StandsFor};
 ghost use Rattle.bench_model.specs.Table.{Table};
 ghost use Rattle.settled_runs.specs.Settled.{is_timely, on_its_core};
 ghost use Rattle.kept_runs.specs.Clocks.{is_before, zero_clock};
+ghost use Rattle.kept_runs.specs.Known.{is_due_end};
 ghost use Rattle.kept_runs.specs.Rule.{Progress, as_waiting, firsts, has_worked, in_order, is_before_time, works_left};
 ghost use Rattle.workload_runs.specs.Rule.{least};
 ghost use Rattle.keeping.specs.Queues.{call_at, unmade_in, HasCaller};
-ghost use Rattle.keeping.specs.Works.{can_call_on, clock_at, due_on, first_of, is_worked_for, left_on, timely_on, waiting_at, worked_calls, AreFit, HoldsWorks, IsUnmade, IsWorksAtStart};
+ghost use Rattle.keeping.specs.Works.{can_call_on, clock_at, due_on, end_on, first_of, is_worked_for, left_on, timely_on, waiting_at, worked_calls, AreFit, HoldsWorks, IsUnmade, IsWorksAtStart};
 
 use crate::queues::Queues;
 use bench_types::{Call, Step};
@@ -163,6 +164,47 @@ impl Works {
             CallOrder::Oldest => self.oldest_call(kernel, timed),
             CallOrder::LeastCore => self.least_core_call(kernel, timed),
         }
+    }
+
+    // The core's task, where it is at its end: it has worked for as long as it did, and could call.
+    fn end_on(&self, kernel: &Kernel, timed: bool, core: u32) -> Option<u32>
+        requires fit { AreFit kernel.now.settings self.now }
+        requires core { core < kernel.now.settings.cores }
+        ensures { (table : Table) → StandsFor kernel.now table
+            → result ≡ end_on table self.now timed core }
+    {
+        let one = self.first_of(kernel.running(core))?;
+        let worked = self.worked[one.task as usize];
+        if one.call.is_none()
+            && is_worked_for(worked, timed, &one)
+            && can_call_on(kernel, core, one.task)
+        {
+            Some(one.task)
+        } else {
+            None
+        }
+    }
+
+    /// The task at its end that stands first in the list. Time goes by next, or it does not.
+    pub(crate) fn task_at_end(&self, kernel: &Kernel, timed: bool) -> Option<u32>
+        requires fit { AreFit kernel.now.settings self.now }
+        ensures { (now : Progress) → StandsFor kernel.now now.table → HoldsWorks self.now now
+            → timed ≡ is_before_time now
+            → result ≡ option_map (λ one. one.task)
+            (find (is_due_end now) (firsts now.unmade)) }
+    {
+        let mut first = self.calls.len();
+        let mut found = None;
+        for core in 0..kernel.settings().cores {
+            let head = self.queues.head(kernel.running(core));
+            if head < first {
+                if let Some(task) = self.end_on(kernel, timed, core) {
+                    first = head;
+                    found = Some(task);
+                }
+            }
+        }
+        found
     }
 
     // The units that the core's task has left to work for its first call, or its end; none where it

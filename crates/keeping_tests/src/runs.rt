@@ -6,8 +6,8 @@ ghost use Rattle.keeping.specs.Works.{IsUnmade};
 
 use bench_samples::{PLAIN, header_of};
 use bench_types::{Call, Config, Header, Items, Step};
-use keeping::keep_run;
-use kept_runs::{CallOrder, Clock, Outside, Unmade};
+use keeping::{Kept, keep_run};
+use kept_runs::{CallOrder, Clock, KnownLimit, LimitReason, Outside, Unmade};
 use smp_kernel::Meter;
 use std::alloc::{AllocError, Global};
 use std::process::Abort;
@@ -46,26 +46,22 @@ fn calls() -> [Unmade; 6] {
     ]
 }
 
+const fn coming(step: Step) -> Outside {
+    Outside {
+        step,
+        joined: false,
+    }
+}
+
+/// A tick of which the last unit goes by right before it.
+const JOINED: Outside = Outside {
+    step: Step::Tick,
+    joined: true,
+};
+
 fn comings() -> [Outside; 4] {
-    let pass = Step::Pass { units: 10 };
-    [
-        Outside {
-            step: pass,
-            joined: false,
-        },
-        Outside {
-            step: Step::Tick,
-            joined: true,
-        },
-        Outside {
-            step: pass,
-            joined: false,
-        },
-        Outside {
-            step: Step::Tick,
-            joined: false,
-        },
-    ]
+    let pass = coming(Step::Pass { units: 10 });
+    [pass, JOINED, pass, coming(Step::Tick)]
 }
 
 /// Whether the call may be one of a session of the header.
@@ -119,26 +115,64 @@ fn push_coming(header: &Header, checked: &mut Vec<Outside>, one: &Outside) -> Re
 }
 
 /// The calls that may be.
-fn checked_calls(alloc: Global, header: &Header) -> Result<Vec<Unmade>, AllocError>
+fn checked_calls(
+    alloc: Global,
+    header: &Header,
+    calls: &[Unmade],
+) -> Result<Vec<Unmade>, AllocError>
+    requires { length calls.now < 2 ^ 32 }
     ensures all { IfOk result (λ checked. All (IsUnmade (settings_of header.now)) checked.items) }
     ensures few { IfOk result (λ checked. length checked.items < 2 ^ 32) }
 {
     let mut checked = Vec::new(alloc);
-    for one in &calls() {
+    for one in calls {
         push_call(header, &mut checked, one)?;
     }
     Ok(checked)
 }
 
 /// The steps from outside that may be.
-fn checked_comings(alloc: Global, header: &Header) -> Result<Vec<Outside>, AllocError>
+fn checked_comings(
+    alloc: Global,
+    header: &Header,
+    comings: &[Outside],
+) -> Result<Vec<Outside>, AllocError>
     ensures { IfOk result (λ checked. All (IsComing (settings_of header.now)) checked.items) }
 {
     let mut checked = Vec::new(alloc);
-    for one in &comings() {
+    for one in comings {
         push_coming(header, &mut checked, one)?;
     }
     Ok(checked)
+}
+
+/// The run of tasks with these calls and ends, between these steps from outside.
+fn keep(
+    host: &HostRuntime,
+    order: CallOrder,
+    config: Config,
+    tasks: &[(&str, u32, u32)],
+    calls: &[Unmade],
+    comings: &[Outside],
+) -> Result<Kept, Fail>
+    requires { length calls.now < 2 ^ 32 }
+{
+    let alloc = host.alloc();
+    let mut header = header_of(alloc, config, tasks)?;
+    header.queues = Some(Items::new(Vec::new(alloc)));
+    header.check()?;
+    let unmade = checked_calls(alloc, &header, calls)?;
+    let outside = checked_comings(alloc, &header, comings)?;
+    let mut meter = Meter::new(host);
+    Ok(keep_run(alloc, order, &header, unmade, outside, &mut meter)?)
+}
+
+const fn end_of(task: u32, place: usize) -> Option<KnownLimit> {
+    Some(KnownLimit {
+        place,
+        task,
+        reason: LimitReason::End,
+    })
 }
 
 fn makes<R: Abort>(
@@ -147,21 +181,17 @@ fn makes<R: Abort>(
     order: CallOrder,
     steps: &[Step],
 ) -> Result<(), Fail> {
-    let alloc = host.alloc();
     let config = Config {
         slicing: true,
         units: 10,
         ..PLAIN
     };
-    let mut header = header_of(alloc, config, &[("A", 2, 3), ("B", 1, 3), ("C", 1, 3)])?;
-    header.queues = Some(Items::new(Vec::new(alloc)));
-    header.check()?;
-    let unmade = checked_calls(alloc, &header)?;
-    let outside = checked_comings(alloc, &header)?;
-    let mut meter = Meter::new(host);
-    let run = keep_run(alloc, order, &header, unmade, outside, &mut meter)?;
-    assert_eq!(rt; run.session().steps(), steps);
-    assert_eq!(rt; run.left().len(), 0);
+    let tasks = [("A", 2, 3), ("B", 1, 3), ("C", 1, 3)];
+    let kept = keep(host, order, config, &tasks, &calls(), &comings())?;
+    assert_eq!(rt; kept.run.session().steps(), steps);
+    assert_eq!(rt; kept.run.left().len(), 0);
+    // C has worked for its one unit, and the rest of the pass comes.
+    assert_eq!(rt; kept.end, end_of(C, 6));
     Ok(())
 }
 
@@ -211,4 +241,48 @@ fn call_of_the_least_core_first(rt: HostRuntime) -> Result<(), Fail> {
         Step::Tick,
     ];
     makes(&rt, &rt, CallOrder::LeastCore, &steps)
+}
+
+const TWO: [(&str, u32, u32); 2] = [("A", 2, 3), ("B", 1, 3)];
+
+// A has worked for its two units at the third tick.
+#[test]
+fn ticks_go_on_behind_an_end(rt: HostRuntime) -> Result<(), Fail> {
+    let calls = [call(B, Call::Delay(3), 3, 0), end(A, 2), end(B, 5)];
+    let comings = [coming(Step::Tick); 4];
+    let kept = keep(&rt, CallOrder::Oldest, PLAIN, &TWO, &calls, &comings)?;
+    let steps = [
+        Step::Tick,
+        Step::Tick,
+        Step::Tick,
+        made(1, B, Call::Delay(3)),
+        Step::Switch { core: 1 },
+        Step::Tick,
+    ];
+    assert_eq!(&rt; kept.run.session().steps(), steps.as_slice());
+    assert_eq!(&rt; kept.end, end_of(A, 2));
+    Ok(())
+}
+
+// Between a tick and its last unit no task is at its end: only the second pass finds A there.
+#[test]
+fn no_end_within_a_tick(rt: HostRuntime) -> Result<(), Fail> {
+    let config = Config { units: 10, ..PLAIN };
+    let calls = [end(A, 10), end(B, 15)];
+    let kept = keep(&rt, CallOrder::Oldest, config, &TWO, &calls, &comings())?;
+    let pass = Step::Pass { units: 5 };
+    let steps = [Step::Pass { units: 10 }, Step::Tick, pass, pass, Step::Tick];
+    assert_eq!(&rt; kept.run.session().steps(), steps.as_slice());
+    assert_eq!(&rt; kept.end, end_of(A, 2));
+    Ok(())
+}
+
+#[test]
+fn no_task_at_its_end(rt: HostRuntime) -> Result<(), Fail> {
+    let calls = [end(A, 3), end(B, 2)];
+    let comings = [coming(Step::Tick); 2];
+    let kept = keep(&rt, CallOrder::Oldest, PLAIN, &TWO, &calls, &comings)?;
+    assert_eq!(&rt; kept.run.session().steps().len(), 2);
+    assert_eq!(&rt; kept.end, None);
+    Ok(())
 }

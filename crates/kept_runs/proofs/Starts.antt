@@ -155,7 +155,7 @@ event_place before rest settled event is =
     ∙ ap (λ front. slice_index_or (places_of (is_alike event) settled) (count_by (is_alike event) front) (length settled))
     (take-append_seam before (event ∷ rest))
 
-end_place : (document settled : List Step) → settled_place document settled (length document) ≡ length settled
+pub end_place : (document settled : List Step) → settled_place document settled (length document) ≡ length settled
 unfolding settled_place
 end_place document settled =
     ap (λ o. option_map_or (λ later. place_of_event document settled later (slice_index_or document later Tick)) o (length settled))

@@ -1,5 +1,5 @@
 -- The calls of an edited list, each with its work, and its steps from outside.
-use Rattle.std.specs.Prelude.{ℕ, ◌+◌, ◌-◌, ◌==◌, Bool, true, false, ◌&&◌, nat_lt, List, [], ◌∷◌, length, map, filter, filter_map, fold, Option, Some, None, if◌then◌else◌}
+use Rattle.std.specs.Prelude.{ℕ, ◌+◌, ◌-◌, ◌^◌, ◌==◌, min, Bool, true, false, ◌&&◌, nat_lt, List, [], ◌∷◌, length, map, filter, filter_map, fold, Option, Some, None, if◌then◌else◌}
 use Rattle.bench_types.specs.declared.header.Header.{Header}
 use Rattle.bench_types.specs.declared.step.Call.{Call}
 use Rattle.bench_types.specs.declared.step.Step.{Step}
@@ -45,9 +45,13 @@ placed_item clocks item = placed_call clocks item.anchor item.changes item.step
 abbrev pub placed_calls : (ℕ → Clocks) → List Item → List Placed
 placed_calls clocks items = filter_map (placed_item clocks) items
 
+-- no change makes a work longer; no run has as much time
+abbrev pub most_work : ℕ
+most_work = 2 ^ 63 - 1
+
 -- so many units more, or fewer; no steps without time count behind them
 abbrev pub changed_work : Clock → WorkChange → Clock
-changed_work work (More units) = record { units = work.units + units; later = 0 }
+changed_work work (More units) = record { units = min (work.units + units) most_work; later = 0 }
 changed_work work (Fewer units) = record { units = work.units - units; later = 0 }
 
 -- with another clock for the task

@@ -1,0 +1,7 @@
+mod Begun
+mod Befores
+mod Rowed
+mod Counts
+mod Firsts
+mod Settings
+mod Counting

@@ -7,6 +7,8 @@ mod ColumnsOf
 pub mod Compared
 mod EventPlaces
 mod GainsPrinted
+pub mod KeptComings
+mod KeptEvents
 mod LastRows
 mod MadePairs
 mod Moments

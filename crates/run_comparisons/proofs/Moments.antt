@@ -1,26 +1,25 @@
--- The ticks and interrupts of two simulated runs: where they stand, and those that both runs have.
-use Rattle.std.proofs.Common.{◌≡◌, ℕ, zero, suc, ◌+◌, ◌≤◌, ◌<◌, Bool, true, false, cond, ◌&&◌, not, List, [], ◌∷◌, length, filter, zip, Option, Some, None}
+-- The ticks and interrupts of two runs: where they stand, and those that come in both one after another.
+use Rattle.std.proofs.Common.{◌≡◌, ℕ, zero, suc, ◌+◌, ◌≤◌, ◌<◌, Bool, true, false, cond, ◌&&◌, List, [], ◌∷◌, length, drop, get_or, zip, Option, Some, None}
 use Rattle.std.proofs.Common.{refl, ap, ap₂, sym, subst, ◌∙◌, arith}
 use Rattle.std.specs.Prelude.{All, Contains, option_map, slice_get}
 use Rattle.std.specs.List.{cons_option, filter_map}
 use Rattle.std.proofs.lemmas.Bool.{and_from, and_parts}
-use Rattle.std.proofs.lemmas.List.Elements.{All-cons, All-filter, All-head, All-nil, All-tail}
+use Rattle.std.proofs.lemmas.List.Elements.{All-cons, All-head, All-nil, All-tail}
 use Rattle.std.proofs.lemmas.Option.{get_or_from_slice_get, slice_get-map, slice_get_within}
 use Rattle.bench_types.specs.declared.step.Step.{Step}
-use Rattle.settled_runs.specs.SettleLaws.{comes_from_outside}
 use Rattle.run_comparisons.specs.declared.place_pair.PlacePair.{PlacePair}
 use Rattle.run_comparisons.specs.Alike.{are_alike}
 use Rattle.run_comparisons.specs.PairLaws.{AreAlikeAt, HaveSameMoments}
-use Rattle.run_comparisons.specs.Shared.{event_places, is_pass, is_same_event, moments, paired_at, paired_events}
+use Rattle.run_comparisons.specs.Shared.{event_places, is_moment, is_same_event, moments, paired_at, paired_events}
 use Rattle.run_comparisons.proofs.AlikeSteps.{may_share}
 use Rattle.run_comparisons.proofs.BothRuns.{given_there}
 use Rattle.run_comparisons.proofs.SharedMet.{AreMet}
-use Rattle.run_comparisons.proofs.SharedPlaces.{alike_itself, Ascend}
+use Rattle.run_comparisons.proofs.SharedPlaces.{alike_itself, from_outside, Ascend}
 
 -- ---- places that ascend
 
 -- from one on and below another
-abbrev Up : ℕ → ℕ → List ℕ → Type 0
+abbrev pub Up : ℕ → ℕ → List ℕ → Type 0
 Up count from [] = Unit {0}
 Up count from (place ∷ places) = (from ≤ place) × (place < count) × Up count (suc place) places
 
@@ -28,25 +27,49 @@ sooner : (count from later : ℕ) (places : List ℕ) → from ≤ later → Up 
 sooner count from later [] early up = tt
 sooner count from later (place ∷ places) early up = (omega (arith, early, up.0), up.1, up.2)
 
-filter_up : (test : ℕ → Bool) (count from : ℕ) (places : List ℕ) → Up count from places → Up count from (filter test places)
-filter_up test count from [] up = tt
-filter_up test count from (place ∷ places) up = at (test place) (filter_up test count (suc place) places up.2)
+places_up : (test : Step → Bool) (count place : ℕ) (steps : List Step) → place + length steps ≤ count → Up count place (event_places test place steps)
+places_up test count place [] few = tt
+places_up test count place (step ∷ steps) few = at (test step) (places_up test count (suc place) steps (omega (arith, few)))
   where
-    at : (b : Bool) → Up count (suc place) (filter test places) → Up count from (cond b (place ∷ filter test places) (filter test places))
-    at true rest = (up.0, up.1, rest)
-    at false rest = sooner count from (suc place) (filter test places) (omega (arith, up.0)) rest
-
-places_up : (count place : ℕ) (steps : List Step) → place + length steps ≤ count → Up count place (event_places place steps)
-places_up count place [] few = tt
-places_up count place (step ∷ steps) few = at (comes_from_outside step) (places_up count (suc place) steps (omega (arith, few)))
-  where
-    at : (b : Bool) → Up count (suc place) (event_places (suc place) steps) → Up count place
-        (cond b (place ∷ event_places (suc place) steps) (event_places (suc place) steps))
+    at : (b : Bool) → Up count (suc place) (event_places test (suc place) steps) → Up count place
+        (cond b (place ∷ event_places test (suc place) steps) (event_places test (suc place) steps))
     at true rest = (omega arith, omega (arith, few), rest)
-    at false rest = sooner count place (suc place) (event_places (suc place) steps) (omega arith) rest
+    at false rest = sooner count place (suc place) (event_places test (suc place) steps) (omega arith) rest
 
-moments_up : (run : List Step) → Up (length run) 0 (moments run)
-moments_up run = filter_up (λ place. not (is_pass (slice_get run place))) (length run) 0 (event_places 0 run) (places_up (length run) 0 run (omega arith))
+pub moments_up : (run : List Step) → Up (length run) 0 (moments run)
+moments_up run = places_up is_moment (length run) 0 run (omega arith)
+
+-- ---- behind so many of them
+
+-- where those behind so many begin; at the end where there are none
+abbrev pub edge : ℕ → ℕ → List ℕ → ℕ
+edge count many places = get_or places many count
+
+from_edge : (count from many : ℕ) (places : List ℕ) → Up count from places → from ≤ count → from ≤ edge count many places
+from_edge count from many [] up low = low
+from_edge count from zero (place ∷ places) up low = up.0
+from_edge count from (suc many) (place ∷ places) up low =
+    let rest = from_edge count (suc place) many places up.2 (omega (arith, up.1)) in
+    omega (arith, rest, up.0)
+
+pub edge_within : (count from many : ℕ) (places : List ℕ) → Up count from places → edge count many places ≤ count
+edge_within count from many [] up = omega arith
+edge_within count from zero (place ∷ places) up = omega (arith, up.1)
+edge_within count from (suc many) (place ∷ places) up = edge_within count (suc place) many places up.2
+
+pub below_edge : (count from many number : ℕ) (places : List ℕ) → Up count from places → number < many → number < length places → get_or places number 0 < edge
+    count many places
+below_edge count from many number [] up fewer within = absurd (omega (arith, within))
+below_edge count from zero number (place ∷ places) up fewer within = absurd (omega (arith, fewer))
+below_edge count from (suc many) zero (place ∷ places) up fewer within = from_edge count (suc place) many places up.2 (omega (arith, up.1))
+below_edge count from (suc many) (suc number) (place ∷ places) up fewer within = below_edge count (suc place) many number places up.2 (omega (arith, fewer))
+    (omega (arith, within))
+
+pub beyond_up : (count from many : ℕ) (places : List ℕ) → Up count from places → Up count (edge count many places) (drop many places)
+beyond_up count from zero [] up = tt
+beyond_up count from (suc many) [] up = tt
+beyond_up count from zero (place ∷ places) up = (omega arith, up.1, up.2)
+beyond_up count from (suc many) (place ∷ places) up = beyond_up count (suc place) many places up.2
 
 -- ---- pairs of them
 
@@ -61,7 +84,7 @@ is_paired : (before after : List Step) (place later : ℕ) (pair : PlacePair) �
 is_paired before after place later pair is = at (slice_get before place) refl (slice_get after later) refl is
   where
     of_both : (step other : Step) → slice_get before place ≡ Some step → slice_get after later ≡ Some other → (same : Bool) →
-        (comes_from_outside step && are_alike step other) ≡ same → cond same (Some (record { before = place; after = later })) None ≡ Some pair
+        (is_moment step && are_alike step other) ≡ same → cond same (Some (record { before = place; after = later })) None ≡ Some pair
         → IsPaired before after place later pair
     of_both step other found met false tells one = absurd (cc one)
     of_both step other found met true tells one =
@@ -76,13 +99,13 @@ is_paired before after place later pair is = at (slice_get before place) refl (s
             other = other;
             stands = ap (slice_get before) first ∙ found;
             beside = ap (slice_get after) second ∙ met;
-            alike = may_share step other (and_parts (comes_from_outside step) (are_alike step other) tells).1;
+            alike = may_share step other (and_parts (is_moment step) (are_alike step other) tells).1;
           };
         }
 
     at : (step : Option Step) → slice_get before place ≡ step → (other : Option Step) → slice_get after later ≡ other
-        → cond (is_same_event step other) (Some (record { before = place; after = later })) None ≡ Some pair → IsPaired before after place later pair
-    at (Some step) found (Some other) met one = of_both step other found met (comes_from_outside step && are_alike step other) refl one
+        → cond (is_same_event is_moment step other) (Some (record { before = place; after = later })) None ≡ Some pair → IsPaired before after place later pair
+    at (Some step) found (Some other) met one = of_both step other found met (is_moment step && are_alike step other) refl one
     at (Some step) found None met one = absurd (cc one)
     at None found other met one = absurd (cc one)
 
@@ -90,11 +113,11 @@ module _ (before after : List Step) where
   abbrev paired : ℕ × ℕ → Option PlacePair
   paired both = paired_at before after both
 
-  earlier : (pick : PlacePair → ℕ) (count from later : ℕ) (pairs : List PlacePair) → from ≤ later → Ascend pick count later pairs → Ascend pick count from pairs
+  pub earlier : (pick : PlacePair → ℕ) (count from later : ℕ) (pairs : List PlacePair) → from ≤ later → Ascend pick count later pairs → Ascend pick count from pairs
   earlier pick count from later [] early up = tt
   earlier pick count from later (pair ∷ pairs) early up = (omega (arith, early, up.0), up.1, up.2)
 
-  before_up : (places later : List ℕ) (from : ℕ) → Up (length before) from places → Ascend (λ pair. pair.before) (length before) from
+  pub before_up : (places later : List ℕ) (from : ℕ) → Up (length before) from places → Ascend (λ pair. pair.before) (length before) from
       (filter_map paired (zip places later))
   before_up [] later from up = tt
   before_up (place ∷ places) [] from up = tt
@@ -110,7 +133,7 @@ module _ (before after : List Step) where
             subst (λ n. Ascend (λ (pair : PlacePair). pair.before) (length before) (suc n) (filter_map paired (zip places later))) (sym one.first) rest,
           )
 
-  after_up : (places later : List ℕ) (from : ℕ) → Up (length after) from later → Ascend (λ pair. pair.after) (length after) from
+  pub after_up : (places later : List ℕ) (from : ℕ) → Up (length after) from later → Ascend (λ pair. pair.after) (length after) from
       (filter_map paired (zip places later))
   after_up [] later from up = tt
   after_up (place ∷ places) [] from up = tt
@@ -126,7 +149,7 @@ module _ (before after : List Step) where
             subst (λ n. Ascend (λ (pair : PlacePair). pair.after) (length after) (suc n) (filter_map paired (zip places later))) (sym one.second) rest,
           )
 
-  pairs_alike : (places later : List ℕ) → All (λ pair. AreAlikeAt before after pair.before pair.after) (filter_map paired (zip places later))
+  pub pairs_alike : (places later : List ℕ) → All (λ pair. AreAlikeAt before after pair.before pair.after) (filter_map paired (zip places later))
   pairs_alike [] later = λ k d short. absurd (omega (arith, short))
   pairs_alike (place ∷ places) [] = λ k d short. absurd (omega (arith, short))
   pairs_alike (place ∷ places) (other ∷ later) = at (pairs_alike places later) (paired (place, other)) refl
@@ -149,51 +172,53 @@ module _ (before after : List Step) where
 -- ---- where they stand
 
 -- an event stands at a place, where the first step has another
-record IsEventFrom (first : ℕ) (steps : List Step) (place : ℕ) : Type 0 where
+record IsEventFrom (test : Step → Bool) (first : ℕ) (steps : List Step) (place : ℕ) : Type 0 where
   pub index : ℕ
   pub event : Step
   pub at : place ≡ first + index
   pub stands : slice_get steps index ≡ Some event
-  pub outside : comes_from_outside event ≡ true
+  pub is : test event ≡ true
 
-one_behind : (first : ℕ) (step : Step) (steps : List Step) (place : ℕ) → IsEventFrom (suc first) steps place → IsEventFrom first (step ∷ steps) place
-one_behind first step steps place is =
-    let further : suc first + is.index ≡ first + suc is.index = omega arith in
-    record { index = suc is.index; event = is.event; at = is.at ∙ further; stands = is.stands; outside = is.outside }
+one_behind : (test : Step → Bool) (first : ℕ) (step : Step) (steps : List Step) (place : ℕ) → IsEventFrom test (suc first) steps place → IsEventFrom test first
+    (step ∷ steps) place
+one_behind test first step steps place found =
+    let further : suc first + found.index ≡ first + suc found.index = omega arith in
+    record { index = suc found.index; event = found.event; at = found.at ∙ further; stands = found.stands; is = found.is }
 
-moved : (first : ℕ) (step : Step) (steps : List Step) (places : List ℕ) → All (IsEventFrom (suc first) steps) places → All (IsEventFrom first (step ∷ steps)) places
-moved first step steps [] all = All-nil (IsEventFrom first (step ∷ steps))
-moved first step steps (place ∷ places) all =
-    All-cons (IsEventFrom first (step ∷ steps)) place places
-    (one_behind first step steps place (All-head (IsEventFrom (suc first) steps) place places all))
-    (moved first step steps places (All-tail (IsEventFrom (suc first) steps) place places all))
+moved : (test : Step → Bool) (first : ℕ) (step : Step) (steps : List Step) (places : List ℕ) → All (IsEventFrom test (suc first) steps) places → All
+    (IsEventFrom test first (step ∷ steps)) places
+moved test first step steps [] all = All-nil (IsEventFrom test first (step ∷ steps))
+moved test first step steps (place ∷ places) all =
+    All-cons (IsEventFrom test first (step ∷ steps)) place places
+    (one_behind test first step steps place (All-head (IsEventFrom test (suc first) steps) place places all))
+    (moved test first step steps places (All-tail (IsEventFrom test (suc first) steps) place places all))
 
-events_listed : (first : ℕ) (steps : List Step) → All (IsEventFrom first steps) (event_places first steps)
-events_listed first [] = All-nil (IsEventFrom first [])
-events_listed first (step ∷ steps) = at (comes_from_outside step) refl (moved first step steps (event_places (suc first) steps) (events_listed (suc first) steps))
+events_listed : (test : Step → Bool) (first : ℕ) (steps : List Step) → All (IsEventFrom test first steps) (event_places test first steps)
+events_listed test first [] = All-nil (IsEventFrom test first [])
+events_listed test first (step ∷ steps) =
+    at (test step) refl (moved test first step steps (event_places test (suc first) steps) (events_listed test (suc first) steps))
   where
-    at : (b : Bool) → comes_from_outside step ≡ b → All (IsEventFrom first (step ∷ steps)) (event_places (suc first) steps) → All
-        (IsEventFrom first (step ∷ steps)) (cond b (first ∷ event_places (suc first) steps) (event_places (suc first) steps))
+    at : (b : Bool) → test step ≡ b → All (IsEventFrom test first (step ∷ steps)) (event_places test (suc first) steps) → All
+        (IsEventFrom test first (step ∷ steps)) (cond b (first ∷ event_places test (suc first) steps) (event_places test (suc first) steps))
     at false is rest = rest
     at true is rest =
         let here : first ≡ first + 0 = omega arith in
-        All-cons (IsEventFrom first (step ∷ steps)) first (event_places (suc first) steps)
-        (record { index = 0; event = step; at = here; stands = refl; outside = is }) rest
+        All-cons (IsEventFrom test first (step ∷ steps)) first (event_places test (suc first) steps)
+        (record { index = 0; event = step; at = here; stands = refl; is = is }) rest
 
 -- a tick or an interrupt stands at the place
-pub record IsEventAt (run : List Step) (place : ℕ) : Type 0 where
+pub record IsMomentAt (run : List Step) (place : ℕ) : Type 0 where
   pub event : Step
   pub stands : slice_get run place ≡ Some event
-  pub outside : comes_from_outside event ≡ true
+  pub is : is_moment event ≡ true
 
-pub moment_stands : (run : List Step) (number place : ℕ) → slice_get (moments run) number ≡ Some place → IsEventAt run place
+pub moment_stands : (run : List Step) (number place : ℕ) → slice_get (moments run) number ≡ Some place → IsMomentAt run place
 moment_stands run number place found =
-    let test : ℕ → Bool = λ one. not (is_pass (slice_get run one)) in
-    let all = All-filter test (IsEventFrom 0 run) (event_places 0 run) (events_listed 0 run) in
     let low = slice_get_within (moments run) number place found in
-    let is = subst (IsEventFrom 0 run) (get_or_from_slice_get (moments run) number place place found) (all number place low) in
-    let from_start : place ≡ is.index = omega (arith, is.at) in
-    record { event = is.event; stands = ap (slice_get run) from_start ∙ is.stands; outside = is.outside }
+    let it = subst (IsEventFrom is_moment 0 run) (get_or_from_slice_get (moments run) number place place found)
+    (events_listed is_moment 0 run number place low) in
+    let from_start : place ≡ it.index = omega (arith, it.at) in
+    record { event = it.event; stands = ap (slice_get run) from_start ∙ it.stands; is = it.is }
 
 -- two items of one number stand beside each other
 zip_there : {X Y : Type 0} (xs : List X) (ys : List Y) (k : ℕ) (x : X) (y : Y) → slice_get xs k ≡ Some x → slice_get ys k ≡ Some y → slice_get (zip xs ys) k ≡ Some
@@ -205,6 +230,20 @@ zip_there {X} {Y} (one ∷ xs) (two ∷ ys) zero x y first second =
     let too : two ≡ y = cc second in
     ap₂ (λ (a : X) (b : Y). Some (a, b)) same too
 zip_there (one ∷ xs) (two ∷ ys) (suc k) x y first second = zip_there xs ys k x y first second
+
+-- one event at places of one number is a shared event
+pub paired_there : (before after : List Step) (places later : List ℕ) (number place beside : ℕ) (event : Step) → slice_get places number ≡ Some place → slice_get
+    later number ≡ Some beside → slice_get before place ≡ Some event → slice_get after beside ≡ Some event → is_moment event ≡ true
+    → Contains (filter_map (paired_at before after) (zip places later)) (record { before = place; after = beside })
+paired_there before after places later number place beside event listed met stands too is =
+    let pair : PlacePair = record { before = place; after = beside } in
+    let alike : is_same_event is_moment (slice_get before place) (slice_get after beside) ≡ true =
+    ap₂ (is_same_event is_moment) stands too ∙ and_from (is_moment event) (are_alike event event) is (alike_itself event (from_outside event is)) in
+    let gives : paired_at before after (place, beside) ≡ Some pair = ap (λ (b : Bool). cond b (Some pair) None) alike in
+    let there = zip_there places later number place beside listed met in
+    let all = zip places later in
+    given_there (paired_at before after) all number (place, beside) pair (slice_get_within all number (place, beside) there)
+    (get_or_from_slice_get all number (place, beside) (place, beside) there) gives
 
 -- where both runs have the same ticks and interrupts, those of one number are a shared event
 pub moment_shared : (before after : List Step) (number place : ℕ) → HaveSameMoments before after → slice_get (moments before) number ≡ Some place →
@@ -220,16 +259,8 @@ moment_shared before after number place same found = by (slice_get (moments afte
     by None met is = absurd (cc is)
     by (Some later) met is =
         let one = moment_stands before number place found in
-        let beside : slice_get after later ≡ slice_get before place = cc is in
-        let pair : PlacePair = record { before = place; after = later } in
-        let alike : is_same_event (slice_get before place) (slice_get after later) ≡ true =
-        ap₂ is_same_event one.stands (beside ∙ one.stands) ∙ and_from (comes_from_outside one.event) (are_alike one.event one.event) one.outside
-        (alike_itself one.event one.outside) in
-        let gives : paired_at before after (place, later) ≡ Some pair = ap (λ (b : Bool). cond b (Some pair) None) alike in
-        let there = zip_there (moments before) (moments after) number place later found met in
-        let all = zip (moments before) (moments after) in (
+        let beside : slice_get after later ≡ slice_get before place = cc is in (
           later,
           met,
-          given_there (paired_at before after) all number (place, later) pair (slice_get_within all number (place, later) there)
-              (get_or_from_slice_get all number (place, later) (place, later) there) gives,
+          paired_there before after (moments before) (moments after) number place later one.event found met one.stands (beside ∙ one.stands) one.is,
         )

@@ -1,4 +1,4 @@
--- Of a session and edits of it there is one pair of settled runs, and of two simulated runs one pair.
+-- Of a session and edits of it there is one pair of settled runs, and of two simulated or kept runs one pair.
 use Rattle.std.proofs.Common.{◌≡◌, List, [], ◌∷◌, ◌++◌, take, Option, Some, refl, ap₂, sym, subst, ◌∙◌, true}
 use Rattle.bench_types.specs.declared.step.Step.{Step}
 use Rattle.bench_types.specs.Session.{Session}
@@ -7,8 +7,8 @@ use Rattle.settled_runs.proofs.Settlings.{settled_run_is_one}
 use Rattle.session_runs.specs.Run.{IsRunOf, RunView}
 use Rattle.run_comparisons.specs.declared.place_pair.PlacePair.{PlacePair}
 use Rattle.run_comparisons.specs.declared.rows.Row.{Row}
-use Rattle.run_comparisons.specs.PairLaws.{SettledPairIsOne, SimulatedPairIsOne}
-use Rattle.run_comparisons.specs.Shared.{paired_events, shared_events}
+use Rattle.run_comparisons.specs.PairLaws.{KeptPairIsOne, SettledPairIsOne, SimulatedPairIsOne}
+use Rattle.run_comparisons.specs.Shared.{kept_events, paired_events, shared_events}
 use Rattle.run_comparisons.specs.SideBySide.{first_places, next_row, past, row_of, AreAligned, AreSettledRows, AreSideBySide}
 
 one_row : (row other : Row) (next : Option Row) → next ≡ Some row → next ≡ Some other → row ≡ other
@@ -62,4 +62,14 @@ simulated_pair_is_one run later pair other is too =
     let new = later.session.steps in
     let rows = one_list old new (paired_events old new) first_places pair.rows other.rows is.rows too.rows in
     let refused = is.refused ∙ sym too.refused in
+    λ i. record { before = before i; after = after i; rows = rows i; refused = refused i }
+
+pub kept_pair_is_one : KeptPairIsOne
+kept_pair_is_one session edits places run later pair other is too =
+    let before = is.is_before ∙ sym too.is_before in
+    let after = is.is_after ∙ sym too.is_after in
+    let old = run.session.steps in
+    let new = later.session.steps in
+    let rows = one_list old new (kept_events session edits old new) first_places pair.rows other.rows is.rows too.rows in
+    let refused = is.is_refused ∙ sym too.is_refused in
     λ i. record { before = before i; after = after i; rows = rows i; refused = refused i }

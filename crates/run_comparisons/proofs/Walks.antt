@@ -5,20 +5,19 @@ use Rattle.std.specs.List.{cons_option, filter_map}
 use Rattle.std.proofs.lemmas.List.{length-append, take_more}
 use Rattle.std.proofs.lemmas.List.Elements.{filter_map-append, filter_more}
 use Rattle.bench_types.specs.declared.step.Step.{Step}
-use Rattle.settled_runs.specs.SettleLaws.{comes_from_outside}
 use Rattle.run_comparisons.specs.declared.place_pair.PlacePair.{PlacePair}
 use Rattle.run_comparisons.specs.declared.rows.Row.{Row}
 use Rattle.run_comparisons.specs.Shared.{event_places, events_before}
 use Rattle.run_comparisons.specs.SideBySide.{first_places, next_row, past, row_of, AreAligned, AreSideBySide}
 
 -- the place of one event more, or none
-pub event_on : (run : List Step) (place : ℕ) (d : Step) (places more : List ℕ) (outside : Bool) → place < length run → outside ≡ comes_from_outside
+pub event_on : (test : Step → Bool) (run : List Step) (place : ℕ) (d : Step) (places more : List ℕ) (outside : Bool) → place < length run → outside ≡ test
     (get_or run place d) → more ≡ places ++ cond outside (place ∷ []) []
-    → places ++ event_places place (drop place run) ≡ event_places 0 run → more ++ event_places (place + 1) (drop (place + 1) run) ≡ event_places 0 run
-event_on run place d places more outside within is pushed so_far =
+    → places ++ event_places test place (drop place run) ≡ event_places test 0 run → more ++ event_places test (place + 1) (drop (place + 1) run) ≡ event_places test 0 run
+event_on test run place d places more outside within is pushed so_far =
     let step = get_or run place d in
-    let rest = event_places (suc place) (drop (suc place) run) in
-    let here : event_places place (drop place run) ≡ cond outside (place ∷ rest) rest = ap (event_places place) (drop-cons run place d within) ∙ ap
+    let rest = event_places test (suc place) (drop (suc place) run) in
+    let here : event_places test place (drop place run) ≡ cond outside (place ∷ rest) rest = ap (event_places test place) (drop-cons run place d within) ∙ ap
     (λ (b : Bool). cond b (place ∷ rest) rest) (sym is) in
     rw add-one (ap (λ (list : List ℕ). list ++ rest) pushed ∙ append_assoc places (cond outside (place ∷ []) []) rest ∙ ap (λ list. places ++ list)
     (split outside place rest) ∙ ap (λ list. places ++ list) (sym here) ∙ so_far)
@@ -28,26 +27,26 @@ event_on run place d places more outside within is pushed so_far =
     split false n ns = refl
 
 -- how many events came before the next place
-pub come_on : (steps : List Step) (place : ℕ) (d : Step) → place < length steps → events_before steps (place + 1) ≡ events_before steps place + cond
-    (comes_from_outside (get_or steps place d)) 1 0
-come_on steps place d within =
-    ap (λ (list : List Step). length list) (filter_more comes_from_outside steps place d within)
-    ∙ length-append (filter comes_from_outside (take place steps)) (cond (comes_from_outside (get_or steps place d)) (get_or steps place d ∷ []) [])
-    ∙ ap (λ n. events_before steps place + n) (size (comes_from_outside (get_or steps place d)))
+pub come_on : (test : Step → Bool) (steps : List Step) (place : ℕ) (d : Step) → place < length steps → events_before test steps (place + 1) ≡ events_before test steps place + cond
+    (test (get_or steps place d)) 1 0
+come_on test steps place d within =
+    ap (λ (list : List Step). length list) (filter_more test steps place d within)
+    ∙ length-append (filter test (take place steps)) (cond (test (get_or steps place d)) (get_or steps place d ∷ []) [])
+    ∙ ap (λ n. events_before test steps place + n) (size (test (get_or steps place d)))
   where
     size : (b : Bool) → length (cond b (get_or steps place d ∷ []) []) ≡ cond b 1 0
     size true = refl
     size false = refl
 
 -- no more than there are places
-pub few_come : (steps : List Step) (place : ℕ) → events_before steps place ≤ place
-few_come [] zero = omega arith
-few_come [] (suc place) = omega arith
-few_come (step ∷ steps) zero = omega arith
-few_come (step ∷ steps) (suc place) = at (comes_from_outside step) (few_come steps place)
+pub few_come : (test : Step → Bool) (steps : List Step) (place : ℕ) → events_before test steps place ≤ place
+few_come test [] zero = omega arith
+few_come test [] (suc place) = omega arith
+few_come test (step ∷ steps) zero = omega arith
+few_come test (step ∷ steps) (suc place) = at (test step) (few_come test steps place)
   where
-    at : (b : Bool) → events_before steps place ≤ place → length (cond b (step ∷ filter comes_from_outside (take place steps))
-        (filter comes_from_outside (take place steps))) ≤ suc place
+    at : (b : Bool) → events_before test steps place ≤ place → length (cond b (step ∷ filter test (take place steps))
+        (filter test (take place steps))) ≤ suc place
     at true few = omega (arith, few)
     at false few = omega (arith, few)
 

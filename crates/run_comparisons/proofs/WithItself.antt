@@ -1,5 +1,5 @@
 -- Without edits a run stands beside itself.
-use Rattle.std.proofs.Common.{◌≡◌, ℕ, zero, suc, ◌+◌, ◌-◌, ◌<◌, Bool, true, false, cond, List, [], ◌∷◌, ◌++◌, length, take, map, get_or, Some, None}
+use Rattle.std.proofs.Common.{◌≡◌, ℕ, zero, suc, ◌+◌, ◌-◌, ◌<◌, Bool, true, false, cond, List, [], ◌∷◌, ◌++◌, length, take, drop, zip, map, get_or, Some, None}
 use Rattle.std.proofs.Common.{refl, ap, ap₂, sym, subst, ◌∙◌, add-one, arith}
 use Rattle.std.specs.Prelude.{slice_get}
 use Rattle.std.specs.List.{cons_option, filter_map, range_with_len}
@@ -8,18 +8,19 @@ use Rattle.std.proofs.lemmas.Option.{slice_get-get_or, slice_get_past}
 use Rattle.bench_types.specs.declared.step.Step.{Step}
 use Rattle.bench_types.specs.declared.step.Step.TheVariants.{Tick, Switch, Call, Interrupt, QueueInterrupt, ResumeInterrupt, Pass}
 use Rattle.bench_types.specs.Session.{Session}
+use Rattle.settled_runs.specs.SettleLaws.{comes_from_outside}
 use Rattle.session_runs.specs.Run.{RunView}
 use Rattle.run_comparisons.specs.declared.place_pair.PlacePair.{PlacePair}
 use Rattle.run_comparisons.specs.declared.rows.Row.{Row}
 use Rattle.run_comparisons.specs.declared.rows.Row.TheVariants.{Both, Removed, Inserted}
 use Rattle.run_comparisons.specs.Alike.{are_alike, MayShareRow}
-use Rattle.run_comparisons.specs.PairLaws.{AloneIsWithItself}
+use Rattle.run_comparisons.specs.PairLaws.{AloneIsWithItself, KeptAloneIsWithItself}
 use Rattle.run_comparisons.specs.Pairs.{as_written, edited_pair, with_itself, IsSettledPair, PairView}
 use Rattle.run_comparisons.specs.Rows.{removed, rows_from, rows_of}
-use Rattle.run_comparisons.specs.Shared.{is_same_event, places_in, shared_at, shared_events}
+use Rattle.run_comparisons.specs.Shared.{is_moment, is_same_event, kept_events, moments, paired_at, paired_beyond, places_in, shared_among, shared_at, shared_events}
 use Rattle.run_comparisons.specs.SideBySide.{first_places, found_after, is_nearer, next_row, row_of_those, AreAligned, AreSettledRows, AreSideBySide}
 use Rattle.run_comparisons.proofs.AlikeSteps.{share_alike}
-use Rattle.run_comparisons.proofs.MadePairs.{shared_met}
+use Rattle.run_comparisons.proofs.MadePairs.{kept_events_met, shared_met}
 use Rattle.run_comparisons.proofs.OnePair.{one_list, one_run}
 use Rattle.run_comparisons.proofs.SharedPlaces.{Ascend}
 
@@ -55,17 +56,33 @@ abbrev AreOwn : List PlacePair → Type 0
 AreOwn [] = Unit {0}
 AreOwn (event ∷ events) = (event.after ≡ event.before) × AreOwn events
 
-shared_own : (session : List Step) (places : List ℕ) (from count : ℕ) → AreOwn (filter_map (shared_at session session places places) (diagonal from count))
-shared_own session places from zero = tt
-shared_own session places from (suc count) =
-    at (is_same_event (slice_get session from) (slice_get session from)) (shared_own session places (from + 1) count)
+shared_own : (test : Step → Bool) (session : List Step) (places : List ℕ) (from count : ℕ) → AreOwn
+    (filter_map (shared_at test session session places places) (diagonal from count))
+shared_own test session places from zero = tt
+shared_own test session places from (suc count) =
+    at (is_same_event test (slice_get session from) (slice_get session from)) (shared_own test session places (from + 1) count)
   where
     rest : List PlacePair
-    rest = filter_map (shared_at session session places places) (diagonal (from + 1) count)
+    rest = filter_map (shared_at test session session places places) (diagonal (from + 1) count)
 
     at : (b : Bool) → AreOwn rest → AreOwn (cons_option (cond b (Some (record { before = get_or places from 0; after = get_or places from 0 })) None) rest)
     at true own = (refl, own)
     at false own = own
+
+paired_own : (run : List Step) (places : List ℕ) → AreOwn (filter_map (paired_at run run) (zip places places))
+paired_own run [] = tt
+paired_own run (place ∷ places) = at (is_same_event is_moment (slice_get run place) (slice_get run place)) (paired_own run places)
+  where
+    rest : List PlacePair
+    rest = filter_map (paired_at run run) (zip places places)
+
+    at : (b : Bool) → AreOwn rest → AreOwn (cons_option (cond b (Some (record { before = place; after = place })) None) rest)
+    at true own = (refl, own)
+    at false own = own
+
+both_own : (first second : List PlacePair) → AreOwn first → AreOwn second → AreOwn (first ++ second)
+both_own [] second own too = too
+both_own (event ∷ first) second own too = (own.0, both_own first second own.1 too)
 
 alike_self : (step : Step) → are_alike step step ≡ true
 alike_self step = share_alike step step (shares step)
@@ -139,8 +156,10 @@ settled_own session pair is =
     let after : pair.after ≡ pair.before = one_run session pair.after pair.before is.after is.before in
     let met = shared_met session [] pair.before pair.before is.before is.before in
     let events = shared_events session [] run run in
-    let own : AreOwn events = subst (λ (list : List Row). AreOwn (filter_map (shared_at session.steps session.steps (places_in run session.steps)
-    (places_in run session.steps)) list)) (sym (own_rows session)) (shared_own session.steps (places_in run session.steps) 0 (length session.steps)) in
+    let own : AreOwn events = subst (λ (list : List Row). AreOwn
+    (filter_map (shared_at comes_from_outside session.steps session.steps (places_in comes_from_outside run session.steps)
+    (places_in comes_from_outside run session.steps)) list)) (sym (own_rows session))
+    (shared_own comes_from_outside session.steps (places_in comes_from_outside run session.steps) 0 (length session.steps)) in
     let aligned = side_own run events 0 (length run) (omega arith) met.up_before own in
     let moved = subst (λ (one : RunView). AreSettledRows session [] run one.session.steps pair.rows) after is.rows in
     let rows = one_list run run events first_places pair.rows (diagonal 0 (length run)) moved aligned in
@@ -154,3 +173,24 @@ written_own session =
 
 pub alone_is_with_itself : AloneIsWithItself
 alone_is_with_itself = (written_own, settled_own)
+
+-- ---- runs that keep work
+
+pub kept_alone_is_with_itself : KeptAloneIsWithItself
+kept_alone_is_with_itself session view pair is =
+    let run = view.session.steps in
+    let many = length (moments session.steps) in
+    let met = kept_events_met session [] run run is.of_session is.of_session in
+    let events = kept_events session [] run run in
+    let places = places_in is_moment run session.steps in
+    let shared : AreOwn (shared_among is_moment session.steps session.steps run run (rows_of session [])) =
+    subst (λ (list : List Row). AreOwn (filter_map (shared_at is_moment session.steps session.steps places places) list)) (sym (own_rows session))
+    (shared_own is_moment session.steps places 0 (length session.steps)) in
+    let own : AreOwn events = both_own (shared_among is_moment session.steps session.steps run run (rows_of session [])) (paired_beyond many many run run) shared
+    (paired_own run (drop many (moments run))) in
+    let aligned = side_own run events 0 (length run) (omega arith) met.up_before own in
+    let rows = one_list run run events first_places pair.rows (diagonal 0 (length run)) is.rows aligned in
+    let before = is.is_before in
+    let after = is.is_after in
+    let refused = is.is_refused in
+    λ i. record { before = before i; after = after i; rows = rows i; refused = refused i }

@@ -1,17 +1,18 @@
 -- What the rows of two runs have to do with their steps.
-use Rattle.std.specs.Prelude.{◌≡◌, ◌⊎◌, ℕ, suc, List, [], Contains, map, true, Some, slice_get}
+use Rattle.std.specs.Prelude.{◌≡◌, ◌⊎◌, ◌+◌, ℕ, suc, List, [], ◌++◌, Bool, Contains, length, map, true, Some, slice_get}
 use Rattle.bench_types.specs.declared.edit.Edit.{Edit}
 use Rattle.bench_types.specs.declared.step.Step.{Step}
 use Rattle.bench_types.specs.Session.{Session}
 use Rattle.bench_model.specs.Edits.{after_edits}
+use Rattle.kept_runs.specs.KeptLaws.{comings}
 use Rattle.settled_runs.specs.SettleLaws.{comes_from_outside}
 use Rattle.session_runs.specs.Run.{RunView}
 use Rattle.run_comparisons.specs.declared.rows.Row.{Row}
 use Rattle.run_comparisons.specs.declared.rows.Row.TheVariants.{Both, Removed, Inserted}
 use Rattle.run_comparisons.specs.Alike.{MayShareRow}
-use Rattle.run_comparisons.specs.Pairs.{as_written, edited_pair, with_itself, EachStandsOnce, IsSettledPair, IsSimulatedPair, PairView}
+use Rattle.run_comparisons.specs.Pairs.{as_written, edited_pair, with_itself, EachStandsOnce, IsKeptPair, IsSettledPair, IsSimulatedPair, PairView}
 use Rattle.run_comparisons.specs.Rows.{rows_of}
-use Rattle.run_comparisons.specs.Shared.{events_before, moments}
+use Rattle.run_comparisons.specs.Shared.{events_before, is_moment, moments, AreMomentsOf}
 
 -- ---- of which pairs
 
@@ -19,9 +20,16 @@ use Rattle.run_comparisons.specs.Shared.{events_before, moments}
 abbrev pub IsOfSettled : PairView → Type 0
 IsOfSettled pair = (session : Session) × (edits : List Edit) × IsSettledPair session edits pair
 
--- runs that were made, settled or simulated
+-- the runs that keep work of some session and of the session after some edits
+abbrev pub IsOfKept : PairView → Type 0
+IsOfKept pair =
+    (session : Session) × (edits : List Edit)
+    × IsKeptPair session edits pair.refused pair.before pair.after pair
+
+-- runs that were made: settled, simulated, or such that keep work
 abbrev pub IsMadePair : PairView → Type 0
-IsMadePair pair = IsOfSettled pair ⊎ IsSimulatedPair pair.before pair.after pair
+IsMadePair pair =
+    IsOfSettled pair ⊎ (IsSimulatedPair pair.before pair.after pair ⊎ IsOfKept pair)
 
 -- the same, or the runs of some session and some edits as their steps stand
 abbrev pub IsPair : PairView → Type 0
@@ -38,10 +46,10 @@ EachStands = (pair : PairView) → IsPair pair → EachStandsOnce pair.before pa
 -- ---- shared events
 
 -- the event stands at the place of the run, and as many come before it as at that of the session
-pub record StandsAs (session : List Step) (old : ℕ) (event : Step) (run : List Step) (place : ℕ) :
-    Type 0 where
+pub record StandsAs (is_event : Step → Bool) (session : List Step) (old : ℕ) (event : Step)
+    (run : List Step) (place : ℕ) : Type 0 where
   pub stands : slice_get run place ≡ Some event
-  pub as_many : events_before run place ≡ events_before session old
+  pub as_many : events_before is_event run place ≡ events_before is_event session old
 
 -- A tick or an interrupt that both sessions have, the same one before the edits and after them,
 -- stands in a row of both settled runs.
@@ -53,8 +61,42 @@ SharedStandTogether =
     → slice_get (after_edits session edits).steps new ≡ Some event
     → comes_from_outside event ≡ true →
     (place : ℕ) × (later : ℕ) × Contains pair.rows (Both place later)
-    × StandsAs session.steps old event pair.before.session.steps place
-    × StandsAs (after_edits session edits).steps new event pair.after.session.steps later
+    × StandsAs comes_from_outside session.steps old event pair.before.session.steps place
+    × StandsAs comes_from_outside (after_edits session edits).steps new event
+    pair.after.session.steps later
+
+-- A tick or an interrupt that both sessions have stands in a row of both runs that keep work.
+abbrev pub KeptStandTogether : Type 0
+KeptStandTogether =
+    (session : Session) (edits : List Edit) (refused : List ℕ) (before after : RunView)
+    (pair : PairView) (old new : ℕ) (event : Step)
+    → IsKeptPair session edits refused before after pair
+    → Contains (rows_of session edits) (Both old new) → slice_get session.steps old ≡ Some event
+    → slice_get (after_edits session edits).steps new ≡ Some event → is_moment event ≡ true →
+    (place : ℕ) × (later : ℕ) × Contains pair.rows (Both place later)
+    × StandsAs is_moment session.steps old event before.session.steps place
+    × StandsAs is_moment (after_edits session edits).steps new event after.session.steps later
+
+-- So do those behind the ticks and interrupts of the sessions, where one event comes as the first
+-- in both runs, as the second in both, and so on.
+abbrev pub FurtherStandTogether : Type 0
+FurtherStandTogether =
+    (session : Session) (edits : List Edit) (refused : List ℕ) (before after : RunView)
+    (pair : PairView) (number place later : ℕ) (event : Step)
+    → IsKeptPair session edits refused before after pair
+    → slice_get (moments before.session.steps) (length (moments session.steps) + number)
+    ≡ Some place
+    → slice_get (moments after.session.steps)
+    (length (moments (after_edits session edits).steps) + number) ≡ Some later
+    → slice_get before.session.steps place ≡ Some event
+    → slice_get after.session.steps later ≡ Some event → Contains pair.rows (Both place later)
+
+-- the ticks and interrupts of a session are those of a run where they come at the same times, also
+-- where further ones are put behind the end of the session
+abbrev pub ComingsAreMoments : Type 0
+ComingsAreMoments =
+    (units : ℕ) (session further run : List Step)
+    → comings units 0 (session ++ further) ≡ comings units 0 run → AreMomentsOf session run
 
 -- the ticks and interrupts of both runs are the same, in the same order
 abbrev pub HaveSameMoments : List Step → List Step → Type 0
@@ -120,9 +162,22 @@ SimulatedPairIsOne =
     (before after : RunView) (pair other : PairView) → IsSimulatedPair before after pair
     → IsSimulatedPair before after other → pair ≡ other
 
+-- and one of two runs that keep work
+abbrev pub KeptPairIsOne : Type 0
+KeptPairIsOne =
+    (session : Session) (edits : List Edit) (refused : List ℕ) (before after : RunView)
+    (pair other : PairView) → IsKeptPair session edits refused before after pair
+    → IsKeptPair session edits refused before after other → pair ≡ other
+
 -- without edits a run stands beside itself, as its steps stand and settled
 abbrev pub AloneIsWithItself : Type 0
 AloneIsWithItself =
     ((session : Session) → edited_pair session [] ≡ with_itself (as_written session))
     × ((session : Session) (pair : PairView) → IsSettledPair session [] pair
     → pair ≡ with_itself pair.before)
+
+-- so does a run that keeps work
+abbrev pub KeptAloneIsWithItself : Type 0
+KeptAloneIsWithItself =
+    (session : Session) (run : RunView) (pair : PairView) → IsKeptPair session [] [] run run pair
+    → pair ≡ with_itself run

@@ -14,7 +14,8 @@ use Rattle.run_comparisons.specs.declared.columns.Side.TheVariants.{Before, Afte
 use Rattle.run_comparisons.specs.declared.rows.Row.{Row}
 use Rattle.run_comparisons.specs.declared.rows.Row.TheVariants.{Both}
 use Rattle.run_comparisons.specs.Rows.{place_after, place_before, rows_of}
-use Rattle.run_comparisons.specs.SideBySide.{AreSettledRows, AreSimulatedRows}
+use Rattle.run_comparisons.specs.Shared.{AreMomentsOf}
+use Rattle.run_comparisons.specs.SideBySide.{AreKeptRows, AreSettledRows, AreSimulatedRows}
 
 pub record PairView : Type 0 where
   pub before : RunView
@@ -63,6 +64,17 @@ pub record IsSimulatedPair (before after : RunView) (pair : PairView) : Type 0 w
   pub is_after : pair.after ≡ after
   pub rows : AreSimulatedRows before.session.steps after.session.steps pair.rows
   pub refused : pair.refused ≡ []
+
+-- these two runs that keep work, of a session and of the session after edits of it; edits are
+-- refused at these places
+pub record IsKeptPair (session : Session) (edits : List Edit) (refused : List ℕ)
+    (before after : RunView) (pair : PairView) : Type 0 where
+  pub is_before : pair.before ≡ before
+  pub is_after : pair.after ≡ after
+  pub of_session : AreMomentsOf session.steps before.session.steps
+  pub of_edited : AreMomentsOf (after_edits session edits).steps after.session.steps
+  pub rows : AreKeptRows session edits before.session.steps after.session.steps pair.rows
+  pub is_refused : pair.refused ≡ refused
 
 -- a run beside itself
 abbrev pub with_itself : RunView → PairView

@@ -8,7 +8,7 @@ use Rattle.run_comparisons.specs.declared.place_pair.PlacePair.{PlacePair}
 use Rattle.run_comparisons.specs.declared.rows.Row.{Row}
 use Rattle.run_comparisons.specs.declared.rows.Row.TheVariants.{Both, Removed, Inserted}
 use Rattle.run_comparisons.specs.Alike.{are_alike}
-use Rattle.run_comparisons.specs.Shared.{paired_events, shared_events}
+use Rattle.run_comparisons.specs.Shared.{kept_events, paired_events, shared_events}
 
 -- within so many steps a step is looked for that is like another
 abbrev pub look_ahead : ℕ
@@ -89,3 +89,8 @@ AreSettledRows session edits before after rows =
 abbrev pub AreSimulatedRows : List Step → List Step → List Row → Type 0
 AreSimulatedRows before after rows =
     AreSideBySide before after (paired_events before after) first_places rows
+
+-- the rows of the runs that keep work of a session and of the session after edits of it
+abbrev pub AreKeptRows : Session → List Edit → List Step → List Step → List Row → Type 0
+AreKeptRows session edits before after rows =
+    AreSideBySide before after (kept_events session edits before after) first_places rows

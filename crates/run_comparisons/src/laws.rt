@@ -1,6 +1,6 @@
 //! The laws of the rows of two runs.
 ghost use Rattle.run_comparisons.specs.Comparison.{NoDifferenceIsSaid};
-ghost use Rattle.run_comparisons.specs.PairLaws.{AlikeAreNotApart, AloneIsWithItself, EachStands, MomentsStandTogether, RowsAreAlike, SettledPairIsOne, SharedStandTogether, SimulatedPairIsOne};
+ghost use Rattle.run_comparisons.specs.PairLaws.{AlikeAreNotApart, AloneIsWithItself, ComingsAreMoments, EachStands, FurtherStandTogether, KeptAloneIsWithItself, KeptPairIsOne, KeptStandTogether, MomentsStandTogether, RowsAreAlike, SettledPairIsOne, SharedStandTogether, SimulatedPairIsOne};
 ghost use Rattle.run_comparisons.specs.RowLaws.{MovedStandTogether, RowsAreOfOne};
 ghost use Rattle.run_comparisons.specs.ShownLaws.{AllShownAreWhole, AllShownIsCompared, ShownAndLeftOutAreAll, ShownHavePlaces};
 
@@ -24,8 +24,8 @@ pub fn laws_of_edited_rows()
     ensures one { RowsAreOfOne }
 {}
 
-/// The rows of runs that were made, settled or simulated. It does nothing: its contract is the
-/// laws.
+/// The rows of runs that were made: settled, simulated, or such that keep work. It does nothing:
+/// its contract is the laws.
 pub fn laws_of_made_rows()
     // A tick or an interrupt that both sessions have stands in a row of both settled runs.
     ensures shared { SharedStandTogether }
@@ -38,6 +38,20 @@ pub fn laws_of_made_rows()
     // There is one pair of settled runs, and one of simulated runs.
     ensures settled { SettledPairIsOne }
     ensures simulated { SimulatedPairIsOne }
+{}
+
+/// The rows of runs that keep work. It does nothing: its contract is the laws.
+pub fn laws_of_kept_rows()
+    // A tick or an interrupt that both sessions have stands in a row of both runs.
+    ensures shared { KeptStandTogether }
+    // So do further ones that come in both runs behind those of the sessions.
+    ensures further { FurtherStandTogether }
+    // There is one pair of given runs.
+    ensures one { KeptPairIsOne }
+    // Without edits a run stands beside itself.
+    ensures alone { KeptAloneIsWithItself }
+    // Runs in which ticks and interrupts come when they do in the sessions have such a pair.
+    ensures comings { ComingsAreMoments }
 {}
 
 /// The rows at some places alone. It does nothing: its contract is the laws.

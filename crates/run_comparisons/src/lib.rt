@@ -5,6 +5,7 @@
 mod alike;
 mod columns;
 mod comparison;
+mod event_kind;
 mod gains;
 pub mod laws;
 mod left;

@@ -1,12 +1,13 @@
 //! Two runs beside each other.
 ghost use Rattle.std.specs.Prelude.{◌≡◌, ◌+◌, ◌<◌, ◌^◌, IfOk, length, true, false};
 ghost use Rattle.bench_model.specs.Edits.{after_edits};
-ghost use Rattle.run_comparisons.specs.Pairs.{edited_pair, EachStandsOnce, IsSettledPair, IsSimulatedPair};
+ghost use Rattle.run_comparisons.specs.Pairs.{edited_pair, EachStandsOnce, IsKeptPair, IsSettledPair, IsSimulatedPair};
+ghost use Rattle.run_comparisons.specs.Shared.{AreMomentsOf};
 ghost use Rattle.session_runs.specs.Run.{IsRunOf};
 
 use crate::refusals::refused_places;
 use crate::rows::{Row, edited_rows};
-use crate::side_by_side::{settled_rows, simulated_rows};
+use crate::side_by_side::{kept_rows, settled_rows, simulated_rows};
 use session_edits::EditedSession;
 use session_runs::Run;
 use std::alloc::{AllocError, Global};
@@ -101,6 +102,27 @@ impl RunPair {
     {
         let rows = simulated_rows(alloc, &before, &after)?;
         Ok(RunPair::of_parts(before, after, rows, Vec::new(alloc)))
+    }
+
+    /// The run that keeps work of the session, and that of the session after the edits. Edits are
+    /// refused at these places.
+    pub fn of_kept(
+        alloc: Global,
+        edited: &EditedSession,
+        before: Run,
+        after: Run,
+        refused: Vec<usize>,
+    ) -> Result<RunPair, AllocError>
+        // The ticks and interrupts of each are those of its run; behind them further ones may come.
+        requires before { AreMomentsOf edited.now.session.steps before.session.steps }
+        requires after { AreMomentsOf (after_edits edited.now.session edited.now.edits).steps
+            after.session.steps }
+        ensures { IfOk result
+            (λ pair. IsKeptPair edited.now.session edited.now.edits refused.items before after
+            pair) }
+    {
+        let rows = kept_rows(alloc, edited, &before, &after)?;
+        Ok(RunPair::of_parts(before, after, rows, refused))
     }
 
     /// The run before the edits.

@@ -1,22 +1,23 @@
 //! The events that two runs share, by which their steps are put beside each other.
-ghost use Rattle.std.specs.Prelude.{◌≡◌, ◌<◌, ◌^◌, IfOk, filter, length, not, slice_get, slice_index_or, zip};
+ghost use Rattle.std.specs.Prelude.{◌≡◌, ◌<◌, ◌^◌, IfOk, drop, length, slice_get, slice_index_or, zip};
 ghost use Rattle.std.specs.List.{filter_map};
-ghost use Rattle.run_comparisons.specs.Shared.{event_places, is_pass, is_same_event, moments, paired_at, paired_events, places_in, shared_among, shared_at};
+ghost use Rattle.run_comparisons.specs.Shared.{event_places, is_event, is_same_event, kept_among, moments, paired_at, paired_beyond, paired_events, places_in, shared_among, shared_at};
 
 use crate::Row;
-use crate::alike::{are_alike, comes_from_outside};
+use crate::alike::are_alike;
+use crate::event_kind::EventKind;
 use crate::place_pair::PlacePair;
 use bench_types::Step;
 use std::alloc::{AllocError, Global};
 
-// The places of the ticks and interrupts.
-fn event_places(alloc: Global, run: &[Step]) -> Result<Vec<u32>, AllocError>
+// The places of the events.
+fn event_places(alloc: Global, kind: EventKind, run: &[Step]) -> Result<Vec<u32>, AllocError>
     requires { length run.now < 2 ^ 32 }
-    ensures { IfOk result (λ places. places.items ≡ event_places 0 run.now) }
+    ensures { IfOk result (λ places. places.items ≡ event_places (is_event kind) 0 run.now) }
 {
     let mut places = Vec::new(alloc);
     for (place, step) in run.iter().enumerate() {
-        if comes_from_outside(step) {
+        if kind.has(step) {
             places.push(place as u32)?;
         }
     }
@@ -33,18 +34,23 @@ fn place_at(places: &[u32], index: usize) -> u32
     0
 }
 
-// Of each place of the session, where a tick or an interrupt that stands there stands in the
-// settled run.
-fn places_in(alloc: Global, run: &[Step], session: &[Step]) -> Result<Vec<u32>, AllocError>
+// Of each place of the session, where an event that stands there stands in the run.
+fn places_in(
+    alloc: Global,
+    kind: EventKind,
+    run: &[Step],
+    session: &[Step],
+) -> Result<Vec<u32>, AllocError>
     requires { length run.now < 2 ^ 32 }
-    ensures { IfOk result (λ places. places.items ≡ places_in run.now session.now) }
+    ensures { IfOk result
+        (λ places. places.items ≡ places_in (is_event kind) run.now session.now) }
 {
-    let events = event_places(alloc, run)?;
+    let events = event_places(alloc, kind, run)?;
     let mut places = Vec::with_capacity(alloc, session.len())?;
     let mut come = 0;
     for step in session {
         places.push(place_at(events.as_slice(), come))?;
-        if comes_from_outside(step) {
+        if kind.has(step) {
             come += 1;
         }
     }
@@ -58,30 +64,32 @@ pub(crate) fn step_at(steps: &[Step], place: u32) -> Option<Step>
     steps.get(place as usize).copied()
 }
 
-// Whether there are both, and they are one tick or one interrupt.
-fn is_same_event(step: Option<Step>, other: Option<Step>) -> bool
-    ensures { result ≡ is_same_event step other }
+// Whether there are both, and they are one event.
+fn is_same_event(kind: EventKind, step: Option<Step>, other: Option<Step>) -> bool
+    ensures { result ≡ is_same_event (is_event kind) step other }
 {
     match (step, other) {
-        (Some(step), Some(other)) => comes_from_outside(&step) && are_alike(&step, &other),
+        (Some(step), Some(other)) => kind.has(&step) && are_alike(&step, &other),
         _ => false,
     }
 }
 
 // The places in the runs of the event of the row, where the sessions share it.
 fn shared_at(
+    kind: EventKind,
     session: &[Step],
     edited: &[Step],
     places: &[u32],
     later: &[u32],
     row: Row,
 ) -> Option<PlacePair>
-    ensures { result ≡ shared_at session.now edited.now places.now later.now row }
+    ensures { result
+        ≡ shared_at (is_event kind) session.now edited.now places.now later.now row }
 {
     let Row::Both { before, after } = row else {
         return None;
     };
-    if !is_same_event(step_at(session, before), step_at(edited, after)) {
+    if !is_same_event(kind, step_at(session, before), step_at(edited, after)) {
         return None;
     }
     Some(PlacePair {
@@ -92,6 +100,7 @@ fn shared_at(
 
 fn shared_with(
     alloc: Global,
+    kind: EventKind,
     session: &[Step],
     edited: &[Step],
     places: &[u32],
@@ -99,21 +108,23 @@ fn shared_with(
     rows: &[Row],
 ) -> Result<Vec<PlacePair>, AllocError>
     ensures { IfOk result (λ shared. shared.items
-        ≡ filter_map (shared_at session.now edited.now places.now later.now) rows.now) }
+        ≡ filter_map (shared_at (is_event kind) session.now edited.now places.now later.now)
+        rows.now) }
 {
     let mut shared = Vec::new(alloc);
     for row in rows {
-        if let Some(event) = shared_at(session, edited, places, later, *row) {
+        if let Some(event) = shared_at(kind, session, edited, places, later, *row) {
             shared.push(event)?;
         }
     }
     Ok(shared)
 }
 
-/// The places in the settled runs of two sessions of the events that the sessions share, by the
-/// rows of both.
+/// The places in the runs of two sessions of the events that the sessions share, by the rows of
+/// both.
 pub(crate) fn shared_among(
     alloc: Global,
+    kind: EventKind,
     session: &[Step],
     edited: &[Step],
     before: &[Step],
@@ -123,12 +134,13 @@ pub(crate) fn shared_among(
     requires before { length before.now < 2 ^ 32 }
     requires after { length after.now < 2 ^ 32 }
     ensures { IfOk result (λ shared. shared.items
-        ≡ shared_among session.now edited.now before.now after.now rows.now) }
+        ≡ shared_among (is_event kind) session.now edited.now before.now after.now rows.now) }
 {
-    let places = places_in(alloc, before, session)?;
-    let later = places_in(alloc, after, edited)?;
+    let places = places_in(alloc, kind, before, session)?;
+    let later = places_in(alloc, kind, after, edited)?;
     shared_with(
         alloc,
+        kind,
         session,
         edited,
         places.as_slice(),
@@ -137,42 +149,20 @@ pub(crate) fn shared_among(
     )
 }
 
-// Whether time passes in the step.
-fn is_pass(step: Option<Step>) -> bool
-    ensures { result ≡ is_pass step }
-{
-    matches!(step, Some(Step::Pass { .. }))
-}
-
-// Those of the places at which no time passes.
-fn without_passes(alloc: Global, run: &[Step], events: &[u32]) -> Result<Vec<u32>, AllocError>
-    ensures { IfOk result
-        (λ places. places.items
-        ≡ filter (λ place. not (is_pass (slice_get run.now place))) events.now) }
-{
-    let mut places = Vec::new(alloc);
-    for place in events {
-        if !is_pass(step_at(run, *place)) {
-            places.push(*place)?;
-        }
-    }
-    Ok(places)
-}
-
 // The places of the ticks and interrupts; time that passes is none.
 fn moments(alloc: Global, run: &[Step]) -> Result<Vec<u32>, AllocError>
     requires { length run.now < 2 ^ 32 }
     ensures { IfOk result (λ places. places.items ≡ moments run.now) }
 {
-    let events = event_places(alloc, run)?;
-    without_passes(alloc, run, events.as_slice())
+    event_places(alloc, EventKind::Moment, run)
 }
 
 // The places in both runs, where one tick or one interrupt stands in both.
 fn paired_at(before: &[Step], after: &[Step], place: u32, later: u32) -> Option<PlacePair>
     ensures { result ≡ paired_at before.now after.now (place, later) }
 {
-    if !is_same_event(step_at(before, place), step_at(after, later)) {
+    let (step, other) = (step_at(before, place), step_at(after, later));
+    if !is_same_event(EventKind::Moment, step, other) {
         return None;
     }
     Some(PlacePair {
@@ -217,6 +207,39 @@ fn paired_with(
     Ok(events)
 }
 
+// The places behind so many; none where there are no more.
+fn beyond(places: &[u32], many: usize) -> &[u32]
+    ensures { result.now ≡ drop many places.now }
+{
+    if many <= places.len() {
+        return &places[many..];
+    }
+    &[]
+}
+
+// Behind so many ticks and interrupts of the one run, and so many of the other: those that come as
+// the first in both runs, as the second in both, and so on.
+fn paired_beyond(
+    alloc: Global,
+    many: usize,
+    others: usize,
+    before: &[Step],
+    after: &[Step],
+) -> Result<Vec<PlacePair>, AllocError>
+    requires before { length before.now < 2 ^ 32 }
+    requires after { length after.now < 2 ^ 32 }
+    ensures { IfOk result
+        (λ events. events.items ≡ paired_beyond many others before.now after.now) }
+{
+    let places = moments(alloc, before)?;
+    let later = moments(alloc, after)?;
+    let (places, later) = (
+        beyond(places.as_slice(), many),
+        beyond(later.as_slice(), others),
+    );
+    paired_with(alloc, before, after, places, later)
+}
+
 /// The ticks and interrupts that come as the first in both runs, as the second in both, and so on.
 pub(crate) fn paired_events(
     alloc: Global,
@@ -227,7 +250,31 @@ pub(crate) fn paired_events(
     requires after { length after.now < 2 ^ 32 }
     ensures { IfOk result (λ events. events.items ≡ paired_events before.now after.now) }
 {
-    let places = moments(alloc, before)?;
-    let later = moments(alloc, after)?;
-    paired_with(alloc, before, after, places.as_slice(), later.as_slice())
+    paired_beyond(alloc, 0, 0, before, after)
+}
+
+/// The ticks and interrupts that two sessions share, by the rows of both, where they stand in runs
+/// of them; and behind them further ones of both runs in their order.
+pub(crate) fn kept_among(
+    alloc: Global,
+    session: &[Step],
+    edited: &[Step],
+    before: &[Step],
+    after: &[Step],
+    rows: &[Row],
+) -> Result<Vec<PlacePair>, AllocError>
+    requires session { length session.now < 2 ^ 32 }
+    requires edited { length edited.now < 2 ^ 32 }
+    requires before { length before.now < 2 ^ 32 }
+    requires after { length after.now < 2 ^ 32 }
+    ensures { IfOk result (λ events. events.items
+        ≡ kept_among session.now edited.now before.now after.now rows.now) }
+{
+    let kind = EventKind::Moment;
+    let mut events = shared_among(alloc, kind, session, edited, before, after, rows)?;
+    let many = moments(alloc, session)?.len();
+    let others = moments(alloc, edited)?.len();
+    let further = paired_beyond(alloc, many, others, before, after)?;
+    events.extend_from_slice(further.as_slice())?;
+    Ok(events)
 }

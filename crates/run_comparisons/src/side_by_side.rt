@@ -5,13 +5,15 @@ ghost use Rattle.run_comparisons.specs.declared.rows.Row.{Row};
 ghost use Rattle.bench_model.specs.Edits.{after_edits};
 ghost use Rattle.session_runs.specs.Run.{IsRunOf};
 ghost use Rattle.run_comparisons.specs.Rows.{place_after, place_before};
-ghost use Rattle.run_comparisons.specs.SideBySide.{first_places, found_after, is_nearer, next_row, past, row_of, row_of_two, AreAligned, AreSettledRows, AreSideBySide, AreSimulatedRows, IsWithin};
+ghost use Rattle.run_comparisons.specs.Shared.{AreMomentsOf};
+ghost use Rattle.run_comparisons.specs.SideBySide.{first_places, found_after, is_nearer, next_row, past, row_of, row_of_two, AreAligned, AreKeptRows, AreSettledRows, AreSideBySide, AreSimulatedRows, IsWithin};
 
 use crate::Row;
 use crate::alike::are_alike;
+use crate::event_kind::EventKind;
 use crate::place_pair::PlacePair;
 use crate::rows::edited_rows;
-use crate::shared::{paired_events, shared_among, step_at};
+use crate::shared::{kept_among, paired_events, shared_among, step_at};
 use bench_types::Step;
 use session_edits::EditedSession;
 use session_runs::Run;
@@ -192,8 +194,31 @@ pub(crate) fn settled_rows(
     let rows = edited_rows(alloc, edited)?;
     let (session, later_session) = (edited.session().steps(), edited.edited().steps());
     let (run, later) = (before.session().steps(), after.session().steps());
-    let shared = shared_among(alloc, session, later_session, run, later, rows.as_slice())?;
+    let kind = EventKind::Outside;
+    let rows = rows.as_slice();
+    let shared = shared_among(alloc, kind, session, later_session, run, later, rows)?;
     side_by_side(alloc, run, later, shared.as_slice())
+}
+
+/// The rows of runs that keep work of a session and of the session after the edits.
+pub(crate) fn kept_rows(
+    alloc: Global,
+    edited: &EditedSession,
+    before: &Run,
+    after: &Run,
+) -> Result<Vec<Row>, AllocError>
+    requires before { AreMomentsOf edited.now.session.steps before.now.session.steps }
+    requires after { AreMomentsOf (after_edits edited.now.session edited.now.edits).steps
+        after.now.session.steps }
+    ensures { IfOk result
+        (λ rows. AreKeptRows edited.now.session edited.now.edits before.now.session.steps
+        after.now.session.steps rows.items) }
+{
+    let rows = edited_rows(alloc, edited)?;
+    let (session, later_session) = (edited.session().steps(), edited.edited().steps());
+    let (run, later) = (before.session().steps(), after.session().steps());
+    let events = kept_among(alloc, session, later_session, run, later, rows.as_slice())?;
+    side_by_side(alloc, run, later, events.as_slice())
 }
 
 /// The rows of two simulated runs.

@@ -10,6 +10,7 @@ mod origins;
 mod refused;
 
 pub use edited::EditedSession;
-pub use notes::{refused_edits, refused_trials};
+pub use making::session_after;
+pub use notes::{push_refused, refused_edits, refused_trials};
 pub use origins::{all_kept, edit_origins};
-pub use refused::RefusedEdit;
+pub use refused::{RefusedEdit, steps_after};

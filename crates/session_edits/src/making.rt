@@ -67,8 +67,8 @@ fn edit_steps(steps: &mut Vec<Step>, edit: &Edit) -> Result<(), AllocError>
     Ok(())
 }
 
-// The session after an edit that is accepted.
-fn edited(session: CheckedSession, edit: &Edit) -> Result<CheckedSession, AllocError>
+/// The session after an edit that is accepted.
+pub fn session_after(session: CheckedSession, edit: &Edit) -> Result<CheckedSession, AllocError>
     requires accepted { accepted session edit.now ≡ Ok tt }
     requires words { IsEditOfWords edit.now }
     ensures { IfOk result (λ next. next ≡ edited edit.now session) }
@@ -109,7 +109,7 @@ fn make_edit(made: Made, edit: &Edit) -> Result<Made, AllocError>
         Ok(_) => {
             edit_origins(&mut origins, edit)?;
             Ok(Made {
-                session: edited(session, edit)?,
+                session: session_after(session, edit)?,
                 origins,
             })
         }

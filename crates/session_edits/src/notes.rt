@@ -39,9 +39,9 @@ fn push_reason(text: &mut String, steps: u32, why: EditFault) -> Result<(), Allo
     }
 }
 
-// The line of an edit that is refused.
+/// Adds the line of an edit that is refused.
 #[tactic(auto, unfolding(crate::specs::Notes::refused_line))]
-fn push_line(text: &mut String, refused: &RefusedEdit) -> Result<(), AllocError>
+pub fn push_refused(text: &mut String, refused: &RefusedEdit) -> Result<(), AllocError>
     ensures { OnOk result
         (string_bytes text.new ≡ string_bytes text.old ++ refused_line refused.now) }
 {
@@ -57,7 +57,7 @@ pub(crate) fn lines_of(alloc: Global, refused: &[RefusedEdit]) -> Result<String,
 {
     let mut text = String::new(alloc);
     for one in refused {
-        push_line(&mut text, one)?;
+        push_refused(&mut text, one)?;
     }
     Ok(text)
 }

@@ -19,7 +19,7 @@ pub struct RefusedEdit {
 }
 
 /// How many steps there are after the edit, or why that is refused.
-pub(crate) fn steps_after(steps: u32, edit: &Edit) -> Result<u32, EditFault>
+pub fn steps_after(steps: u32, edit: &Edit) -> Result<u32, EditFault>
     ensures { (session : Session) → length session.steps ≡ steps
         → edit_check session.header edit.now ≡ Ok tt → IsAnswer session edit.now result }
 {

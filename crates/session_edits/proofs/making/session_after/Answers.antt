@@ -4,7 +4,7 @@ use Rattle.bench_types.specs.Session.{IsSession, Session}
 use Rattle.bench_model.specs.Edits.{edited}
 use Rattle.session_edits.proofs.Accepting.{edited_checked}
 use Rattle.session_edits.proofs.Moving.{edited_whole}
-use Rattle.session_edits.proofs.making.edited.Goals as goal
+use Rattle.session_edits.proofs.making.session_after.Goals as goal
 
 pub new-requires : goal.new-requires
 new-requires c =

@@ -1,0 +1,3 @@
+mod NoteTexts
+mod OnTheWay
+mod RefusedThese

@@ -1,0 +1,3 @@
+pub mod NoteLaws
+pub mod Notes
+pub mod Refused

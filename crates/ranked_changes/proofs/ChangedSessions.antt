@@ -56,7 +56,7 @@ numbers_checked : (header : Header) (priority mask : ℕ) → priority < header.
     header.config priority mask ≡ true
 numbers_checked header priority mask low some = grind (arith, nat_tests, low, some)
 
-task_fits : (header : Header) (task priority mask : ℕ) → IsUserTask header task → priority < header.config.priorities → 0 < cores_of_mask header.config.cores
+pub task_fits : (header : Header) (task priority mask : ℕ) → IsUserTask header task → priority < header.config.priorities → 0 < cores_of_mask header.config.cores
     mask
     → edit_check header (ChangeTask task priority mask) ≡ Ok tt
 task_fits header task priority mask user low some =

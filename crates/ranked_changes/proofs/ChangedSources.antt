@@ -1,12 +1,13 @@
 -- A source with a change made passes the checks of its kind, and has the same settings.
-use Rattle.std.proofs.Common.{◌≡◌, ℕ, ◌==◌, cond, List, length, Option, Some, None, ap₂, ◌∙◌, arith}
+use Rattle.std.proofs.Common.{◌≡◌, ℕ, ◌==◌, cond, List, [], length, Option, Some, None, ap₂, sym, subst, ◌∙◌, arith}
 use Rattle.std.specs.Prelude.{is_some, option_map}
 use Rattle.std.specs.Option.{option_or}
 use Rattle.bench_types.specs.declared.flaw.HeaderFlaw.{HeaderFlaw}
-use Rattle.bench_types.specs.declared.header.Header.{Header}
 use Rattle.bench_types.specs.declared.header.QueueArgs.{QueueArgs}
 use Rattle.bench_types.specs.declared.kernel_data.Settings.{Settings}
+use Rattle.bench_types.specs.declared.step.Step.{Step}
 use Rattle.bench_types.specs.Flaw.{header_flaw as flaw_of_header}
+use Rattle.kept_runs.specs.Items.{edited_session}
 use Rattle.bench_types.specs.Session.{IsCheckedSession, Session}
 use Rattle.bench_types.specs.Step.{settings_of}
 use Rattle.bench_types.proofs.Passes.{checked_flaw}
@@ -16,10 +17,12 @@ use Rattle.task_programs.specs.Workloads.{contents_flaw, header_flaw, interrupts
 use Rattle.task_programs.proofs.Flaws.{none_of}
 use Rattle.run_sources.specs.declared.source.Source.{Source}
 use Rattle.run_sources.specs.declared.source.Source.TheVariants as source
-use Rattle.run_sources.specs.Sources.{header_of, IsCheckedSource}
+use Rattle.run_sources.specs.Sources.{header_of}
 use Rattle.ranked_changes.specs.declared.change.Change.{Change}
+use Rattle.ranked_changes.specs.declared.change.Change.TheVariants as change
 use Rattle.ranked_changes.specs.Changed.{changed, changed_header, changed_session, changed_workload, IsHeaderChange, IsStepChange}
 use Rattle.ranked_changes.specs.ChangeLaws.{ChangesKeepSources}
+use Rattle.ranked_changes.proofs.KeptChanges.{change_made, same_settings}
 use Rattle.ranked_changes.proofs.ChangedSessions.{header_kept, queues_kept, session_kept, settings_kept, steps_kept, tasks_kept}
 
 -- ---- workloads
@@ -67,12 +70,25 @@ checked_session_kept session made is header steps = record {
 
 -- ---- sources
 
+-- what is allowed where there is no step is allowed where there are some
+more_places : (made : Change) (steps : List Step) → IsStepChange [] made → IsStepChange steps made
+more_places (change.Priority task priority) steps any = tt
+more_places (change.Mask task mask) steps any = tt
+more_places (change.Order first second) steps places = absurd (let low = places.0 in omega (arith, low))
+
 pub changes_keep_sources : ChangesKeepSources
 changes_keep_sources (source.Session session) made is allowed = checked_session_kept session made is allowed.0 allowed.1
 changes_keep_sources (source.Settled session) made is allowed = checked_session_kept session made is allowed.0 allowed.1
 changes_keep_sources (source.Workload workload) made is allowed = workload_kept workload made is allowed.0
+changes_keep_sources (source.Kept kept order) made is allowed =
+    let after = edited_session kept.session kept.edits in (
+      is.0,
+      subst IsCheckedSession (sym (change_made kept made is.1.checked allowed.0 allowed.1))
+          (checked_session_kept after made is.1 allowed.0 (more_places made after.steps allowed.1)),
+    )
 
 pub source_settings_kept : (source : Source) (made : Change) → settings_of (header_of (changed source made)) ≡ settings_of (header_of source)
 source_settings_kept (source.Session session) made = settings_kept session.header made
 source_settings_kept (source.Settled session) made = settings_kept session.header made
 source_settings_kept (source.Workload workload) made = settings_kept workload.header made
+source_settings_kept (source.Kept kept order) made = same_settings kept made

@@ -1,5 +1,6 @@
 pub mod Allowed
 pub mod ChangedSessions
+pub mod KeptChanges
 pub mod ChangedSources
 pub mod Orders
 pub mod Few

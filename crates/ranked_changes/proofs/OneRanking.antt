@@ -1,5 +1,5 @@
 -- The changes of a source have one ranking alone.
-use Rattle.std.proofs.Common.{◌≡◌, ℕ, zero, suc, ◌<◌, Bool, true, false, cond, List, [], ◌∷◌, length, get_or, refl, sym, ap, ap₂, ◌∙◌, arith}
+use Rattle.std.proofs.Common.{◌≡◌, ℕ, zero, suc, ◌<◌, Bool, true, false, cond, List, [], ◌∷◌, length, get_or, refl, sym, ap, ◌∙◌, arith}
 use Rattle.std.specs.Prelude.{AllPairs}
 use Rattle.std.specs.List.{sum_by}
 use Rattle.std.specs.Ordering.{is_lt, nat_cmp, ordering_reverse, ordering_then}
@@ -11,7 +11,6 @@ use Rattle.std.proofs.lemmas.List.{same_lists}
 use Rattle.std.proofs.lemmas.List.Sorted.{sum_by-IsPermutation}
 use Rattle.std.proofs.lemmas.List.Sums.{sum_by-cons}
 use Rattle.run_sources.specs.declared.source.Source.{Source}
-use Rattle.run_sources.specs.Sources.{header_of}
 use Rattle.run_sources.proofs.SourceRuns.{source_run_is_one, source_too_long_is_longer}
 use Rattle.ranked_changes.specs.declared.change.Change.{Change}
 use Rattle.ranked_changes.specs.declared.change.Change.TheVariants.{Order}

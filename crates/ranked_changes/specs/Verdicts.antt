@@ -1,6 +1,5 @@
 -- By what a source is judged.
-use Rattle.std.specs.Prelude.{◌≡◌, ℕ, ◌+◌, ◌≤◌, Bool, true, false, List, length, if◌then◌else◌}
-use Rattle.bench_types.specs.declared.step.Step.{Step}
+use Rattle.std.specs.Prelude.{◌≡◌, ℕ, ◌*◌, ◌≤◌, Bool, true, false, length}
 use Rattle.bench_types.specs.Limits.{max_steps}
 use Rattle.session_runs.specs.Run.{RunView}
 use Rattle.smp_kernel.specs.Counting.{meter_after, CountsUpTo}
@@ -8,7 +7,7 @@ use Rattle.run_numbers.specs.declared.subject.Reading.{Reading}
 use Rattle.run_numbers.specs.Readings.{reading_of}
 use Rattle.run_sources.specs.declared.source.Source.{Source}
 use Rattle.run_sources.specs.declared.source.Source.TheVariants as source
-use Rattle.run_sources.specs.Sources.{count_of, IsRunOfSource, IsSourceTooLong}
+use Rattle.run_sources.specs.Sources.{most_of, IsCounted, IsRunOfSource, IsSourceTooLong}
 use Rattle.ranked_changes.specs.declared.judge.Judge.{Judge}
 use Rattle.ranked_changes.specs.declared.judge.Measure.{Measure}
 use Rattle.ranked_changes.specs.declared.judge.Measure.TheVariants.{Total, Longest}
@@ -38,14 +37,22 @@ abbrev pub is_made_first : Source → Bool
 is_made_first (source.Session session) = false
 is_made_first source = true
 
--- so many steps the kernel makes to judge a run of these steps
-abbrev pub judged_count : Source → List Step → ℕ
-judged_count source run =
-    (if is_made_first source then count_of source run else 0) + length run
+-- the kernel made the steps of the run to judge it, behind those that made the run
+abbrev pub IsJudged : Source → RunView → ℕ → ℕ → Type 0
+IsJudged (source.Session session) run old new = new ≡ meter_after (length run.session.steps) old
+IsJudged source run old new =
+    (made : ℕ) × IsCounted source run old made
+    × (new ≡ meter_after (length run.session.steps) made)
 
--- they were counted; of a run that is too long, at most as many as a session may have
+-- at most so many steps the kernel makes where no verdict is given in the end
+abbrev pub most_judged : Source → ℕ
+most_judged (source.Session session) = max_steps
+most_judged (source.Settled session) = 2 * max_steps
+most_judged (source.Workload workload) = 3 * max_steps
+most_judged (source.Kept made order) = 4 * max_steps
+
+-- they were counted; of a run that is too long, at most as many as are made for none
 abbrev pub CountsVerdict : Source → Verdict → ℕ → ℕ → Type 0
 CountsVerdict source (Number number) old new =
-    (run : RunView) × IsRunOfSource source run
-    × (new ≡ meter_after (judged_count source run.session.steps) old)
-CountsVerdict source TooLong old new = CountsUpTo max_steps old new
+    (run : RunView) × IsRunOfSource source run × IsJudged source run old new
+CountsVerdict source TooLong old new = CountsUpTo (most_of source) old new

@@ -2,11 +2,14 @@
 ghost use Rattle.std.specs.Prelude.{◌≡◌, IfOk};
 ghost use Rattle.bench_types.specs.Step.{settings_of};
 ghost use Rattle.bench_model.specs.Edits.{args_of, changed as with_numbers};
+ghost use Rattle.kept_runs.specs.Items.{edited_session};
 ghost use Rattle.run_sources.specs.Sources.{header_of};
-ghost use Rattle.ranked_changes.specs.Changed.{changed, changed_header, changed_session, changed_steps, changed_workload, IsChangeOf, IsHeaderChange, IsStepChange, IsUserTask};
+ghost use Rattle.ranked_changes.specs.Changed.{changed, changed_header, changed_kept, changed_session, changed_steps, changed_workload, edit_of, IsChangeOf, IsHeaderChange, IsStepChange, IsUserTask};
 
 use crate::Change;
-use bench_types::{CheckedSession, Header, Items, Step, TaskArgs};
+use bench_types::{CheckedSession, Edit, Header, Items, Step, TaskArgs};
+use kept_edits::KeptEdit;
+use kept_sessions::KeptSession;
 use run_sources::Source;
 use std::alloc::{AllocError, Global};
 use task_programs::{CheckedWorkload, Workload};
@@ -114,8 +117,44 @@ fn changed_workload(
     }))
 }
 
+// A change of a task as an edit of a session; an exchange of calls is none.
+fn edit_of(header: &Header, change: Change) -> Option<Edit>
+    requires { IsHeaderChange header.now change }
+    ensures { result ≡ edit_of header.now change }
+{
+    match change {
+        Change::Priority { task, priority } => Some(Edit::ChangeTask {
+            task,
+            priority,
+            mask: args_of(header, task).mask,
+        }),
+        Change::Mask { task, mask } => Some(Edit::ChangeTask {
+            task,
+            priority: args_of(header, task).priority,
+            mask,
+        }),
+        Change::Order { .. } => None,
+    }
+}
+
+// A second session with edits, in which the change of a task is one edit more.
+fn changed_kept(
+    alloc: Global,
+    made: &KeptSession,
+    change: Change,
+) -> Result<KeptSession, AllocError>
+    requires { IsHeaderChange (edited_session made.now.session made.now.edits).header change }
+    ensures { IfOk result (λ next. next ≡ changed_kept made.now change) }
+{
+    let mut edits = Vec::from_slice(alloc, made.edits())?;
+    if let Some(edit) = edit_of(made.edited().header(), change) {
+        edits.push(KeptEdit::Plain(edit))?;
+    }
+    KeptSession::make(alloc, made.session().copy(alloc)?, edits)
+}
+
 /// A second source in which the change is made. It has the same cores, tasks and mutexes.
-#[tactic(auto, using(crate::proofs::ChangedSessions::settings_kept))]
+#[tactic(auto, using(crate::proofs::ChangedSessions::settings_kept, crate::proofs::KeptChanges::same_settings))]
 pub fn changed_source(alloc: Global, source: &Source, change: Change) -> Result<Source, AllocError>
     requires { IsChangeOf source.now change }
     ensures changed { IfOk result (λ made. made ≡ changed source.now change) }
@@ -131,6 +170,9 @@ pub fn changed_source(alloc: Global, source: &Source, change: Change) -> Result<
         }
         Source::Workload(workload) => {
             Ok(Source::Workload(changed_workload(alloc, workload, change)?))
+        }
+        Source::Kept(made, order) => {
+            Ok(Source::Kept(changed_kept(alloc, made, change)?, *order))
         }
     }
 }

@@ -1,12 +1,12 @@
 //! By what a source is judged.
-ghost use Rattle.std.specs.Prelude.{◌≡◌, ◌<◌, ◌+◌, ◌^◌, IfOk, OnErr, OnOk, length, true};
+ghost use Rattle.std.specs.Prelude.{◌≡◌, ◌<◌, ◌^◌, IfOk, OnErr, OnOk, length, true};
 ghost use Rattle.bench_types.specs.Limits.{max_steps};
 ghost use Rattle.bench_types.specs.Step.{settings_of};
 ghost use Rattle.smp_kernel.specs.Counting.{meter_after, CountsUpTo};
 ghost use Rattle.run_numbers.specs.Readings.{IsSubjectOf};
 ghost use Rattle.run_sources.specs.declared.source.Source.TheVariants as source;
 ghost use Rattle.run_sources.specs.Sources.{header_of};
-ghost use Rattle.ranked_changes.specs.Verdicts.{is_made_first, number_in, number_of, CountsVerdict, IsVerdict};
+ghost use Rattle.ranked_changes.specs.Verdicts.{is_made_first, most_judged, number_in, number_of, CountsVerdict, IsVerdict};
 
 use bench_types::{CheckedSession, MAX_STEPS};
 use run_numbers::{Reading, Subject, measure};
@@ -100,8 +100,7 @@ fn made_verdict(
     ensures verdict { IfOk result (IsVerdict judge source.now) }
     ensures meter { IfOk result
         (λ verdict. CountsVerdict source.now verdict meter.old meter.new) }
-    ensures some { OnErr result
-        (CountsUpTo (max_steps + max_steps + max_steps) meter.old meter.new) }
+    ensures some { OnErr result (CountsUpTo (most_judged source.now) meter.old meter.new) }
 {
     let run = match make_run(alloc, source, meter) {
         Ok(run) => run,
@@ -125,11 +124,12 @@ pub fn verdict_of(
     ensures verdict { IfOk result (IsVerdict judge source.now) }
     ensures meter { IfOk result
         (λ verdict. CountsVerdict source.now verdict meter.old meter.new) }
-    ensures some { OnErr result
-        (CountsUpTo (max_steps + max_steps + max_steps) meter.old meter.new) }
+    ensures some { OnErr result (CountsUpTo (most_judged source.now) meter.old meter.new) }
 {
     match source {
         Source::Session(session) => plain_verdict(alloc, meter, session, judge),
-        Source::Settled(_) | Source::Workload(_) => made_verdict(alloc, meter, source, judge),
+        Source::Settled(_) | Source::Workload(_) | Source::Kept(_, _) => {
+            made_verdict(alloc, meter, source, judge)
+        }
     }
 }

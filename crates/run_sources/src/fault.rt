@@ -14,6 +14,10 @@ pub enum RunFault {
         /// The task that makes each of the last 1000 calls of so many steps, if it is one alone.
         caller: Option<u32>,
     },
+    /// J2: the run that keeps work, or the settled run of the session before the edits, has more
+    /// than [`MAX_STEPS`](bench_types::MAX_STEPS) steps.
+    #[error("the run that keeps work is too long")]
+    KeptTooLong,
     /// The allocator had no memory left.
     #[error("out of memory")]
     NoMemory,

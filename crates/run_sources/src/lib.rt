@@ -1,4 +1,5 @@
-//! What a run is made of: a session as its steps stand, one that is settled, or a workload.
+//! What a run is made of: a session as its steps stand, one that is settled, a workload, or a
+//! session with edits whose run keeps work.
 #![tactic(auto)]
 
 mod fault;

@@ -1,7 +1,7 @@
 -- What is told on the way of how many changes were tried.
 use Rattle.std.specs.Prelude.{◌≡◌, ℕ}
 use Rattle.run_sources.specs.declared.fault.RunFault.{RunFault}
-use Rattle.run_sources.specs.declared.fault.RunFault.TheVariants.{SettledTooLong, SimulatedTooLong, NoMemory}
+use Rattle.run_sources.specs.declared.fault.RunFault.TheVariants.{SettledTooLong, SimulatedTooLong, KeptTooLong, NoMemory}
 use Rattle.ranked_changes.specs.Tellings.{TellsSome, TellsUpTo}
 use Rattle.session_advice.specs.declared.question.AdviceStatus.{AdviceStatus}
 use Rattle.session_advice.specs.declared.question.AdviceStatus.TheVariants.{Given, Unknown}
@@ -18,3 +18,4 @@ abbrev pub TellsByFault : {P : Type 0} → (P → ℕ → ℕ → P → Type 0) 
 TellsByFault tells NoMemory all old new = TellsSome tells all old new
 TellsByFault tells SettledTooLong all old new = new ≡ old
 TellsByFault tells (SimulatedTooLong caller) all old new = new ≡ old
+TellsByFault tells KeptTooLong all old new = new ≡ old

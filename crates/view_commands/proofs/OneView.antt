@@ -12,7 +12,9 @@ use Rattle.session_text.specs.declared.fault.TextFault.{TextFault}
 use Rattle.session_text.specs.declared.fault.Why.{Why}
 use Rattle.session_text.specs.declared.fault.Why.TheVariants as why
 use Rattle.serde_json.specs.Data.{Data}
-use Rattle.session_text.specs.Bench.{bench_at, bench_text}
+use Rattle.session_text.specs.Bench.{bench_at, bench_of_text, bench_text}
+use Rattle.session_text.specs.Edit.{edit_at}
+use Rattle.bench_types.specs.StepFlaw.{edit_flaw}
 use Rattle.session_text.specs.ReadingRules.{◌>>=◌}
 use Rattle.session_text.specs.Session.{document}
 use Rattle.task_programs.specs.declared.flaw.WorkloadFlaw.{WorkloadFlaw}
@@ -65,11 +67,13 @@ one_told_too_long (source.Settled session) refusal other one two = one.1 ∙ sym
 one_told_too_long (source.Workload workload) refusal other one two =
     one.is_told ∙ ap (λ (c : Option ℕ). simulated_too_long workload.header c) (one_caller workload one.caller two.caller one.is_long two.is_long)
     ∙ sym two.is_told
+one_told_too_long (source.Kept made order) refusal other one two = one.1 ∙ sym two.1
 
 told_is_too_long : (origin : Source) (refusal : Printed) → IsToldTooLong origin refusal → IsSourceTooLong origin
 told_is_too_long (source.Session session) refusal is = is
 told_is_too_long (source.Settled session) refusal is = is.0
 told_is_too_long (source.Workload workload) refusal is = is.is_long.long
+told_is_too_long (source.Kept made order) refusal is = is.0
 
 one_first : (sources : List Source) (refusal other : Printed) → IsFirstTooLong sources refusal → IsFirstTooLong sources other → refusal ≡ other
 one_first [] refusal other one two = absurd one
@@ -167,7 +171,7 @@ one_or_refused : (test : Bool) (refused : Printed) (claim other_claim : Type 0) 
 one_or_refused true refused claim other_claim input printed other both one two = same_printed input printed other (one ∙ sym two)
 one_or_refused false refused claim other_claim input printed other both one two = both one two
 
-one_of_bench : (lines : List ℕ) (job : Job) (input : List ℕ) (bench : Bench) (printed other : Printed) → IsPrintedOfBench lines job bench printed →
+one_of_bench : (lines : List ℕ) (job : Job) (input : List ℕ) (bench : Bench Edit) (printed other : Printed) → IsPrintedOfBench lines job bench printed →
     IsPrintedOfBench lines job bench other → IsSame input printed other
 one_of_bench lines job input bench printed other one two =
     let made : EditedSource = session_source job.settled (record { header = bench.header; steps = bench.steps }) bench.edits in
@@ -209,7 +213,7 @@ of_bench input fault read json = sym (ap is_json read) ∙ left_of (is_json (ben
 of_workload : (input : List ℕ) (fault : TextFault) → edited_workload_text input ≡ Err fault → is_json_text input ≡ true → is_json_fault fault.why ≡ true
 of_workload input fault read json = sym (ap is_json read) ∙ right_of (is_json (bench_text input)) (is_json (edited_workload_text input)) json
 
-one_of_text : (job : Job) (input : List ℕ) (text : Result Bench TextFault) (printed other : Printed) → bench_text input ≡ text → IsPrintedOfText job input text
+one_of_text : (job : Job) (input : List ℕ) (text : Result (Bench Edit) TextFault) (printed other : Printed) → bench_text input ≡ text → IsPrintedOfText job input text
     printed → IsPrintedOfText job input text other → IsSame input printed other
 one_of_text job input (Ok bench) printed other read one two = one_of_bench (twice_note input) job input bench printed other one two
 one_of_text job input (Err fault) printed other read one two = one_of_fault input fault printed other (of_bench input fault read) one two
@@ -229,8 +233,8 @@ one_of_workload job input (Err fault) printed other read one two = one_of_fault 
 
 -- a text that is no JSON is none of a session
 no_bench : (input : List ℕ) (fault : TextFault) → document input ≡ Err fault → bench_text input ≡ Err fault
-unfolding bench_text
-no_bench input fault read = ap (λ (r : Result Data TextFault). r >>= (λ d. bench_at [] d)) read
+unfolding bench_of_text
+no_bench input fault read = ap (λ (r : Result Data TextFault). r >>= (λ d. bench_at edit_at edit_flaw [] d)) read
 
 one_of_none : (input : List ℕ) (text : Result Data TextFault) (printed other : Printed) → document input ≡ text → IsPrintedOfNone input text printed
     → IsPrintedOfNone input text other → IsSame input printed other

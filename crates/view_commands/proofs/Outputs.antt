@@ -41,11 +41,11 @@ or_claim true refused claim printed fails is = absurd (cc fails)
 or_claim false refused claim printed fails is = is
 
 -- what the document says, by whether it is settled
-abbrev pub made_of : Bool → Bench → EditedSource
+abbrev pub made_of : Bool → Bench Edit → EditedSource
 made_of settled bench = session_source settled (record { header = bench.header; steps = bench.steps }) bench.edits
 
 -- what is told of a session that has too many steps
-pub long_printed : {E : Type 0} (lines : List ℕ) (job : Job) (bench : Bench) (result : Result Printed E) → max_steps < length bench.steps
+pub long_printed : {E : Type 0} (lines : List ℕ) (job : Job) (bench : Bench Edit) (result : Result Printed E) → max_steps < length bench.steps
     → IfOk result (λ printed. printed ≡ warned lines too_many_steps) → IfOk result (λ printed. IsPrintedOfBench lines job bench printed)
 long_printed lines job bench (Err e) long line = tt
 long_printed lines job bench (Ok printed) long line =
@@ -53,7 +53,7 @@ long_printed lines job bench (Ok printed) long line =
     or_refused (nat_lt max_steps (length bench.steps)) (warned lines too_many_steps) (IsNoted lines job (made_of job.settled bench) printed) printed many line
 
 -- what is told of another one
-pub short_printed : {E : Type 0} (lines : List ℕ) (job : Job) (bench : Bench) (result : Result Printed E) → length bench.steps ≤ max_steps
+pub short_printed : {E : Type 0} (lines : List ℕ) (job : Job) (bench : Bench Edit) (result : Result Printed E) → length bench.steps ≤ max_steps
     → IfOk result (IsNoted lines job (made_of job.settled bench)) → IfOk result (λ printed. IsPrintedOfBench lines job bench printed)
 short_printed lines job bench (Err e) few told = tt
 short_printed lines job bench (Ok printed) few told =
@@ -61,7 +61,7 @@ short_printed lines job bench (Ok printed) few told =
     or_claim (nat_lt max_steps (length bench.steps)) (warned lines too_many_steps) (IsNoted lines job (made_of job.settled bench) printed) printed not_many told
 
 -- the same by the session, and the edits that are made of it
-pub bench_told : {E : Type 0} (lines : List ℕ) (job : Job) (bench : Bench) (steps : List Step) (edits : List Edit) (session : Session) (both : EditedView)
+pub bench_told : {E : Type 0} (lines : List ℕ) (job : Job) (bench : Bench Edit) (steps : List Step) (edits : List Edit) (session : Session) (both : EditedView)
     (source : EditedSource) (result : Result Printed E) → steps ≡ bench.steps → edits ≡ bench.edits → session ≡ record { header = bench.header; steps = steps }
     → length session.steps ≤ max_steps → both ≡ record { session = session; edits = edits } → source ≡ session_source job.settled both.session both.edits
     → IfOk result (IsNoted lines job source) → IfOk result (λ printed. IsPrintedOfBench lines job bench printed)

@@ -42,6 +42,7 @@ ends_told documents (source.Session session) run = []
 ends_told documents (source.Settled session) run = []
 ends_told documents (source.Workload workload) run =
     ends_by documents workload (ends_of workload run.session.steps)
+ends_told documents (source.Kept made order) run = []
 
 -- what is asked of the runs that are shown
 pub record IsToldOfRuns (documents : Documents) (asked : Ask) (source : EditedSource)

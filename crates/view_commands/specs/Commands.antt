@@ -2,6 +2,7 @@
 use Rattle.std.specs.Prelude.{◌≡◌, ℕ, List, length, Bool, true, false, ◌&&◌, nat_lt, Result, Ok, Err}
 use Rattle.serde_json.specs.Data.{Data}
 use Rattle.bench_types.specs.Limits.{max_input, max_steps}
+use Rattle.bench_types.specs.declared.edit.Edit.{Edit}
 use Rattle.session_text.specs.declared.bench.Bench.{Bench}
 use Rattle.session_text.specs.declared.fault.TextFault.{TextFault}
 use Rattle.session_text.specs.declared.fault.Why.{Why}
@@ -30,7 +31,7 @@ IsRefusedOr true refused claim printed = printed ≡ refused
 IsRefusedOr false refused claim printed = claim
 
 -- J2 comes after all other refusals of the document; what is told begins with lines
-abbrev pub IsPrintedOfBench : List ℕ → Job → Bench → Printed → Type 0
+abbrev pub IsPrintedOfBench : List ℕ → Job → Bench Edit → Printed → Type 0
 IsPrintedOfBench lines job bench printed =
     IsRefusedOr (nat_lt max_steps (length bench.steps)) (warned lines too_many_steps)
     (IsNoted lines job
@@ -39,7 +40,7 @@ IsPrintedOfBench lines job bench printed =
     printed
 
 -- the first line says that a member stands twice, where one does
-abbrev pub IsPrintedOfText : Job → List ℕ → Result Bench TextFault → Printed → Type 0
+abbrev pub IsPrintedOfText : Job → List ℕ → Result (Bench Edit) TextFault → Printed → Type 0
 IsPrintedOfText job input (Ok bench) printed = IsPrintedOfBench (twice_note input) job bench printed
 IsPrintedOfText job input (Err fault) printed = IsPrintedFault refused_lines input fault printed
 

@@ -33,6 +33,16 @@ settled_too_long_line =
 abbrev pub settled_too_long : Printed
 settled_too_long = refused_for (codes "J2") settled_too_long_line
 
+-- that the run that keeps work, or the settled run before the edits, has
+abbrev pub kept_too_long_line : List ℕ
+kept_too_long_line =
+    codes "the run that keeps work, or the settled run before the edits, has more than "
+    ++ decimal max_steps ++ codes " steps\n"
+
+-- J2: the same, with the refusal line
+abbrev pub kept_too_long : Printed
+kept_too_long = refused_for (codes "J2") kept_too_long_line
+
 -- J2: the run of a workload has more steps than a session may have, and this task alone made the
 -- last calls
 abbrev pub simulated_too_long : Header → Option ℕ → Printed

@@ -1,6 +1,7 @@
 -- Runs that are too long to be shown.
 use Rattle.std.specs.Prelude.{◌≡◌, ◌⊎◌, ℕ, List, [], ◌∷◌, Option, ⊤}
 use Rattle.program_io.specs.Outputs.{Printed}
+use Rattle.kept_sessions.specs.Runs.{IsKeptTooLong}
 use Rattle.run_sources.specs.declared.source.Source.{Source}
 use Rattle.run_sources.specs.declared.source.Source.TheVariants as source
 use Rattle.run_sources.specs.Sources.{IsSourceTooLong}
@@ -9,7 +10,7 @@ use Rattle.simulating.specs.Callers.{IsTooLongBy}
 use Rattle.task_programs.specs.declared.workload.Workload.{Workload}
 use Rattle.view_commands.specs.declared.fault.ShowFault.{ShowFault}
 use Rattle.view_commands.specs.declared.fault.ShowFault.TheVariants.{TooLong, NoMemory}
-use Rattle.view_commands.specs.Refusals.{settled_too_long, simulated_too_long}
+use Rattle.view_commands.specs.Refusals.{kept_too_long, settled_too_long, simulated_too_long}
 
 -- the run of the workload is too long, and it is told which task alone makes its last calls
 pub record IsToldOfWorkload (workload : Workload) (refusal : Printed) : Type 0 where
@@ -24,6 +25,8 @@ IsToldTooLong (source.Session session) refusal = ⊥
 IsToldTooLong (source.Settled session) refusal =
     IsSettledTooLong session × (refusal ≡ settled_too_long)
 IsToldTooLong (source.Workload workload) refusal = IsToldOfWorkload workload refusal
+IsToldTooLong (source.Kept made order) refusal =
+    IsKeptTooLong order made × (refusal ≡ kept_too_long)
 
 -- the same of the first of the sources whose run is too long
 abbrev pub IsFirstTooLong : List Source → Printed → Type 0

@@ -1,11 +1,11 @@
-use Rattle.std.proofs.Common.{◌≡◌, ◌++◌, ◌∙◌, [], List, ap, ap₂, cond, sym, subst}
+use Rattle.std.proofs.Common.{◌++◌, ◌∙◌, [], List, ap, ap₂, cond, sym, subst}
 use Rattle.std.specs.Prelude.{All}
 use Rattle.bench_types.specs.declared.header.Header.{Header}
 use Rattle.bench_types.specs.declared.step.Step.{Step}
 use Rattle.run_sources.proofs.CheckedSources.{header_checked}
 use Rattle.ranked_changes.specs.declared.change.Change.{Change}
 use Rattle.ranked_changes.specs.Changed.{IsChangeOf}
-use Rattle.ranked_changes.specs.Changes.{changes_of, mask_changes, order_changes, priority_changes}
+use Rattle.ranked_changes.specs.Changes.{mask_changes, order_changes, priority_changes}
 use Rattle.ranked_changes.proofs.Allowed.{allowed}
 use Rattle.ranked_changes.proofs.changes.changes_of.Goals as goal
 

@@ -1,15 +1,12 @@
-use Rattle.std.proofs.Common.{◌+◌, ◌∙◌, Bool, cond, List, ap, ap₂, length, subst, sym, arith}
+use Rattle.std.proofs.Common.{◌∙◌, List, ap, ap₂, length, subst, sym}
 use Rattle.bench_types.specs.declared.header.Header.{Header}
-use Rattle.bench_types.specs.Limits.{max_steps}
 use Rattle.bench_types.specs.Session.{Session}
 use Rattle.bench_types.specs.Step.{settings_of}
 use Rattle.settled_runs.specs.declared.waiting_call.WaitingCall.{WaitingCall}
-use Rattle.smp_kernel.proofs.Counts.{counted_twice}
-use Rattle.smp_kernel.specs.Counting.{meter_after}
+use Rattle.smp_kernel.specs.Counting.{meter_after, CountsUpTo}
 use Rattle.run_numbers.specs.Readings.{IsSubjectOf}
-use Rattle.run_sources.specs.Sources.{count_of}
 use Rattle.ranked_changes.specs.Verdicts.{number_in}
-use Rattle.ranked_changes.proofs.Counted.{count_few, counted_again, on_err}
+use Rattle.ranked_changes.proofs.Counted.{judged_few, judged_so, on_err}
 use Rattle.ranked_changes.proofs.judge.made_verdict.Goals as goal
 
 pub number_in-requires-clause-known : goal.number_in-requires-clause-known
@@ -30,24 +27,18 @@ returns-clause-verdict c =
 
 pub returns-clause-meter : goal.returns-clause-meter
 returns-clause-meter c =
-    let run = c.in-Ok.run' in
-    let steps = run.session.steps in
-    let source = c.args.source.now in (
+    let run = c.in-Ok.run' in (
       run,
       c.in-Ok.ensures.run,
-      c.in_ok-number.ensures.meter
-          ∙ ap (λ (session : Session). meter_after (length session.steps) c.make_run.new.meter) c.session.ensures
-          ∙ ap (meter_after (length steps)) c.in-Ok.ensures.counted
-          ∙ counted_twice (count_of source steps) (length steps) c.args.meter.now
-          ∙ ap (λ (made : Bool). meter_after (cond made (count_of source steps) 0 + length steps) c.args.meter.now) (sym c.requires.made),
+      judged_so c.args.source.now run c.args.meter.now c.make_run.new.meter c.number_in.new.meter c.requires.made c.in-Ok.ensures.counted
+          (c.in_ok-number.ensures.meter ∙ ap (λ (session : Session). meter_after (length session.steps) c.make_run.new.meter) c.session.ensures),
     )
 
 pub returns-in_err-number-clause-some : goal.returns-in_err-number-clause-some
 returns-in_err-number-clause-some c =
     let run = c.in-Ok.run' in
-    let room = c.in-Ok.ensures.room in
-    let source = c.args.source.now in
     on_err c.from_residual.result
-    (counted_again (max_steps + max_steps) max_steps (count_of source run.session.steps) (length c.session.result.now.steps) c.args.meter.now
-    c.make_run.new.meter c.number_in.new.meter (count_few source run.session.steps room)
-    (omega (arith, ap (λ (session : Session). length session.steps) c.session.ensures, room)) c.in-Ok.ensures.counted c.in_err-number.ensures.some)
+    (judged_few c.args.source.now run c.args.meter.now c.make_run.new.meter c.number_in.new.meter c.requires.made c.in-Ok.ensures.room
+    c.in-Ok.ensures.counted
+    (subst (λ (session : Session). CountsUpTo (length session.steps) c.make_run.new.meter c.number_in.new.meter) c.session.ensures
+    c.in_err-number.ensures.some))

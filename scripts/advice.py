@@ -1,15 +1,20 @@
 #!/usr/bin/env python3
 """Hold a run to limits, and try changes of it: a second opinion, which shares no code with the bench.
 
-The numbers are those of report.py, and settled runs those of settle.py. Each change is made in a
-copy of the session, whose whole run is measured.
+    advice.py check most|least NAME=N.. [WORDS]
+    advice.py advise TASK NUMBER FAMILIES COUNT [WORDS]
+
+The numbers are those of report.py, and so are WORDS, which say how runs are made. Each change is
+made in a copy of the session, whose whole run is measured. Where runs keep work it is one edit
+more, behind those of the document; calls are not exchanged then, since they come when their tasks
+have worked for them.
 
 Standard input is a session, or an object of a `session` and its `edits`. It is taken to be well
-formed. With the words `advise TASK NUMBER FAMILIES COUNT` and maybe `--settle` it prints what
-`smp_view advise` does, and with `check` and limits, as `most NAME=N`, what `smp_view check` does.
+formed. Standard output is what `smp_view check` or `smp_view advise` prints.
 """
 
 import copy
+import itertools
 import json
 import sys
 
@@ -38,11 +43,12 @@ def priorities(session):
                 yield (0, abs(priority - own)), words, ("priority", number, priority)
 
 
-def masks(session):
-    """Each task with each other mask that is tried."""
+def masks(session, families):
+    """Each task with each other mask that is tried, or pinned to each core alone."""
     cores = session["cores"]
-    every = (1 << cores) - 1
-    tried = range(1, every + 1) if cores <= 4 else [*(1 << core for core in range(cores)), every]
+    every, alone = (1 << cores) - 1, [1 << core for core in range(cores)]
+    each = range(1, every + 1) if cores <= 4 else [*alone, every]
+    tried = each if "mask" in families else alone
     for number, task in enumerate(session["tasks"]):
         own = task["mask"]
         for mask in tried:
@@ -63,10 +69,21 @@ def orders(session):
         yield (2, 0), f"calls at places {at} and {later} exchanged", ("order", at, later)
 
 
-def changed(session, made):
-    """The session with the change made."""
-    session = copy.deepcopy(session)
+def as_edit(session, made):
+    """The change of a task as an edit."""
+    kind, number, other = made
+    task = session["tasks"][number]
+    told = {name: task[name] for name in ("priority", "mask")} | {kind: other}
+    return {"edit": "change", "task": task["name"]} | told
+
+
+def changed(document, session, words, made):
+    """The document, whose edits leave this session, with the change made."""
     kind, one, other = made
+    if "--keep-work" in words:
+        before, edits = document.get("session", document), document.get("edits", [])
+        return {"session": before, "edits": [*edits, as_edit(session, made)]}
+    session = copy.deepcopy(session)
     if kind == "order":
         steps = session["steps"]
         steps[one], steps[other] = steps[other], steps[one]
@@ -143,10 +160,17 @@ def unknown(session, name):
     return 2, "", f"no number is called {name}; these are:\n{lines}"
 
 
-def check(document, settled, limits):
+def edited(document):
+    """The session that the edits of a document leave."""
+    document = copy.deepcopy(document)
+    if "edits" in document:
+        document["edits"] = [edit for edit in document["edits"] if edit["edit"] != "work"]
+    return settle.edited_session(document)
+
+
+def check(document, words, limits):
     """Whether the run after the edits keeps the limits: status, output and error."""
-    session = settle.edited_session(document)
-    found = report.measure(session, settled)
+    session, found = edited(document), report.measure(document, words)
     values, places, lines = found["values"], found["places"], []
     for _, name, _ in limits:
         if name not in values:
@@ -170,22 +194,30 @@ def costs(session, judged, before, after):
                 yield f"   {name} {difference(before[name], after[name])}\n"
 
 
-def advise(document, settled, task, number, families, count):
+def changes(session, words, families):
+    """All changes of these families."""
+    if "priority" in families:
+        yield from priorities(session)
+    if "mask" in families or "pin" in families:
+        yield from masks(session, families)
+    if "order" in families and "--keep-work" not in words:
+        yield from orders(session)
+
+
+def advise(document, words, task, number, families, count):
     """The best changes: status, output and error."""
-    session, name = settle.edited_session(document), f"{report.told(task)}.{number}"
-    before = report.measure(session, settled)["values"]
+    session, name = edited(document), f"{report.told(task)}.{number}"
+    before = report.measure(document, words)["values"]
     if name not in before:
         return unknown(session, name)
-    tried = []
-    for word, family in (("priority", priorities), ("mask", masks), ("order", orders)):
-        tried += list(family(session)) if word in families else []
+    tried = list(changes(session, words, families))
     judged = []
-    for index, (size, words, made) in enumerate(tried):
-        after = report.measure(changed(session, made), settled)["values"]
-        judged.append(((after[name], size, index), words, after))
+    for index, (size, what, made) in enumerate(tried):
+        after = report.measure(changed(document, session, words, made), words)["values"]
+        judged.append(((after[name], size, index), what, after))
     lines = [f"{name} is {before[name]}{unit(session, name)}; {len(tried)} changes tried\n"]
-    for rank, (key, words, after) in enumerate(sorted(judged, key=lambda one: one[0])[:count], 1):
-        lines.append(f"{rank}. {words}: {difference(before[name], key[0])}\n")
+    for rank, (key, what, after) in enumerate(sorted(judged, key=lambda one: one[0])[:count], 1):
+        lines.append(f"{rank}. {what}: {difference(before[name], key[0])}\n")
         lines += costs(session, name, before, after)
     return 0, "".join(lines), ""
 
@@ -193,14 +225,14 @@ def advise(document, settled, task, number, families, count):
 def main():
     """Answer for the document on standard input."""
     document, words = json.loads(sys.stdin.buffer.read()), sys.argv[1:]
-    settled = "--settle" in words
-    words = [word for word in words if word != "--settle"]
-    if words[0] == "advise":
-        task, number, families, count = words[1:5]
-        told = advise(document, settled, task, number, families.split(","), int(count))
+    asked = list(itertools.takewhile(lambda word: not word.startswith("--"), words))
+    words = words[len(asked) :]
+    if asked[0] == "advise":
+        task, number, families, count = asked[1:]
+        told = advise(document, words, task, number, families.split(","), int(count))
     else:
-        limits = [(kind, *limit.rsplit("=", 1)) for kind, limit in zip(words[1::2], words[2::2])]
-        told = check(document, settled, [(kind, name, int(n)) for kind, name, n in limits])
+        limits = [(kind, *limit.rsplit("=", 1)) for kind, limit in zip(asked[1::2], asked[2::2])]
+        told = check(document, words, [(kind, name, int(n)) for kind, name, n in limits])
     sys.stdout.write(told[1])
     sys.stderr.write(told[2])
     sys.exit(told[0])

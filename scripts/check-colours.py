@@ -37,7 +37,7 @@ APART = [
 ON = [
     ("words on the ground", ["text", "s"], ["b"], 4.5),
     ("words on bars", ["l"], BARS + ["t", "v", "q"], 4.5),
-    ("lines on the ground", ["w", "u", "e", "m"], ["b"], 3),
+    ("lines on the ground", ["w", "u", "e", "m", "y"], ["b"], 3),
     ("bars of queues on the ground", ["q"], ["b"], 3),
     ("marks on the ground", ["x", "n"], ["b"], 3),
     ("lines on bars", ["d", "h"], BARS, 2),
@@ -56,10 +56,10 @@ def rules_in(text):
 
 
 def schemes():
-    style, of_queues = (text.replace("\\\n", "") for text in re.findall(r"<style>(.*?)</style>", STYLE.read_text(), re.S))
-    light, dark = style.split("@media(prefers-color-scheme:dark){")
+    styles = (text.replace("\\\n", "") for text in re.findall(r"<style>(.*?)</style>", STYLE.read_text(), re.S))
+    light, dark = map("".join, zip(*(style.partition("@media(prefers-color-scheme:dark){")[::2] for style in styles)))
     # The bars have a stroke in common, which is no colour of theirs.
-    base = rules_in(re.sub(r"\.i,\.c0[^}]*\}", "", light) + of_queues)
+    base = rules_in(re.sub(r"\.i,\.c0[^}]*\}", "", light))
     return {"light": base, "dark": {**base, **rules_in(dark)}}
 
 

@@ -1,9 +1,11 @@
 #!/usr/bin/env python3
 """Hold runs that keep work, as scripts/kept.py makes them, to their properties and to true ones.
 
-400 random documents, or as many as the first argument says, are those of check-settled.py, and each
-second one has the run of a random workload with such edits; in each there are edits of work too.
-With either order of calls at one time
+    check-kept.py [--shares] [COUNT [FIRST]]
+
+COUNT random documents, or 400, are those of check-settled.py; but each second one has the run of a
+workload, a random one or an example, with edits. In each there are edits of work too. With either
+order of calls at one time
 
 - steps from outside are all there, in their order, each as long after the start as it was
 - the calls of each task are its calls in order, and then those that are not made
@@ -18,8 +20,9 @@ change. Of the changes of which it can tell, as no task comes to another call th
 document, it is printed how many runs are right: the run as it stands, the settled one, and those
 that keep work, with either order; and of all changes how many are right as far as they are known.
 
-A line where a property fails, then totals; status 1 where one does. The second argument is the
-first number of the random documents.
+A line where a property fails, then totals; status 1 where one does. FIRST is the number of the first
+document. With `--shares` COUNT changes of the examples alone, or 300, are shared out among them, no
+property is held, and a table tells how many runs are right: it is that of docs/WHATIF.md.
 """
 
 import copy
@@ -39,6 +42,16 @@ random_workloads = importlib.import_module("check-workloads")
 
 TIES = ("oldest", "core")
 MOST_STEPS, MOST_TICKS, TRIES = 6000, 40, 20
+# The runs that are held against true ones, and what they are called in the table of shares.
+RUNS = {
+    "unedited": "no edits",
+    "as written": "as it stands",
+    "settled": "`--settle`",
+    "oldest": "`--keep-work`",
+    "core": "`--ties core`",
+    "oldest as far as known": "`--keep-work`, known part",
+    "core as far as known": "`--ties core`, known part",
+}
 KEPT_CALLS = ("delay", "delay_until", "hold_open", "hold_close")
 
 
@@ -281,7 +294,8 @@ class Count:
 
     def __init__(self):
         self.wrong, self.shares = Counter(), defaultdict(Counter)
-        self.limits = Counter()
+        self.limits, self.documents = Counter(), Counter()
+        self.of_kinds, self.known = defaultdict(Counter), Counter()
 
     def fail(self, what, why):
         """Tell that a property fails."""
@@ -320,36 +334,50 @@ class Count:
         session = settle.edited_session(copy.deepcopy({**document, "edits": edited}))
         calls, told = calls_in(truth.session["steps"]), calls_in(session["steps"])
         settled, _left = settle.settle(copy.deepcopy(session))
-        runs = {"unedited": ran.session["steps"], "settled": settled}
+        runs = {"unedited": ran.session["steps"], "as written": session["steps"], "settled": settled}
         kept_runs = {ties: kept.kept(copy.deepcopy(document), ties) for ties in TIES}
         runs |= {ties: run.steps for ties, run in kept_runs.items()}
-        share["all"] += 1
-        if all(told[task][: len(made)] == made for task, made in calls.items()):
-            for counter in (share, of_kind):
-                counter["told"] += 1
-                counter.update(n for n, run in runs.items() if times_in(run, units)[0] == true)
+        right = {name for name, run in runs.items() if times_in(run, units)[0] == true}
         for ties, run in kept_runs.items():
             place = run.known["place"] if run.known else len(run.steps)
             part = times_in(run.steps[:place], units)[0]
-            share[f"{ties} as far as known"] += true[: len(part)] == part
+            self.known.update({ties: place, f"{ties}, all": len(run.steps)})
+            if true[: len(part)] == part:
+                share[f"{ties} as far as known"] += 1
+                right.add(f"{ties} as far as known")
+        share["all"] += 1
+        self.of_kinds[kind].update(["all", *right])
+        if all(told[task][: len(made)] == made for task, made in calls.items()):
+            for counter in (share, of_kind):
+                counter.update(["told", *filter(runs.__contains__, right)])
 
 
 # All.
 
 
 def document_of(number):
-    """A random document; each second one has the run of a random workload."""
+    """A document, and of what kind it is: "random", or "simulated" if it has the run of a workload.
+
+    Each second one has, but for those whose runs are too long.
+    """
     rng = random.Random(number)
     document = documents.document(rng)
     document["edits"] = with_works(rng, document["session"], document["edits"])
-    if number % 2 == 0:
-        return document
-    workload = shorter(random_workloads.workload_of(rng))
+    simulated = simulated_document(rng) if number % 2 else None
+    return ("simulated", simulated) if simulated else ("random", document)
+
+
+def simulated_document(rng):
+    """The run of a workload, which is an example or a random one, with edits; none if too long."""
+    examples = list(examples_of())
+    workload = rng.choice(examples) if rng.random() < 0.2 else random_workloads.workload_of(rng)
+    # Calls of mutexes are among the edits.
+    workload["mutexes"] = max(workload["mutexes"], 1)
     try:
-        session = {"notes": 1} | Simulated(workload).session
+        session = {"notes": 1} | Simulated(shorter(workload)).session
     except OverflowError:
-        return document
-    edits = [documents.edit(rng, session) for _ in range(rng.randint(0, 6))]
+        return None
+    edits = [documents.edit(rng, session) for _ in range(rng.randint(1, 6))]
     return {"session": session, "edits": with_works(rng, session, edits)}
 
 
@@ -368,33 +396,79 @@ def shorter(workload):
     return workload | {"ticks": min(workload["ticks"], MOST_TICKS)}
 
 
+def examples_of():
+    """The workloads of the examples."""
+    for path in sorted(random_workloads.EXAMPLES.glob("*.json")):
+        yield shorter(workloads.edited(json.loads(path.read_bytes())))
+
+
 def workloads_of(count, first):
     """The examples and some random workloads, each under its label."""
-    for path in sorted(random_workloads.EXAMPLES.glob("*.json")):
-        yield "examples", shorter(workloads.edited(json.loads(path.read_bytes())))
+    yield from (("examples", workload) for workload in examples_of())
     for number in range(first, first + count):
         yield "random", shorter(random_workloads.workload_of(random.Random(number)))
 
 
-def main():
-    """Hold runs to their properties, and compare runs with true ones."""
-    many = int(sys.argv[1]) if len(sys.argv) > 1 else 400
-    first = int(sys.argv[2]) if len(sys.argv) > 2 else 0
+def compare_changes(count, rng, label, workload, many):
+    """Compare the runs of so many changes of a workload."""
+    try:
+        ran = Simulated(workload)
+    except OverflowError:
+        return
+    for kind, truth, edits in changes_of(rng, ran, many):
+        count.compare(label, kind, ran, truth, edits)
+
+
+def hold_all(many, first):
+    """Hold the runs of documents, and compare runs with true ones; give what was right."""
     count, rng = Count(), random.Random(first)
     for number in range(first, first + many):
-        count.hold(f"document {number}", document_of(number))
-    print(f"{many} documents, {sum(count.wrong.values())} properties fail")
+        kind, document = document_of(number)
+        count.documents[kind] += 1
+        count.hold(f"document {number}", document)
+    kinds = ", ".join(f"{number} {kind}" for kind, number in sorted(count.documents.items()))
+    print(f"{many} documents, {kinds}: {sum(count.wrong.values())} properties fail")
     print("known:", ", ".join(f"{why} {number}" for why, number in sorted(count.limits.items())))
     for label, workload in workloads_of(many // 4, first):
-        try:
-            ran = Simulated(workload)
-        except OverflowError:
-            continue
-        for kind, truth, edits in changes_of(rng, ran, 20 if label == "examples" else 3):
-            count.compare(label, kind, ran, truth, edits)
+        compare_changes(count, rng, label, workload, 20 if label == "examples" else 3)
     for label, share in sorted(count.shares.items()):
-        print(f"{label}:", ", ".join(f"{name} {number}" for name, number in share.items()))
-    sys.exit(sum(count.wrong.values()) > 0)
+        names = filter(share.__contains__, ("all", "told", *RUNS))
+        print(f"{label}:", ", ".join(f"{name} {share[name]}" for name in names))
+    return count
+
+
+def tell_shares(many, first):
+    """Tell of so many changes of the examples how many runs are right, as a table."""
+    count, rng, examples = Count(), random.Random(first), list(examples_of())
+    for index, workload in enumerate(examples):
+        part = many * (index + 1) // len(examples) - many * index // len(examples)
+        compare_changes(count, rng, "examples", workload, part)
+    of_all = sum(count.of_kinds.values(), Counter())
+    rows = {change.__doc__.rstrip("."): count.of_kinds[change.__name__] for change in CHANGES}
+    print("| change | what-ifs |", " | ".join(RUNS.values()), "|")
+    print("|---" * (2 + len(RUNS)) + "|")
+    for words_of, right in [*rows.items(), ("all", of_all)]:
+        print(f"| {words_of} | {right['all']} |", " | ".join(str(right[run]) for run in RUNS), "|")
+    known_of = (100 * count.known[ties] / count.known[f"{ties}, all"] for ties in TIES)
+    print("known:", ", ".join(f"{part:.0f} of 100 steps ({ties})" for part, ties in zip(known_of, TIES)))
+
+
+def words():
+    """The flags of the command line, and its numbers."""
+    flags = {word for word in sys.argv[1:] if word.startswith("--")}
+    return flags, [int(word) for word in sys.argv[1:] if word not in flags]
+
+
+def main():
+    """Hold runs to their properties, and compare runs with true ones."""
+    flags, numbers = words()
+    many, first = [*numbers, *(300 if flags else 400, 0)[len(numbers) :]]
+    if flags == {"--shares"}:
+        tell_shares(many, first)
+    elif flags:
+        sys.exit(__doc__)
+    else:
+        sys.exit(sum(hold_all(many, first).wrong.values()) > 0)
 
 
 if __name__ == "__main__":

@@ -2,7 +2,7 @@
 # Looks whether what the documents name is there: README.md, CONTRIBUTING.md, CHANGELOG.md, docs/*.md, scripts/README.md and each
 # README.md below examples/. Of the repository each path has to exist that stands in a link, between backticks or in a block of code;
 # and each name of at least four letters that stands between backticks, as `Kernel::step` or `laws_of_steps`, has to be a word of
-# crates/, crates.txt, scripts/, examples/ or docs/schema/, documents apart, or the name of a file there. So has each clause that
+# crates/, crates.txt, hooks/, scripts/, examples/ or docs/schema/, documents apart, or the name of a file there. So has each clause that
 # docs/PROVED.md names beside a function, by check-clauses.sh. It is called without words, from any folder. It prints each that is not
 # there, with its document, and then `N names, M missing`. Status 1 where one is missing, 2 of a bad call.
 set -u
@@ -24,11 +24,11 @@ others=(
     ulTaskGenericNotifyValueClear vListInsert vTaskResume vTaskSuspend vTaskSuspendAll xMutexHolder xQueueGenericSendFromISR
     xQueueGiveFromISR xQueueOverwrite xQueuePeek xQueueReset xQueueSemaphoreTake xQueueSendToBack xQueueSendToFront
     xSemaphoreCreateBinary xSemaphoreGiveFromISR xSemaphoreTakeFromISR xShouldDelay xSuspendedTaskList xTaskAbortDelay
-    xTaskCheckForTimeOut
+    listGET_OWNER_OF_NEXT_ENTRY vListInsertEnd xQueueGenericReceive xTaskCheckForTimeOut
     xTaskGenericNotifyFromISR xTaskGenericNotifyStateClear xTaskNotifyIndexedFromISR xTaskResumeAll xTickCount xTicksToWait
     portGET_CORE_ID
-    # zsh; `rt plant`; a tool; a word for the title of an issue
-    fpath proves valgrind security
+    # zsh; `rt plant`; a tool; a source package of Debian; a word for the title of an issue
+    fpath proves valgrind micropython security
 )
 
 documents=()
@@ -41,10 +41,10 @@ folder="$(mktemp -d)"
 trap 'rm -rf -- "$folder"' EXIT
 
 # Every word of the repository but those of documents, of what is built and of this script.
-find crates crates.txt scripts examples docs/schema -name out -prune -o -type f ! -name '*.md' ! -path scripts/check-links.sh -print0 |
+find crates crates.txt hooks scripts examples docs/schema -name out -prune -o -type f ! -name '*.md' ! -path scripts/check-links.sh -print0 |
     xargs -0 grep -hoaE '[A-Za-z0-9_]+' | sort -u >"$folder/words"
 # A folder and a file, without what stands behind its point, have names too.
-find crates scripts examples docs/schema -name out -prune -o -print | sed 's|.*/||; s/\..*//' | sort -u >"$folder/stems"
+find crates hooks scripts examples docs/schema -name out -prune -o -print | sed 's|.*/||; s/\..*//' | sort -u >"$folder/stems"
 printf '%s\n' "${others[@]}" | sort -u >"$folder/others"
 find . -name .git -prune -o -name out -prune -o -type f -print | sed 's|.*/||' | sort -u >"$folder/files"
 ls crates >"$folder/crates"
@@ -53,7 +53,7 @@ ls crates >"$folder/crates"
 awk -v crates="$folder/crates" '
     function put(kind, word) { if (word != "") printf "%s\t%s\t%s\n", kind, document, word }
     function is_path(word, first) {
-        if (word ~ /^[\/~$]/ || word ~ /[*{}$<>|]|\.\.|NAME|PREFIX|(^|\/)out(\/|$)/ || word ~ /:\/\// || word ~ /^\.[a-z]+$/) return 0
+        if (word ~ /^[\/~$]/ || word ~ /[][*{}$<>|]|\.\.|NAME|PREFIX|(^|\/)out(\/|$)/ || word ~ /:\/\// || word ~ /^\.[a-z]+$/) return 0
         if (word ~ /\.(md|sh|py|rt|antt|edit|svg)$/) return 1
         first = word
         sub(/\/.*/, "", first)
@@ -86,12 +86,12 @@ awk -v crates="$folder/crates" '
     function in_code(line, count, parts, i) {
         count = split(line, parts, /[][ "(),;<>|=\047]+/)
         for (i = 1; i <= count; i++)
-            if (parts[i] ~ /^(crates|docs|examples|scripts|\.ci)\// && is_path(parts[i])) put("P", parts[i])
+            if (parts[i] ~ /^(crates|docs|examples|hooks|scripts|\.ci)\// && is_path(parts[i])) put("P", parts[i])
     }
     function flush() { in_text(text); text = "" }
     BEGIN {
         while ((getline crate <crates) > 0) tops[crate] = 1
-        split("crates docs examples scripts .ci specs src proofs edits must-fail pictures schema", some, " ")
+        split("crates docs examples hooks scripts .ci specs src proofs edits must-fail pictures schema", some, " ")
         for (i in some) tops[some[i]] = 1
     }
     FNR == 1 { flush(); fenced = 0; document = FILENAME }

@@ -449,7 +449,7 @@ def loads(text, name):
 
 def loads_in(session):
     """The percents of a core that tasks have in a run."""
-    values = report.report(session, False)["values"]
+    values = report.report(session, [])["values"]
     run = {task["name"]: values[f"{task['name']}.run"] for task in session["tasks"]}
     return {name: round(100 * time / values["run.time"], 1) for name, time in run.items()}
 

@@ -41,9 +41,10 @@ stands there then: one that replaces it has none of them.
 
 Standard input is as for settle.py, and so is the output. With `--known` the first place from which
 nothing is known is written last, as the member `known`, with the task and with why: `end`, the
-first where a step from outside is next though the end of the task is timely, or `answer`, behind a
-step that ends a call of the task with another answer than the same call had before the edits. A
-call that replaces one of the same task is the same; one that is inserted has none before.
+first where a step from outside is next though the end of the task is timely; `got true` or `got
+false`, behind a step that ends a call of the task with this answer, where the same call had the
+other one before the edits. A call that replaces one of the same task is the same; one that is
+inserted has none before.
 """
 
 import copy
@@ -354,9 +355,10 @@ class Run:
         known = dict(self.answers.of)
         self.answers.note(table, step, place)
         for call in self.answers.of.keys() - known.keys():
-            before = self.items[call].answer_before()
-            if before not in (None, self.answers.of[call]):
-                self.limit(len(self.steps) + 1, self.items[call].step["by"], "answer")
+            before, now = self.items[call].answer_before(), self.answers.of[call]
+            if before not in (None, now):
+                why = "got true" if now else "got false"
+                self.limit(len(self.steps) + 1, self.items[call].step["by"], why)
 
     def limit(self, place, task, why):
         """From a place on it is not known what a task does."""

@@ -1,7 +1,8 @@
 """Up to where a run that keeps work is known: a search over the run and that before the edits.
 
 It is known up to the first place where a step from outside comes though a task is at its end, or
-behind the answer of a call that is another one than that of the same call before the edits.
+behind the answer of a call that is another one than that of the same call before the edits: true
+and not false, or false and not true.
 """
 
 import copy
@@ -65,7 +66,7 @@ def origins_of(document):
 
 
 def answer_limits(document, run):
-    """Behind each answer that is another one than before the edits: the place and the task."""
+    """Behind each answer that is another one than before the edits: the place, why and the task."""
     session, origins = document["session"], origins_of(document)
     before = answers_of(session, settle.settle(copy.deepcopy(session))[0])
     now = answers_of(run.session, run.steps)
@@ -73,8 +74,9 @@ def answer_limits(document, run):
     for place, call in numbered_calls(run.session["steps"]):
         same = calls.get(origins[place])
         if same is not None and same[0] == call[0] and same in before and call in now:
-            if before[same][1] != now[call][1]:
-                yield now[call][0] + 1, call[0]
+            (_, was), (later, answer) = before[same], now[call]
+            if was != answer:
+                yield later + 1, "got true" if answer else "got false", call[0]
 
 
 # Ends.
@@ -119,10 +121,13 @@ def end_limits(document, run):
 
 
 def limit(document, run):
-    """The first place from which nothing is known, with the task and with why; or none."""
-    limits = [(place, "answer", task) for place, task in answer_limits(document, run)]
+    """The first place from which nothing is known, with the task and with why; or none.
+
+    Of two at one place the answer counts.
+    """
+    limits = list(answer_limits(document, run))
     limits += [(place, "end", task) for place, task in end_limits(document, run)]
     if not limits:
         return None
-    place, why, task = min(limits)
+    place, why, task = min(limits, key=lambda limit: (limit[0], limit[1] == "end", limit[2]))
     return {"place": place, "task": task, "why": why}

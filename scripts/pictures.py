@@ -30,7 +30,7 @@ SCHEMES = {"dark": 0, "light": 1}
 SVG = "{http://www.w3.org/2000/svg}"
 LEGEND = {
     "running", "ready", "blocked", "suspended", "idle task", "core due to switch", "core holds the kernel", "priority inherited",
-    "preemption off", "mutex held", "messages in a queue", "interrupt", "refused",
+    "preemption off", "mutex held", "messages in a queue", "interrupt", "refused", "not known",
 }
 
 INTERRUPT = r"step \d+: isr_(notify|send|receive|resume) "
@@ -56,11 +56,12 @@ def view(words, text):
 
 
 class Run:
-    """What a trace tells of each place, as lists by place."""
+    """What a trace tells of each place, as lists by place. From the place that is known on, if there is one, the run is not known."""
 
-    def __init__(self, trace, tasks, queues):
+    def __init__(self, trace, tasks, queues, known=None):
         self.ticks, self.cores, self.holds, self.steps = [], [], [], []
         self.tasks = tasks
+        self.known = known
         self.blocked, self.priorities, self.masks, self.unpreempted, self.holders = [], [], [], [], []
         self.suspended = []
         blocked, suspended = {}, set()
@@ -115,6 +116,9 @@ class Run:
                 elif words[0] == "queue" and words[2:3] == ["messages"]:
                     assert messages[int(words[1])] == int(words[3])
                     messages[int(words[1])] = int(words[5])
+
+    def is_pale(self):
+        return self.known is not None and self.known < len(self.ticks)
 
     def current(self, place, core):
         return self.cores[place][core].split(", due by ")[0]
@@ -245,6 +249,8 @@ def legend_of(run):
             used.add("interrupt")
     if run.changed_queues():
         used.add("messages in a queue")
+    if run.is_pale():
+        used.add("not known")
     return used
 
 
@@ -331,6 +337,7 @@ def check_panel(what, elements, run):
     wanted_names = [f"queue {queue}" for queue in run.changed_queues()]
     hold(f"{what}: rows of queues", names == wanted_names, f"{names} and not {wanted_names}")
     check_rows(what, elements)
+    check_pale(what, elements, run, begins)
     rules = [int(re.match(r"M(\d+) ", e.get("d"))[1]) for e in elements if e.get("class") == "g"]
     ticks = [begins[first] for first, _, _ in want[("tick",)]]
     ruled = "--axis tick" in what or "--axis time" in what
@@ -376,12 +383,30 @@ def check_rows(what, elements):
     hold(f"{what}: rows", all(a[1] <= b[0] for a, b in zip(spans, spans[1:])), str(spans))
 
 
+def check_pale(what, elements, run, begins):
+    """From where the run is not known one pale part covers the bars of all rows, and a dashed line stands at its left."""
+    pale = [box(e) for e in elements if e.get("class") == "b f"]
+    edges = [e.get("d") for e in elements if e.get("class") == "y"]
+    bars = [box(e) for e in elements if e.tag == SVG + "rect" and title(e)]
+    if run.is_pale():
+        left, right = begins[run.known], begins[len(run.ticks)]
+        top, bottom = min(b[1] for b in bars), max(b[3] for b in bars)
+        hold(f"{what}: pale part", [(x, end) for x, _, end, _ in pale] == [(left, right)], f"{pale} and not {left} to {right}")
+        hold(f"{what}: pale rows", all(y <= top and bottom <= foot for _, y, _, foot in pale), f"{pale} and not {top} to {bottom}")
+        hold(f"{what}: where it begins", edges == [f"M{x} {y}v{foot - y}" for x, y, _, foot in pale], str(edges))
+    else:
+        hold(f"{what}: pale part", not pale and not edges, f"{pale} {edges}")
+
+
 def check_picture(what, svg, runs):
     root = xml.etree.ElementTree.fromstring(svg)
     width, height = (int(n) for n in root.get("viewBox").split()[2:])
     hold(f"{what}: scales with its page", root.get("width") == "100%" and f"min-width:{width * 3 // 4}px" in root.get("style"))
     elements = [e for e in root.iter() if e.tag in (SVG + "rect", SVG + "text", SVG + "path")]
-    groups = root.findall(SVG + "g")
+    groups = [group for group in root.findall(SVG + "g") if group.get("transform")]
+    told = [title(group) for group in root.findall(SVG + "g") if not group.get("transform")]
+    unknown = [f"not known from place {run.known} on" for run in runs if run.is_pale()]
+    hold(f"{what}: from where it is not known", told == unknown, f"{told} and not {unknown}")
     in_groups = {id(e) for g in groups for e in g.iter()} | {id(e) for g in root.findall(SVG + "pattern") for e in g.iter()}
     drawn = [e for e in elements if id(e) not in in_groups and e.get("class") != "b"]
     boxes = [box(e) for e in drawn if box(e)]
@@ -411,7 +436,8 @@ def check_picture(what, svg, runs):
         hold(f"{what}: ticks of both runs", all(a == b for a, b in zip(*ticks)), str(ticks))
 
 
-def check_document(name, document, modes):
+def check_document(name, document, modes, known=(None, None)):
+    """Its picture in each mode. `known`: from which place on the run before the edits is not known, and that after them."""
     session = document.get("session", document)
     edits = document.get("edits", [])
     for mode in modes:
@@ -422,10 +448,11 @@ def check_document(name, document, modes):
             hold(f"{what}: status {status}", False, errors)
             continue
         runs = []
-        for given in [{"session": session, "edits": []}] + [{"session": session, "edits": edits}] * bool(edits):
+        givens = [{"session": session, "edits": []}] + [{"session": session, "edits": edits}] * bool(edits)
+        for given, place in zip(givens, known):
             trace = view(["trace", *settle], json.dumps(given))[1]
             checked = json.loads(view(["session"], json.dumps(given))[1])
-            runs.append(Run(trace, checked["tasks"], checked.get("queues", [])))
+            runs.append(Run(trace, checked["tasks"], checked.get("queues", []), place))
         check_picture(what, svg, runs)
 
 

@@ -985,7 +985,7 @@ Documents, each a JSON text, in FILE or on standard input:
 
 Exit status:
   0  it was shown
-  1  the document or its settled run is refused, or has no such task or core, or its picture has
+  1  the document or a run made of it is refused, or has no such task or core, or its picture has
      more than 4000 places, or a limit is not kept; with --strict also where an edit is refused,
      or a step of the run after the edits
   2  a bad command line, or a number that has no such name
@@ -1004,6 +1004,8 @@ Arguments:
 
 Options:
       --settle        Shows settled runs: what a target makes of the calls, ticks and interrupts
+      --keep-work     Shows runs that keep work: a call comes when its task worked as long as before
+      --ties <WHICH>  Which of several calls at one time is first: oldest, also if left out, or core
       --from <PLACE>  The first place that is shown, or 0 if left out
       --to <PLACE>    The last place that is shown, or the last of the run if left out
       --task <NAME>   Shows the steps that concern this task; may stand several times
@@ -1039,12 +1041,14 @@ Arguments:
   [FILE]  The file of the document; standard input if it is - or left out
 
 Options:
-      --strict  Ends with status 1 where an edit or a step of the run is refused
-  -h, --help    Print help
+      --keep-work     Shows runs that keep work: a call comes when its task worked as long as before
+      --ties <WHICH>  Which of several calls at one time is first: oldest, also if left out, or core
+      --strict        Ends with status 1 where an edit or a step of the run is refused
+  -h, --help          Print help
 
 A settled run is what a target makes of the calls, ticks and interrupts of a session: each switch
 and each return from a call is made by itself. Standard error says how many calls of which tasks
-were not made.
+were not made. With --keep-work the run that keeps work is printed in its place.
 
 Example: smp_view settle examples/held-kernel.json
 '
@@ -1056,11 +1060,13 @@ Arguments:
   [FILE]  The file of the document; standard input if it is - or left out
 
 Options:
-      --settle  Shows settled runs: what a target makes of the calls, ticks and interrupts
-      --strict  Ends with status 1 where an edit or a step of the run is refused
-  -h, --help    Print help
+      --settle        Shows settled runs: what a target makes of the calls, ticks and interrupts
+      --keep-work     Shows runs that keep work: a call comes when its task worked as long as before
+      --ties <WHICH>  Which of several calls at one time is first: oldest, also if left out, or core
+      --strict        Ends with status 1 where an edit or a step of the run is refused
+  -h, --help          Print help
 
-With --settle it also says which calls were not made.
+With --settle or --keep-work it also says which calls were not made.
 
 Example: smp_view compare --settle examples/settled/shorter-timeout.json
 '
@@ -1073,6 +1079,8 @@ Arguments:
 
 Options:
       --settle        Shows settled runs: what a target makes of the calls, ticks and interrupts
+      --keep-work     Shows runs that keep work: a call comes when its task worked as long as before
+      --ties <WHICH>  Which of several calls at one time is first: oldest, also if left out, or core
       --axis <AXIS>   What a column is of: place, also if left out, tick or time
       --from <PLACE>  The first place that is shown, or 0 if left out
       --to <PLACE>    The last place that is shown, or the last of the run if left out
@@ -1093,10 +1101,12 @@ Arguments:
   [FILE]  The file of the document; standard input if it is - or left out
 
 Options:
-      --settle  Shows settled runs: what a target makes of the calls, ticks and interrupts
-      --json    Prints one JSON object
-      --strict  Ends with status 1 where an edit or a step of the run is refused
-  -h, --help    Print help
+      --settle        Shows settled runs: what a target makes of the calls, ticks and interrupts
+      --keep-work     Shows runs that keep work: a call comes when its task worked as long as before
+      --ties <WHICH>  Which of several calls at one time is first: oldest, also if left out, or core
+      --json          Prints one JSON object
+      --strict        Ends with status 1 where an edit or a step of the run is refused
+  -h, --help          Print help
 
 Time in each condition with the longest stretch of it, switches, refusals and the like, of
 each task, core and mutex. The table leaves out what is 0; the JSON object has everything.
@@ -1112,6 +1122,8 @@ Arguments:
 
 Options:
       --settle             Shows settled runs: what a target makes of the calls, ticks and interrupts
+      --keep-work          Shows runs that keep work: a call comes when its task worked as long as before
+      --ties <WHICH>       Which of several calls at one time is first: oldest, also if left out, or core
       --at-most <NAME=N>   The number of this name is to be N or less; may stand several times
       --at-least <NAME=N>  The number of this name is to be N or more; may stand several times
       --strict             Ends with status 1 where an edit or a step of the run is refused
@@ -1131,6 +1143,8 @@ Arguments:
 
 Options:
       --settle          Shows settled runs: what a target makes of the calls, ticks and interrupts
+      --keep-work       Shows runs that keep work: a call comes when its task worked as long as before
+      --ties <WHICH>    Which of several calls at one time is first: oldest, also if left out, or core
       --task <NAME>     The task that is to have less of a number
       --less <NUMBER>   The number of the task, as `report` names it: blocked.mutex, ready.longest, ..
       --over <CHANGES>  Which changes are tried, with commas between them, or priority,mask,order if left out
@@ -1155,6 +1169,8 @@ Arguments:
 
 Options:
       --settle        Shows settled runs: what a target makes of the calls, ticks and interrupts
+      --keep-work     Shows runs that keep work: a call comes when its task worked as long as before
+      --ties <WHICH>  Which of several calls at one time is first: oldest, also if left out, or core
       --axis <AXIS>   What a column is of: place, also if left out, tick or time
       --from <PLACE>  The first place that is shown, or 0 if left out
       --to <PLACE>    The last place that is shown, or the last of the run if left out
@@ -1245,6 +1261,24 @@ bad_line '--settle with a value' "unexpected value 'x' for '--settle' found" tra
 bad_line 'a session from a place' "unexpected argument '--from' found" session --from 3
 bad_line 'a settled run from a place' "unexpected argument '--from' found" settle --from 3
 bad_line 'a settled run that is settled' "unexpected argument '--settle' found" settle --settle
+two_ways="error: --settle and --keep-work are two ways to make runs: take one
+
+For more information, try '--help'.
+"
+run 'settled runs that keep work' 2 '' "$two_ways" compare --settle --keep-work
+lone_ties="error: --ties is for --keep-work
+
+For more information, try '--help'.
+"
+run 'ties without runs that keep work' 2 '' "$lone_ties" settle --ties core
+no_order="error: --ties takes oldest or core
+
+For more information, try '--help'.
+"
+run 'an unknown order of calls' 2 '' "$no_order" compare --keep-work --ties cores
+bad_line 'ties without a word' "a value is required for '--ties <WHICH>' but none was supplied" compare --keep-work --ties
+bad_line '--keep-work twice' "the argument '--keep-work' cannot be used multiple times" trace --keep-work --keep-work
+bad_line 'a session that keeps work' "unexpected argument '--keep-work' found" session --keep-work
 bad_line 'a session of two files' "unexpected argument '$first' found" session "$first" "$first"
 bad_line 'a comparison of a task' "unexpected argument '--task' found" compare --task A
 bad_line 'a comparison with an unknown option' "unexpected argument '-x' found" compare -x

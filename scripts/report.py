@@ -6,9 +6,13 @@ Before each step it is asked of every condition whether it holds, and the time t
 is that of those that do. A stretch of a condition ends where it fails. After each step the events
 of the step are counted.
 
+    report.py [--settle | --keep-work [--ties oldest|core] [--known]]
+
 Standard input is a session, or an object of a `session` and its `edits`. It is taken to be well
-formed. With the word `--settle` the settled runs are measured. Standard output is the object that
-`smp_view report --json` writes.
+formed. With `--settle` the settled runs are measured, with `--keep-work` those of kept.py. With
+`--known` the run after the edits ends where it is known no further, and the one before them at the
+first place at which as much time has gone by. Standard output is the object that `smp_view report
+--json` writes.
 """
 
 import copy
@@ -16,6 +20,7 @@ import dataclasses
 import json
 import sys
 
+import kept
 import settle
 
 BLOCKED_BY = {
@@ -393,8 +398,9 @@ def all_counts(session):
         yield from (f"queue.{queue}.{one}" for one in ("messages", "waits"))
 
 
-def measured(session, steps, left):
+def measured(run):
     """The numbers of a run, and the places where the longest stretches begin."""
+    session, steps, left = run.session, run.steps, run.left
     table = settle.start(session)
     names = {number: told(name) for name, number in table.number.items()}
     values = dict.fromkeys(all_counts(session), 0)
@@ -453,10 +459,57 @@ def measured(session, steps, left):
     return {"places": places, "values": values}
 
 
-def measure(session, settled):
-    """The numbers of a session's run, settled or as its steps stand."""
-    steps, left = settle.settle(session) if settled else (session["steps"], [])
-    return measured(session, steps, left)
+@dataclasses.dataclass
+class Run:
+    """The run of a session, the calls that it does not make, and where it is known no further."""
+
+    session: dict
+    steps: list
+    left: list
+    limit: int | None = None
+
+    def until(self, place):
+        """The part of the run before a place. Of a part the same calls are not made as of all."""
+        return dataclasses.replace(self, steps=self.steps[:place])
+
+    def time(self):
+        """How much time goes by."""
+        return sum(time_of(self.session, step) for step in self.steps)
+
+    def place_at(self, time):
+        """The first place at which as much time has gone by; the last one if there is none."""
+        places = range(len(self.steps))
+        return next((place for place in places if self.until(place).time() >= time), len(self.steps))
+
+
+def run_of(document, words):
+    """The run of a document, with its edits made, which smp_view makes by the options."""
+    document = copy.deepcopy(document)
+    if "--keep-work" in words:
+        ties = words[words.index("--ties") + 1] if "--ties" in words else "oldest"
+        run = kept.kept(document, ties)
+        return Run(run.session, run.steps, run.left(), run.known and run.known["place"])
+    session = settle.edited_session(document)
+    settled = "--settle" in words
+    return Run(session, *(settle.settle(session) if settled else (session["steps"], [])))
+
+
+def shown(document, words):
+    """That run, or with `--known` the part that is known."""
+    run = run_of(document, words)
+    return run.until(run.limit) if "--known" in words else run
+
+
+def before(document, words, after):
+    """The run without the edits; with `--known` the part that takes as long as the one after them."""
+    run = run_of({"session": document["session"], "edits": []}, words)
+    cut = "--known" in words and after.limit is not None
+    return run.until(run.place_at(after.time())) if cut else run
+
+
+def measure(document, words):
+    """The numbers of a document's run after its edits."""
+    return measured(shown(document, words))
 
 
 def units_of(session):
@@ -465,21 +518,22 @@ def units_of(session):
     return {"units": units} if units != 1 else {}
 
 
-def report(document, settled):
+def report(document, words):
     """The report of a session, or of a session and of it after its edits."""
+    settled = "--settle" in words or "--keep-work" in words
     rest = {"settled": settled} | units_of(document.get("session", document))
+    run = shown(document, words)
     if not document.get("edits"):
-        return measure(document.get("session", document), settled) | rest
-    before = measure(copy.deepcopy(document["session"]), settled)
-    after = measure(settle.edited_session(document), settled)
-    change = {name: after["values"][name] - value for name, value in before["values"].items()}
-    return {"before": before, "after": after, "change": change} | rest
+        return measured(run) | rest
+    was, now = measured(before(document, words, run)), measured(run)
+    change = {name: now["values"][name] - value for name, value in was["values"].items()}
+    return {"before": was, "after": now, "change": change} | rest
 
 
 def main():
     """Report on the document on standard input."""
     document = json.loads(sys.stdin.buffer.read())
-    print(json.dumps(report(document, "--settle" in sys.argv[1:]), sort_keys=True))
+    print(json.dumps(report(document, sys.argv[1:]), sort_keys=True))
 
 
 if __name__ == "__main__":

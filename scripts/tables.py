@@ -1,9 +1,9 @@
 #!/usr/bin/env python3
 """Write a report for people: a second opinion on its text, which shares no code with the bench.
 
-Standard input is a session, or an object of a `session` and its `edits`. With the word `--settle`
-the settled runs are measured. Standard output is the text that `smp_view report` writes: the
-numbers of report.py in their order, and a table of loads for each run.
+Standard input is a session, or an object of a `session` and its `edits`. Words are those of
+report.py. Standard output is the text that `smp_view report` writes: the numbers of report.py in
+their order, and a table of loads for each run.
 """
 
 import fractions
@@ -57,10 +57,10 @@ def pair_lines(session, told):
             yield f"{before:>10} {after:>10} {change:>10} {name}"
 
 
-def lines(document, settled):
+def lines(document, words):
     """The lines of the report."""
     session = document.get("session", document)
-    told = report.report(document, settled)
+    told = report.report(document, words)
     if report.units_of(session):
         yield f"time in units, {session['units']} a tick"
     if "values" in told:
@@ -72,15 +72,15 @@ def lines(document, settled):
         yield from loads(session, told["after"]["values"], "load after")
 
 
-def text(document, settled):
+def text(document, words):
     """The whole text."""
-    return "".join(f"{line}\n" for line in lines(document, settled))
+    return "".join(f"{line}\n" for line in lines(document, words))
 
 
 def main():
     """Report on the document on standard input."""
     document = json.loads(sys.stdin.buffer.read())
-    sys.stdout.write(text(document, "--settle" in sys.argv[1:]))
+    sys.stdout.write(text(document, sys.argv[1:]))
 
 
 if __name__ == "__main__":

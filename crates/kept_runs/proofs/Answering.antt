@@ -9,10 +9,8 @@ use Rattle.bench_types.specs.declared.step.Step.TheVariants.{Tick, Switch, Inter
 use Rattle.bench_types.specs.declared.step.Step.TheVariants as steps
 use Rattle.bench_types.specs.Session.{Session}
 use Rattle.settled_runs.specs.Settled.{is_event, is_finish}
-use Rattle.kept_runs.specs.declared.known_limit.KnownLimit.{KnownLimit}
-use Rattle.kept_runs.specs.declared.known_limit.LimitReason.TheVariants.{Answer}
 use Rattle.kept_runs.specs.Items.{Item, begins_call, edited_items, is_alike, items_from, places_of, settled_place}
-use Rattle.kept_runs.specs.Known.{answer_before, answer_limit, answer_of, answer_place, differ, is_other_answer, item_of, was_call}
+use Rattle.kept_runs.specs.Known.{answer_before, answer_limit, answer_of, answer_place, differ, is_affirmed, is_other_answer, item_of, limit_behind, was_call}
 use Rattle.kept_runs.proofs.Starts.{alike_calls, counted, counted_first, event_place, places_cons}
 
 -- ---- lists
@@ -161,9 +159,6 @@ no_other : (answer : Option Bool) → differ None answer ≡ false
 no_other None = refl
 no_other (Some answer) = refl
 
-abbrev limit_behind : ℕ → ℕ → KnownLimit
-limit_behind task later = record { place = suc later; task = task; reason = Answer }
-
 module _ (session : Session) (settled : List Step) where
   answered_so : (place task : ℕ) (step : Step) → slice_get settled place ≡ Some step → begins_call task step ≡ true
       → is_other_answer session [] settled settled task place ≡ false
@@ -206,12 +201,12 @@ module _ (session : Session) (settled : List Step) where
         where
           which : (f : Bool) → is_finish call ≡ f
               → cond (not f && is_other_answer session [] settled settled task place)
-              (option_map (limit_behind task) (answer_place session.header settled task place)) None
+              (option_map (limit_behind task (is_affirmed session.header settled task place)) (answer_place session.header settled task place)) None
               ≡ None
           which true ends = refl
           which false begins =
               let own : eqb task task ≡ true = grind (arith, nat_tests) in
               ap
               (λ b. cond b
-              (option_map (limit_behind task) (answer_place session.header settled task place)) None)
+              (option_map (limit_behind task (is_affirmed session.header settled task place)) (answer_place session.header settled task place)) None)
               (answered_so place task (steps.Call core task call) some (λ i. own i && not (begins i)))

@@ -100,12 +100,23 @@ is_other_answer session edits settled run task place =
     (item_of (edited_items session edits) run task place))
     (answer_of (edited_session session edits).header run task place)
 
+-- the answer to the task's call at a place is affirmative
+abbrev pub is_affirmed : Header → List Step → ℕ → ℕ → Bool
+is_affirmed header run task place =
+    option_map_or (λ affirmative. affirmative) (answer_of header run task place) false
+
+-- the limit behind an answer, affirmative now and not before, or the other way round
+abbrev pub limit_behind : ℕ → Bool → ℕ → KnownLimit
+limit_behind task affirmative later =
+    record { place = suc later; task = task; reason = Answer affirmative }
+
 -- so behind the answer of a call at the place nothing is known
 abbrev pub answer_limit :
     Session → List KeptEdit → List Step → List Step → ℕ → Step → Option KnownLimit
 answer_limit session edits settled run place (steps.Call core task call) =
     if not (is_finish call) && is_other_answer session edits settled run task place
-    then option_map (λ later. record { place = suc later; task = task; reason = Answer })
+    then option_map
+    (limit_behind task (is_affirmed (edited_session session edits).header run task place))
     (answer_place (edited_session session edits).header run task place)
     else None
 answer_limit session edits settled run place step = None

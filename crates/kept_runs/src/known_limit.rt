@@ -6,7 +6,10 @@ pub enum LimitReason {
     /// The task is at the end of what it did before the edits.
     End,
     /// A call of the task is answered otherwise than before the edits.
-    Answer,
+    Answer {
+        /// Whether the call did what it was to do, and did not before; or the other way round.
+        affirmative: bool,
+    },
 }
 
 /// Up to where a run that keeps work is known.

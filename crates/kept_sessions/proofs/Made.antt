@@ -1,11 +1,13 @@
 -- The run of a session with edits that keeps work, made.
-use Rattle.std.proofs.Common.{◌≡◌, ℕ, zero, suc, ◌+◌, ◌*◌, ◌<◌, ◌≤◌, true, List, [], ◌∷◌, length, Option, Result, Ok, Err, sym, ap, subst, ◌∙◌, arith}
+use Rattle.std.proofs.Common.{◌≡◌, ℕ, zero, suc, ◌+◌, ◌*◌, ◌<◌, ◌≤◌, true, List, [], ◌∷◌, length, Option, None, Result, Ok, Err, sym, ap, subst, ◌∙◌, true≢false, arith}
 use Rattle.std.specs.Prelude.{All, OnErr}
+use Rattle.std.proofs.lemmas.Bool.Decides.{nat_tests}
 use Rattle.std.proofs.lemmas.List.Elements.{All-cons, All-nil}
 use Rattle.bench_types.specs.declared.header.Header.{Header}
 use Rattle.bench_types.specs.declared.step.Step.{Step}
 use Rattle.bench_types.specs.Edit.{IsCheckedEdit}
 use Rattle.bench_types.specs.Limits.{max_steps}
+use Rattle.bench_types.specs.Session.{Session, IsSession}
 use Rattle.kept_edits.specs.declared.edit.KeptEdit.{KeptEdit}
 use Rattle.kept_edits.specs.declared.edit.KeptEdit.TheVariants.{Plain, Work}
 use Rattle.kept_edits.specs.Edits.{plain_edits}
@@ -15,6 +17,7 @@ use Rattle.settled_runs.proofs.Settlings.{settled_run_is_one}
 use Rattle.smp_kernel.specs.Counting.{meter_after, CountsUpTo}
 use Rattle.smp_kernel.proofs.Counts.{counted_twice}
 use Rattle.kept_runs.specs.declared.call_order.CallOrder.{CallOrder}
+use Rattle.kept_runs.specs.declared.call_order.CallOrder.TheVariants.{Oldest, LeastCore}
 use Rattle.kept_runs.specs.declared.known_limit.KnownLimit.{KnownLimit}
 use Rattle.kept_runs.specs.declared.works.Outside.{Outside}
 use Rattle.kept_runs.specs.declared.works.Unmade.{Unmade}
@@ -22,12 +25,13 @@ use Rattle.kept_runs.specs.Items.{edited_items, edited_session}
 use Rattle.kept_runs.specs.Known.{known_until}
 use Rattle.kept_runs.specs.Rule.{Progress, first_progress, IsKept, IsRunFrom}
 use Rattle.kept_runs.specs.Works.{outside_steps, unmade_calls}
+use Rattle.kept_runs.proofs.Unedited.{unedited_run_is_known, unedited_run_is_settled}
 use Rattle.keeping.specs.declared.run.Kept.{Kept}
 use Rattle.keeping.specs.Ends.{first_end}
 use Rattle.keeping.specs.Progress.{progress_at_start}
 use Rattle.keeping.proofs.Running.{first_is}
 use Rattle.kept_edits.specs.Edits.{IsKeptEdit}
-use Rattle.kept_sessions.specs.Runs.{AreRunsOf, IsKeptRunOf, IsKnownRunOf}
+use Rattle.kept_sessions.specs.Runs.{is_settled_one, AreRunsOf, IsKeptRunOf, IsKnownRunOf}
 use Rattle.kept_sessions.specs.Sessions.{KeptView}
 
 -- the edits of the session were checked
@@ -83,6 +87,26 @@ known_is order made settled kept limit runs known = record {
   };
   known = known;
 }
+
+-- ---- without edits
+
+-- the settled run is the one that keeps work, and all of it is known
+pub unedited_known : (order : CallOrder) (made : KeptView) (run : RunView) → is_settled_one order made ≡ true → IsSession made.session
+    → IsRunOf true made.session run → length run.session.steps ≤ max_steps → IsKnownRunOf order made run None
+unedited_known order made run = of_edits order made.session made.edits
+  where
+    of_edits : (order : CallOrder) (session : Session) (edits : List KeptEdit)
+        → is_settled_one order (record { session = session; edits = edits }) ≡ true → IsSession session → IsRunOf true session run
+        → length run.session.steps ≤ max_steps → IsKnownRunOf order (record { session = session; edits = edits }) run None
+    of_edits Oldest session [] unedited is settled few =
+        let kept = unedited_run_is_settled session run.session.steps run.left is settled.1 in
+        let same = settled_run_is_one session.header session.steps kept.settled run.session.steps kept.waiting run.left kept.is_settled settled.1 in
+        record {
+          run_is = record { header = settled.0; kept = kept; room = subst (λ (steps : List Step). length steps ≤ max_steps) (sym same.0) few };
+          known = sym (unedited_run_is_known session run.session.steps run.left is kept);
+        }
+    of_edits Oldest session (edit ∷ edits) unedited is settled few = absurd (grind (arith, nat_tests, unedited))
+    of_edits LeastCore session edits unedited is settled few = absurd (true≢false (sym unedited))
 
 -- ---- counts
 

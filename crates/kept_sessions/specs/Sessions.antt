@@ -1,5 +1,5 @@
 -- Sessions with edits of them, of works too.
-use Rattle.std.specs.Prelude.{◌≡◌, List, All}
+use Rattle.std.specs.Prelude.{◌≡◌, List, [], All}
 use Rattle.bench_types.specs.Session.{Session}
 use Rattle.kept_edits.specs.declared.edit.KeptEdit.{KeptEdit}
 use Rattle.kept_edits.specs.Edits.{plain_edits}
@@ -10,6 +10,10 @@ use Rattle.session_edits.specs.Edited.{EditedView}
 pub record KeptView : Type 0 where
   pub session : Session
   pub edits : List KeptEdit
+
+-- the same session, and no edit of it
+abbrev pub without_edits : KeptView → KeptView
+without_edits made = record { session = made.session; edits = [] }
 
 -- the edits of the session are those of these, and each was checked
 pub record AreKeptEdits (edited : EditedView) (edits : List KeptEdit) : Type 0 where

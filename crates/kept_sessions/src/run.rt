@@ -1,11 +1,11 @@
 //! The run of a session with edits that keeps work.
-ghost use Rattle.std.specs.Prelude.{◌≡◌, ◌≤◌, ◌+◌, ◌*◌, Err, IfOk, OnErr, length, true};
+ghost use Rattle.std.specs.Prelude.{◌≡◌, ◌≤◌, ◌+◌, ◌*◌, Err, IfOk, None, OnErr, length, false, true};
 ghost use Rattle.bench_types.specs.Limits.{max_steps};
 ghost use Rattle.bench_types.specs.Session.{Session};
 ghost use Rattle.session_runs.specs.Run.{IsRunOf};
 ghost use Rattle.settled_runs.specs.Runs.{IsSettledTooLong};
 ghost use Rattle.smp_kernel.specs.Counting.{meter_after, CountsUpTo};
-ghost use Rattle.kept_sessions.specs.Runs.{AreRunsOf, IsKeptCount, IsKeptRunOf, IsKeptTooLong, IsKnownCount, IsKnownRunOf};
+ghost use Rattle.kept_sessions.specs.Runs.{is_settled_one, steps_known, steps_made, AreRunsOf, IsCountBy, IsKeptCount, IsKeptRunOf, IsKeptTooLong, IsKnownCount, IsKnownRunOf};
 
 use crate::session::KeptSession;
 use bench_types::CheckedSession;
@@ -74,9 +74,8 @@ fn made_runs(
     Ok(MadeRuns { settled, kept })
 }
 
-/// The run of the session with its edits that keeps work. The meter counts the steps of the settled
-/// run of the session before the edits twice, and those of the run.
-pub fn kept_run(
+// The run by the works of calls.
+fn worked_run(
     alloc: Global,
     made: &KeptSession,
     order: CallOrder,
@@ -85,16 +84,16 @@ pub fn kept_run(
     ensures run { IfOk result (λ run. IsKeptRunOf order made.now run) }
     ensures room { IfOk result (λ run. length run.session.steps ≤ max_steps) }
     ensures long { result ≡ Err KeepFault.TooManySteps → IsKeptTooLong order made.now }
-    ensures counted { IfOk result (λ run. IsKeptCount made.now run meter.old meter.new) }
+    ensures counted { IfOk result
+        (λ run. IsCountBy (steps_made false) made.now run meter.old meter.new) }
     ensures some { OnErr result (CountsUpTo (3 * max_steps) meter.old meter.new) }
 {
     let runs = made_runs(alloc, made, order, meter)?;
     Ok(runs.kept.run)
 }
 
-/// The same, and up to where the run is known. For that the meter counts the steps of the settled
-/// run and those of the run once more.
-pub fn known_run(
+// The same, and up to where it is known.
+fn worked_known_run(
     alloc: Global,
     made: &KeptSession,
     order: CallOrder,
@@ -104,7 +103,7 @@ pub fn known_run(
     ensures room { IfOk result (λ known. length known.run.session.steps ≤ max_steps) }
     ensures long { result ≡ Err KeepFault.TooManySteps → IsKeptTooLong order made.now }
     ensures counted { IfOk result
-        (λ known. IsKnownCount made.now known.run meter.old meter.new) }
+        (λ known. IsCountBy (steps_known false) made.now known.run meter.old meter.new) }
     ensures some { OnErr result (CountsUpTo (5 * max_steps) meter.old meter.new) }
 {
     let MadeRuns { settled, kept } = made_runs(alloc, made, order, meter)?;
@@ -121,4 +120,79 @@ pub fn known_run(
         run: kept.run,
         limit,
     })
+}
+
+// Whether there are no edits, and the oldest call comes first: then the run is the settled one.
+fn is_settled_one(made: &KeptSession, order: CallOrder) -> bool
+    ensures { result ≡ is_settled_one order made.now }
+{
+    match order {
+        CallOrder::Oldest => made.edits().is_empty(),
+        CallOrder::LeastCore => false,
+    }
+}
+
+// The settled run where it is the run that keeps work. All of it is known.
+fn unedited_run(
+    alloc: Global,
+    made: &KeptSession,
+    order: CallOrder,
+    meter: &mut Meter,
+) -> Result<Run, KeepFault>
+    requires unedited { is_settled_one order made.now ≡ true }
+    ensures run { IfOk result (λ run. IsKnownRunOf order made.now run None) }
+    ensures room { IfOk result (λ run. length run.session.steps ≤ max_steps) }
+    ensures long { result ≡ Err KeepFault.TooManySteps → IsKeptTooLong order made.now }
+    ensures counted { IfOk result
+        (λ run. IsCountBy (steps_made true) made.now run meter.old meter.new) }
+    ensures some { OnErr result (CountsUpTo max_steps meter.old meter.new) }
+{
+    let session = made.session();
+    // A session that was checked is one that a run starts from.
+    let _steps = session.steps();
+    let run = settled_run(alloc, session, meter)?;
+    Ok(run)
+}
+
+/// The run of the session with its edits that keeps work. The meter counts the steps of the settled
+/// run of the session before the edits twice, and those of the run. Without edits, where the oldest
+/// call comes first, the run is the settled one, and is made once.
+pub fn kept_run(
+    alloc: Global,
+    made: &KeptSession,
+    order: CallOrder,
+    meter: &mut Meter,
+) -> Result<Run, KeepFault>
+    ensures run { IfOk result (λ run. IsKeptRunOf order made.now run) }
+    ensures room { IfOk result (λ run. length run.session.steps ≤ max_steps) }
+    ensures long { result ≡ Err KeepFault.TooManySteps → IsKeptTooLong order made.now }
+    ensures counted { IfOk result (λ run. IsKeptCount order made.now run meter.old meter.new) }
+    ensures some { OnErr result (CountsUpTo (3 * max_steps) meter.old meter.new) }
+{
+    if is_settled_one(made, order) {
+        return unedited_run(alloc, made, order, meter);
+    }
+    worked_run(alloc, made, order, meter)
+}
+
+/// The same, and up to where the run is known. For that the meter counts the steps of the settled
+/// run and those of the run once more, but where the run is the settled one.
+pub fn known_run(
+    alloc: Global,
+    made: &KeptSession,
+    order: CallOrder,
+    meter: &mut Meter,
+) -> Result<KnownRun, KeepFault>
+    ensures run { IfOk result (λ known. IsKnownRunOf order made.now known.run known.limit) }
+    ensures room { IfOk result (λ known. length known.run.session.steps ≤ max_steps) }
+    ensures long { result ≡ Err KeepFault.TooManySteps → IsKeptTooLong order made.now }
+    ensures counted { IfOk result
+        (λ known. IsKnownCount order made.now known.run meter.old meter.new) }
+    ensures some { OnErr result (CountsUpTo (5 * max_steps) meter.old meter.new) }
+{
+    if is_settled_one(made, order) {
+        let run = unedited_run(alloc, made, order, meter)?;
+        return Ok(KnownRun { run, limit: None });
+    }
+    worked_known_run(alloc, made, order, meter)
 }

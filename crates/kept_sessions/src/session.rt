@@ -1,8 +1,8 @@
 //! A session and edits of it, of works too.
 ghost use Rattle.std.specs.Prelude.{◌≡◌, All, IfOk};
 ghost use Rattle.kept_runs.specs.Items.{edited_session};
-ghost use Rattle.kept_edits.specs.Edits.{IsKeptEdit};
-ghost use Rattle.kept_sessions.specs.Sessions.{AreKeptEdits};
+ghost use Rattle.kept_edits.specs.Edits.{plain_edits, IsKeptEdit};
+ghost use Rattle.kept_sessions.specs.Sessions.{without_edits, AreKeptEdits};
 
 use bench_types::{CheckedSession, Header};
 use kept_edits::{KeptEdit, plain_edits};
@@ -58,12 +58,35 @@ impl KeptSession {
         self.edited.edited()
     }
 
+    /// The session and its edits without those of works.
+    pub fn plain(&self) -> &EditedSession
+        ensures { result.now
+            ≡ record { session = self.now.session; edits = plain_edits self.now.edits } }
+    {
+        &self.edited
+    }
+
+    /// The same by value.
+    pub fn into_plain(self) -> EditedSession
+        ensures { result ≡ record { session = self.session; edits = plain_edits self.edits } }
+    {
+        self.edited
+    }
+
     /// The edits, in the order in which they are made.
     pub fn edits(&self) -> &[KeptEdit]
         ensures edits { result.now ≡ self.now.edits }
         ensures checked { All (IsKeptEdit self.now.session.header) result.now }
     {
         self.edits.as_slice()
+    }
+
+    /// The same session, and no edit of it.
+    pub fn without_edits(&self, alloc: Global) -> Result<KeptSession, AllocError>
+        ensures { IfOk result (λ made. made ≡ without_edits self.now) }
+    {
+        let session = self.session().copy(alloc)?;
+        KeptSession::make(alloc, session, Vec::new(alloc))
     }
 
     /// A second value of the same session with the same edits.

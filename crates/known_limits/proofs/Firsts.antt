@@ -2,6 +2,7 @@
 use Rattle.std.proofs.Common.{◌≡◌, ℕ, suc, ◌+◌, ◌<◌, Bool, true, false, cond, not, ltb, ◌&&◌, List, [], ◌∷◌, length, map, take, get_or, count_by, Option, Some, None, refl, sym, ap, ◌∙◌, arith}
 use Rattle.std.specs.Prelude.{fold, filter_map, option_and_then, option_map, slice_get}
 use Rattle.std.specs.List.{cons_option, filter}
+use Rattle.std.specs.Option.{option_map_or}
 use Rattle.std.proofs.lemmas.Bool.Decides.{nat_tests}
 use Rattle.std.proofs.lemmas.List.Elements.{filter_map-append}
 use Rattle.std.proofs.lemmas.List.FromFn.{get_or-map-range_with_len}
@@ -21,9 +22,8 @@ use Rattle.settled_runs.specs.Settled.{is_finish}
 use Rattle.kept_edits.specs.declared.edit.KeptEdit.{KeptEdit}
 use Rattle.kept_runs.specs.declared.call_order.CallOrder.{CallOrder}
 use Rattle.kept_runs.specs.declared.known_limit.KnownLimit.{KnownLimit}
-use Rattle.kept_runs.specs.declared.known_limit.LimitReason.TheVariants as reasons
 use Rattle.kept_runs.specs.Items.{Item, begins_call, edited_items, edited_session}
-use Rattle.kept_runs.specs.Known.{answer_before, answer_limit, answer_of, answer_place, differ, earlier, end_limit, is_other_answer, item_of, known_until}
+use Rattle.kept_runs.specs.Known.{answer_before, answer_limit, answer_of, answer_place, differ, earlier, end_limit, is_affirmed, is_other_answer, item_of, known_until, limit_behind}
 use Rattle.kept_runs.specs.Rule.{first_progress, progress_at}
 use Rattle.keeping.specs.Ends.{first_end}
 use Rattle.keeping.proofs.FirstEnds.{first_is_earliest_kept}
@@ -85,11 +85,8 @@ both_sooner order session edits settled run =
 -- ---- the limit by one answer
 
 module _ (header : Header) (run : List Step) (task place : ℕ) (before : Option Bool) where
-  abbrev limit_at : ℕ → KnownLimit
-  limit_at later = record { place = suc later; task = task; reason = reasons.Answer }
-
   limit_is : limit_by task before (answer_to header run place task)
-      ≡ cond (differ before (answer_of header run task place)) (option_map limit_at (answer_place header run task place)) None
+      ≡ cond (differ before (answer_of header run task place)) (option_map (limit_behind task (is_affirmed header run task place)) (answer_place header run task place)) None
   unfolding answer_of
   limit_is = at (answer_place header run task place)
     where
@@ -100,8 +97,9 @@ module _ (header : Header) (run : List Step) (task place : ℕ) (before : Option
 
       of_reply : (later : ℕ) (o : Option Reply)
           → limit_by task before (option_map (λ (affirmative : Bool). record { place = later; affirmative = affirmative }) (option_map is_affirmative o))
-          ≡ cond (differ before (option_map is_affirmative o)) (Some (limit_at later)) None
-      of_reply later None = sym (ap (λ b. cond b (Some (limit_at later)) None) (unlike before))
+          ≡ cond (differ before (option_map is_affirmative o))
+          (Some (limit_behind task (option_map_or (λ affirmative. affirmative) (option_map is_affirmative o) false) later)) None
+      of_reply later None = sym (ap (λ b. cond b (Some (limit_behind task false later)) None) (unlike before))
       of_reply later (Some reply) = refl
 
       at : (o : Option ℕ)
@@ -110,7 +108,12 @@ module _ (header : Header) (run : List Step) (task place : ℕ) (before : Option
           (λ later. option_map (λ (affirmative : Bool). record { place = later; affirmative = affirmative })
           (option_and_then (λ later. option_map is_affirmative (reply_at header run later)) o))
           o)
-          ≡ cond (differ before (option_and_then (λ later. option_map is_affirmative (reply_at header run later)) o)) (option_map limit_at o) None
+          ≡ cond (differ before (option_and_then (λ later. option_map is_affirmative (reply_at header run later)) o))
+          (option_map
+          (limit_behind task
+          (option_map_or (λ affirmative. affirmative) (option_and_then (λ later. option_map is_affirmative (reply_at header run later)) o) false))
+          o)
+          None
       at None = sym (ap (λ b. cond b None None) (unlike before))
       at (Some later) = of_reply later (reply_at header run later)
 
@@ -162,7 +165,7 @@ module _ (session : Session) (edits : List KeptEdit) (settled run : List Step) w
         of_none : (step : Step) → begun_task step ≡ None → answer_limit session edits settled run place step ≡ None
         of_none (steps.Call core own call) none =
             finished own place (is_finish call) (is_other_answer session edits settled run own place) none
-            (option_map (λ later. record { place = suc later; task = own; reason = reasons.Answer })
+            (option_map (limit_behind own (is_affirmed header run own place))
             (answer_place (edited_session session edits).header run own place))
         of_none Tick none = refl
         of_none (Switch core) none = refl
@@ -203,10 +206,10 @@ module _ (session : Session) (edits : List KeptEdit) (settled run : List Step) w
 
         call_limit : answer_limit session edits settled run place (steps.Call it.core task it.call)
             ≡ cond (differ (option_and_then (answer_before session settled task) (item_of (edited_items session edits) run task place)) (answer_of header run task place))
-            (option_map (limit_at header run task place None) (answer_place header run task place)) None
+            (option_map (limit_behind task (is_affirmed header run task place)) (answer_place header run task place)) None
         call_limit =
             ap (λ b. cond (not b && is_other_answer session edits settled run task place)
-            (option_map (limit_at header run task place None) (answer_place header run task place)) None) it.begins
+            (option_map (limit_behind task (is_affirmed header run task place)) (answer_place header run task place)) None) it.begins
 
         its : limit_by task (answer_in (row_at rows task) count) (get_or answers place None) ≡ limit_of place
         its =

@@ -1,12 +1,11 @@
 -- Limits of what is known of a run, one by one.
-use Rattle.std.specs.Prelude.{ℕ, suc, Bool, List, filter_map, slice_get, Option, Some, None, option_and_then, if◌then◌else◌}
+use Rattle.std.specs.Prelude.{ℕ, Bool, List, filter_map, slice_get, Option, Some, None, option_and_then, if◌then◌else◌}
 use Rattle.std.specs.Option.{option_map_or}
 use Rattle.bench_types.specs.declared.step.Step.{Step}
 use Rattle.bench_types.specs.Session.{Session}
 use Rattle.kept_edits.specs.declared.edit.KeptEdit.{KeptEdit}
 use Rattle.kept_runs.specs.declared.known_limit.KnownLimit.{KnownLimit}
-use Rattle.kept_runs.specs.declared.known_limit.LimitReason.TheVariants.{Answer}
-use Rattle.kept_runs.specs.Known.{answer_limit, differ, earlier}
+use Rattle.kept_runs.specs.Known.{answer_limit, differ, earlier, limit_behind}
 use Rattle.list_orders.specs.Search.{numbers}
 use Rattle.run_answers.specs.declared.answer.Answer.{Answer as Answered}
 
@@ -15,7 +14,7 @@ abbrev pub limit_by : ℕ → Option Bool → Option Answered → Option KnownLi
 limit_by task before now =
     option_and_then
     (λ answer. if differ before (Some answer.affirmative)
-    then Some (record { place = suc answer.place; task = task; reason = Answer }) else None)
+    then Some (limit_behind task answer.affirmative answer.place) else None)
     now
 
 -- of two the one at the lesser place, the first where both are at one place

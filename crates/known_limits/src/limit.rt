@@ -27,7 +27,9 @@ pub(crate) fn limit_by(task: u32, before: Option<bool>, now: Option<Answer>) -> 
     Some(KnownLimit {
         place: answer.place as usize + 1,
         task,
-        reason: LimitReason::Answer,
+        reason: LimitReason::Answer {
+            affirmative: answer.affirmative,
+        },
     })
 }
 

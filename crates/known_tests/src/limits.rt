@@ -55,7 +55,10 @@ fn answer_that_is_no(rt: HostRuntime) -> Result<(), Fail> {
     let session = session(&rt, rt.alloc(), 2, &steps)?;
     let remove = Edit::Remove { at: 0 };
     let known = known(&rt, &rt, &session, &[KeptEdit::Plain(remove)])?;
-    assert_eq!(&rt; known, limit(6, A, LimitReason::Answer));
+    assert_eq!(&rt;
+        known,
+        limit(6, A, LimitReason::Answer { affirmative: false })
+    );
     Ok(())
 }
 
@@ -69,7 +72,10 @@ fn answer_that_is_yes(rt: HostRuntime) -> Result<(), Fail> {
         step: NOTIFY,
     };
     let known = known(&rt, &rt, &session, &[KeptEdit::Plain(insert)])?;
-    assert_eq!(&rt; known, limit(5, A, LimitReason::Answer));
+    assert_eq!(&rt;
+        known,
+        limit(5, A, LimitReason::Answer { affirmative: true })
+    );
     Ok(())
 }
 

@@ -1,8 +1,9 @@
 -- Steps that were counted more than once.
-use Rattle.std.proofs.Common.{◌≡◌, ℕ, ◌+◌, ◌*◌, ◌≤◌, true, length, refl, ap, ◌∙◌, arith}
+use Rattle.std.proofs.Common.{◌≡◌, ℕ, ◌+◌, ◌*◌, ◌≤◌, Bool, true, false, length, refl, ap, ◌∙◌, arith}
 use Rattle.std.specs.Prelude.{Err, Ok, OnErr, Result}
 use Rattle.bench_types.specs.Limits.{max_steps}
 use Rattle.session_runs.specs.Run.{RunView}
+use Rattle.kept_sessions.specs.Runs.{is_settled_one, steps_made}
 use Rattle.run_sources.specs.declared.source.Source.{Source}
 use Rattle.run_sources.specs.declared.source.Source.TheVariants as source
 use Rattle.run_sources.specs.Sources.{most_of, IsCounted}
@@ -19,6 +20,11 @@ counted_again most first more old middle new few before some =
     let low : some.0 ≤ more = some.1 in
     (first + some.0, omega (arith, few, low), some.2 ∙ ap (meter_after some.0) before ∙ counted_twice first some.0 old)
 
+-- those of a run that keeps work, and its own once more
+kept_few : (is_settled : Bool) (settled run : ℕ) → settled ≤ max_steps → run ≤ max_steps → steps_made is_settled settled run + run ≤ 4 * max_steps
+kept_few true settled run few room = omega (arith, few, room)
+kept_few false settled run few room = omega (arith, few, room)
+
 -- those that made a run of no more steps than a session may have, and some of its own
 pub judged_few : (source : Source) (run : RunView) (old made new : ℕ) → is_made_first source ≡ true → length run.session.steps ≤ max_steps
     → IsCounted source run old made → CountsUpTo (length run.session.steps) made new → CountsUpTo (most_judged source) old new
@@ -29,10 +35,10 @@ judged_few (source.Workload workload) run old made new first room counted some =
     counted_again (3 * max_steps) (length run.session.steps + length run.session.steps) (length run.session.steps) old made new (omega (arith, room))
     counted some
 judged_few (source.Kept kept order) run old made new first room counted some =
-    let few = counted.few in
     let settled = length counted.settled.session.steps in
-    counted_again (4 * max_steps) (settled + settled + length run.session.steps) (length run.session.steps) old made new (omega (arith, few, room))
-    counted.is some
+    let many = length run.session.steps in
+    counted_again (4 * max_steps) (steps_made (is_settled_one order kept) settled many) many old made new
+    (kept_few (is_settled_one order kept) settled many counted.few room) counted.is some
 
 pub judged_so : (source : Source) (run : RunView) (old made new : ℕ) → is_made_first source ≡ true → IsCounted source run old made
     → new ≡ meter_after (length run.session.steps) made → IsJudged source run old new

@@ -4,11 +4,11 @@ mod AlikeRows
 mod AlikeSteps
 mod BothRuns
 mod ColumnsOf
-pub mod Compared
 mod EventPlaces
 mod GainsPrinted
 pub mod KeptComings
 mod KeptEvents
+mod KnownRows
 mod LastRows
 mod MadePairs
 mod Moments

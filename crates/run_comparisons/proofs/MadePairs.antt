@@ -224,7 +224,7 @@ abbrev further_of : Session → List Edit → List Step → List Step → List P
 further_of session edits before after = paired_beyond (length (moments session.steps)) (length (moments (after_edits session edits).steps)) before after
 
 pub kept_stand_together : KeptStandTogether
-kept_stand_together session edits refused run other pair old new event kept listed found met is =
+kept_stand_together session edits refused limit run other pair old new event kept listed found met is =
     let edited = after_edits session edits in
     let before = run.session.steps in
     let after = other.session.steps in
@@ -240,7 +240,7 @@ kept_stand_together session edits refused run other pair old new event kept list
     )
 
 pub further_stand_together : FurtherStandTogether
-further_stand_together session edits refused run other pair number place later event kept listed met stands too =
+further_stand_together session edits refused limit run other pair number place later event kept listed met stands too =
     let edited = after_edits session edits in
     let before = run.session.steps in
     let after = other.session.steps in

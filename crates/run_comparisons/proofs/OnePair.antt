@@ -52,7 +52,8 @@ settled_pair_is_one session edits pair other is too =
     (subst (λ (run : RunView). AreSettledRows session edits run.session.steps other.after.session.steps other.rows) (sym before) too.rows) in
     let rows = one_list old new (shared_events session edits old new) first_places pair.rows other.rows is.rows moved in
     let refused = is.refused ∙ sym too.refused in
-    λ i. record { before = before i; after = after i; rows = rows i; refused = refused i }
+    let known = is.known ∙ sym too.known in
+    λ i. record { before = before i; after = after i; rows = rows i; refused = refused i; known = known i }
 
 pub simulated_pair_is_one : SimulatedPairIsOne
 simulated_pair_is_one run later pair other is too =
@@ -62,14 +63,16 @@ simulated_pair_is_one run later pair other is too =
     let new = later.session.steps in
     let rows = one_list old new (paired_events old new) first_places pair.rows other.rows is.rows too.rows in
     let refused = is.refused ∙ sym too.refused in
-    λ i. record { before = before i; after = after i; rows = rows i; refused = refused i }
+    let known = is.known ∙ sym too.known in
+    λ i. record { before = before i; after = after i; rows = rows i; refused = refused i; known = known i }
 
 pub kept_pair_is_one : KeptPairIsOne
-kept_pair_is_one session edits places run later pair other is too =
+kept_pair_is_one session edits places limit run later pair other is too =
     let before = is.is_before ∙ sym too.is_before in
     let after = is.is_after ∙ sym too.is_after in
     let old = run.session.steps in
     let new = later.session.steps in
     let rows = one_list old new (kept_events session edits old new) first_places pair.rows other.rows is.rows too.rows in
     let refused = is.is_refused ∙ sym too.is_refused in
-    λ i. record { before = before i; after = after i; rows = rows i; refused = refused i }
+    let known = is.is_known ∙ sym too.is_known in
+    λ i. record { before = before i; after = after i; rows = rows i; refused = refused i; known = known i }

@@ -1,5 +1,5 @@
 -- The rows at some places, and what is told of them.
-use Rattle.std.proofs.Common.{◌≡◌, ℕ, zero, suc, List, [], ◌∷◌, ◌++◌, length, filter, flat_map, Bool, true, false, not, inl, inr, refl, sym, ap, subst}
+use Rattle.std.proofs.Common.{◌≡◌, ℕ, zero, suc, List, [], ◌∷◌, ◌++◌, length, filter, flat_map, Bool, true, false, not, inl, inr, refl, sym, ap, ap₂, subst}
 use Rattle.std.proofs.Common.{◌∙◌, true≢false, arith}
 use Rattle.std.specs.Prelude.{◌⊎◌, Any, Contains, Decides, nat_le, Option, Some, None, if◌then◌else◌}
 use Rattle.std.proofs.lemmas.Bool.{le-leb, leb-true}
@@ -9,14 +9,16 @@ use Rattle.std.proofs.lemmas.List.Elements.{All-head, All-tail}
 use Rattle.std.proofs.lemmas.List.Filters.{length-filter_both}
 use Rattle.std.proofs.lemmas.List.Folds.{Any-from_list_any, list_any-from_Any}
 use Rattle.bench_types.specs.Session.{Session}
+use Rattle.kept_runs.specs.declared.known_limit.KnownLimit.{KnownLimit}
 use Rattle.run_views.specs.declared.places.Places.{Places}
 use Rattle.run_views.specs.Trace.{shows}
 use Rattle.run_comparisons.specs.declared.rows.Row.{Row}
 use Rattle.run_comparisons.specs.Comparison.{compare_text, differences_text, fared_text}
+use Rattle.run_comparisons.specs.Known.{known_before, known_behind}
 use Rattle.run_comparisons.specs.Pairs.{left_lines}
 use Rattle.run_comparisons.specs.RowWords.{differs, row_line}
-use Rattle.run_comparisons.specs.Shown.{is_shown, left_out_line, left_out_text, line_shown, lines_text, places_of, rows_left_out, shown_rows}
-use Rattle.run_comparisons.specs.ShownLaws.{AllShownAreWhole, AllShownIsCompared, AreAllShown, IsAmong, ShownAndLeftOutAreAll, ShownHavePlaces}
+use Rattle.run_comparisons.specs.Shown.{is_shown, left_out_line, left_out_text, places_of, row_told, rows_left_out}
+use Rattle.run_comparisons.specs.ShownLaws.{AllKnownIsNotTold, AllShownAreWhole, AllShownIsCompared, AreAllShown, IsAmong, ShownAndLeftOutAreAll, ShownHavePlaces}
 
 -- ---- lines, row by row
 
@@ -32,12 +34,22 @@ lines_of_those test line (row ∷ rows) = by (lines_of_those test line rows) (te
     by rest true = ap (λ lines. line row ++ lines) rest
     by rest false = rest
 
+-- lines that are the same row by row are the same
+same_lines : (one other : Row → List ℕ) (rows : List Row) → ((row : Row) → one row ≡ other row) → flat_map one rows ≡ flat_map other rows
+same_lines one other [] same = refl
+same_lines one other (row ∷ rows) same = ap₂ (λ line lines. line ++ lines) (same row) (same_lines one other rows same)
+
 -- the lines one after another, and behind them how many are left out
-pub lines_told : (shown : Option Places) (before after : Session) (rows : List Row) → flat_map (line_shown shown before after) rows ++ left_out_text shown rows ≡
-    lines_text shown before after rows
-lines_told None before after rows = append-nil (flat_map (row_line before after) rows)
-lines_told (Some places) before after rows =
-    ap (λ lines. lines ++ left_out_text (Some places) rows) (lines_of_those (is_shown places) (row_line before after) rows)
+pub all_known_is_not_told : AllKnownIsNotTold
+all_known_is_not_told None before after rows =
+    append-nil (flat_map (row_told None None before after) rows ++ [])
+    ∙ append-nil (flat_map (row_told None None before after) rows)
+    ∙ same_lines (row_told None None before after) (row_line before after) rows (λ row. refl)
+all_known_is_not_told (Some places) before after rows =
+    ap (λ lines. lines ++ left_out_text (Some places) rows)
+    (append-nil (flat_map (row_told None (Some places) before after) rows)
+    ∙ same_lines (row_told None (Some places) before after) (λ row. if is_shown places row then row_line before after row else []) rows (λ row. refl)
+    ∙ lines_of_those (is_shown places) (row_line before after) rows)
 
 -- ---- which rows are shown
 
@@ -104,11 +116,14 @@ shown_and_left_out_are_all places rows = length-filter_both (is_shown places) (�
 
 -- ---- each row is shown
 
-all_shown : (places : Places) (rows : List Row) → AreAllShown places rows → shown_rows places rows ≡ rows
-all_shown places [] all = refl
-all_shown places (row ∷ rows) all =
-    ap (λ (b : Bool). if b then row ∷ shown_rows places rows else shown_rows places rows) (All-head (λ one. is_shown places one ≡ true) row rows all)
-    ∙ ap (λ (list : List Row). row ∷ list) (all_shown places rows (All-tail (λ one. is_shown places one ≡ true) row rows all))
+all_told : (known : Option KnownLimit) (places : Places) (before after : Session) (rows : List Row) → AreAllShown places rows
+    → flat_map (row_told known (Some places) before after) rows ≡ flat_map (row_told known None before after) rows
+all_told known places before after [] all = refl
+all_told known places before after (row ∷ rows) all =
+    ap (λ (b : Bool). (known_before after.header known row ++ (if b then row_line before after row else []))
+    ++ flat_map (row_told known (Some places) before after) rows) (All-head (λ one. is_shown places one ≡ true) row rows all)
+    ∙ ap (λ (lines : List ℕ). (known_before after.header known row ++ row_line before after row) ++ lines)
+    (all_told known places before after rows (All-tail (λ one. is_shown places one ≡ true) row rows all))
 
 none_left_out : (places : Places) (rows : List Row) → AreAllShown places rows → rows_left_out places rows ≡ []
 none_left_out places [] all = refl
@@ -118,10 +133,9 @@ none_left_out places (row ∷ rows) all =
     ∙ none_left_out places rows (All-tail (λ one. is_shown places one ≡ true) row rows all)
 
 pub all_shown_are_whole : AllShownAreWhole
-all_shown_are_whole places before after rows all =
-    ap (λ (list : List Row). flat_map (row_line before after) list ++ left_out_line (length (rows_left_out places rows))) (all_shown places rows all)
-    ∙ ap (λ (list : List Row). flat_map (row_line before after) rows ++ left_out_line (length list)) (none_left_out places rows all)
-    ∙ append-nil (flat_map (row_line before after) rows)
+all_shown_are_whole known places before after rows all =
+    ap₂ (λ (lines : List ℕ) (list : List Row). lines ++ known_behind after.header known rows ++ left_out_line (length list))
+    (all_told known places before after rows all) (none_left_out places rows all)
 
 pub all_shown_is_compared : AllShownIsCompared
 unfolding compare_text
@@ -130,4 +144,4 @@ all_shown_is_compared places pair all =
     let after = pair.after.session in
     ap (λ (lines : List ℕ). (lines ++ differences_text pair.refused (filter (differs before after) pair.rows)) ++ fared_text before after ++ left_lines pair.before
     pair.after)
-    (all_shown_are_whole places before after pair.rows all)
+    (all_shown_are_whole pair.known places before after pair.rows all)

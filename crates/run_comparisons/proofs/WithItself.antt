@@ -164,11 +164,12 @@ settled_own session pair is =
     let moved = subst (λ (one : RunView). AreSettledRows session [] run one.session.steps pair.rows) after is.rows in
     let rows = one_list run run events first_places pair.rows (diagonal 0 (length run)) moved aligned in
     let refused = is.refused in
-    λ i. record { before = pair.before; after = after i; rows = rows i; refused = refused i }
+    let known = is.known in
+    λ i. record { before = pair.before; after = after i; rows = rows i; refused = refused i; known = known i }
 
 written_own : (session : Session) → edited_pair session [] ≡ with_itself (as_written session)
 written_own session =
-    let put : List Row → PairView = λ rows. record { before = as_written session; after = as_written session; rows = rows; refused = [] } in
+    let put : List Row → PairView = λ rows. record { before = as_written session; after = as_written session; rows = rows; refused = []; known = None } in
     ap put (own_rows session)
 
 pub alone_is_with_itself : AloneIsWithItself
@@ -193,4 +194,5 @@ kept_alone_is_with_itself session view pair is =
     let before = is.is_before in
     let after = is.is_after in
     let refused = is.is_refused in
-    λ i. record { before = before i; after = after i; rows = rows i; refused = refused i }
+    let known = is.is_known in
+    λ i. record { before = before i; after = after i; rows = rows i; refused = refused i; known = known i }

@@ -2,6 +2,7 @@
 use Rattle.std.specs.Prelude.{◌≡◌, ◌↔◌, ℕ, List, [], ◌∷◌, ◌++◌, All, filter, flat_map, codes, decimal, false, Option, Some, None}
 use Rattle.bench_types.specs.Session.{Session}
 use Rattle.bench_model.specs.Tally.{tallies}
+use Rattle.kept_runs.specs.declared.known_limit.KnownLimit.{KnownLimit}
 use Rattle.run_views.specs.declared.places.Places.{Places}
 use Rattle.run_comparisons.specs.declared.rows.Row.{Row}
 use Rattle.run_comparisons.specs.declared.rows.Row.TheVariants.{Both, Removed, Inserted}
@@ -66,11 +67,13 @@ NoDifferenceIsSaid =
     → SaysNoDifference (differences_text refused (filter (differs before after) rows))
     ↔ All (λ row. differs before after row ≡ false) rows
 
--- Rows of two runs, all of them or those at the places alone, and the places of
--- the edits that are refused. Where the runs differ first and last is told of all rows.
-abbrev pub rows_text : Option Places → Session → Session → List ℕ → List Row → List ℕ
-rows_text shown before after refused rows =
-    lines_text shown before after rows
+-- Rows of two runs, all of them or those at the places alone, with up to where the run after the
+-- edits is known, and the places of the edits that are refused. Where the runs differ first and
+-- last is told of all rows.
+abbrev pub rows_text :
+    Option KnownLimit → Option Places → Session → Session → List ℕ → List Row → List ℕ
+rows_text known shown before after refused rows =
+    lines_text known shown before after rows
     ++ differences_text refused (filter (differs before after) rows)
 
 -- a line for each task that fared otherwise
@@ -79,9 +82,10 @@ fared_text before after =
     gains_text before.header (tallies before.header before.steps)
     (tallies after.header after.steps)
 
--- Lines of rows, all of them or those at the places alone, then where the two runs differ first and
--- last, then what each task gained and lost, then the calls that were not made.
+-- Lines of rows, all of them or those at the places alone, with a line up to where the run after
+-- the edits is known, then where the two runs differ first and last, then what each task gained and
+-- lost, then the calls that were not made.
 unfoldable pub compare_text : Option Places → PairView → List ℕ
 compare_text shown pair =
-    rows_text shown pair.before.session pair.after.session pair.refused pair.rows
+    rows_text pair.known shown pair.before.session pair.after.session pair.refused pair.rows
     ++ fared_text pair.before.session pair.after.session ++ left_lines pair.before pair.after

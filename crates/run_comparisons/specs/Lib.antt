@@ -2,6 +2,7 @@ pub mod Alike
 pub mod Columns
 pub mod Comparison
 pub mod Gains
+pub mod Known
 pub mod Made
 pub mod PairLaws
 pub mod Pairs

@@ -1,9 +1,10 @@
 -- What the rows of two runs have to do with their steps.
-use Rattle.std.specs.Prelude.{◌≡◌, ◌⊎◌, ◌+◌, ℕ, suc, List, [], ◌++◌, Bool, Contains, length, map, true, Some, slice_get}
+use Rattle.std.specs.Prelude.{◌≡◌, ◌⊎◌, ◌+◌, ℕ, suc, List, [], ◌++◌, Bool, Contains, length, map, true, Option, Some, None, slice_get}
 use Rattle.bench_types.specs.declared.edit.Edit.{Edit}
 use Rattle.bench_types.specs.declared.step.Step.{Step}
 use Rattle.bench_types.specs.Session.{Session}
 use Rattle.bench_model.specs.Edits.{after_edits}
+use Rattle.kept_runs.specs.declared.known_limit.KnownLimit.{KnownLimit}
 use Rattle.kept_runs.specs.KeptLaws.{comings}
 use Rattle.settled_runs.specs.SettleLaws.{comes_from_outside}
 use Rattle.session_runs.specs.Run.{RunView}
@@ -24,7 +25,7 @@ IsOfSettled pair = (session : Session) × (edits : List Edit) × IsSettledPair s
 abbrev pub IsOfKept : PairView → Type 0
 IsOfKept pair =
     (session : Session) × (edits : List Edit)
-    × IsKeptPair session edits pair.refused pair.before pair.after pair
+    × IsKeptPair session edits pair.refused pair.known pair.before pair.after pair
 
 -- runs that were made: settled, simulated, or such that keep work
 abbrev pub IsMadePair : PairView → Type 0
@@ -68,9 +69,9 @@ SharedStandTogether =
 -- A tick or an interrupt that both sessions have stands in a row of both runs that keep work.
 abbrev pub KeptStandTogether : Type 0
 KeptStandTogether =
-    (session : Session) (edits : List Edit) (refused : List ℕ) (before after : RunView)
-    (pair : PairView) (old new : ℕ) (event : Step)
-    → IsKeptPair session edits refused before after pair
+    (session : Session) (edits : List Edit) (refused : List ℕ) (known : Option KnownLimit)
+    (before after : RunView) (pair : PairView) (old new : ℕ) (event : Step)
+    → IsKeptPair session edits refused known before after pair
     → Contains (rows_of session edits) (Both old new) → slice_get session.steps old ≡ Some event
     → slice_get (after_edits session edits).steps new ≡ Some event → is_moment event ≡ true →
     (place : ℕ) × (later : ℕ) × Contains pair.rows (Both place later)
@@ -81,9 +82,9 @@ KeptStandTogether =
 -- in both runs, as the second in both, and so on.
 abbrev pub FurtherStandTogether : Type 0
 FurtherStandTogether =
-    (session : Session) (edits : List Edit) (refused : List ℕ) (before after : RunView)
-    (pair : PairView) (number place later : ℕ) (event : Step)
-    → IsKeptPair session edits refused before after pair
+    (session : Session) (edits : List Edit) (refused : List ℕ) (known : Option KnownLimit)
+    (before after : RunView) (pair : PairView) (number place later : ℕ) (event : Step)
+    → IsKeptPair session edits refused known before after pair
     → slice_get (moments before.session.steps) (length (moments session.steps) + number)
     ≡ Some place
     → slice_get (moments after.session.steps)
@@ -165,9 +166,10 @@ SimulatedPairIsOne =
 -- and one of two runs that keep work
 abbrev pub KeptPairIsOne : Type 0
 KeptPairIsOne =
-    (session : Session) (edits : List Edit) (refused : List ℕ) (before after : RunView)
-    (pair other : PairView) → IsKeptPair session edits refused before after pair
-    → IsKeptPair session edits refused before after other → pair ≡ other
+    (session : Session) (edits : List Edit) (refused : List ℕ) (known : Option KnownLimit)
+    (before after : RunView) (pair other : PairView)
+    → IsKeptPair session edits refused known before after pair
+    → IsKeptPair session edits refused known before after other → pair ≡ other
 
 -- without edits a run stands beside itself, as its steps stand and settled
 abbrev pub AloneIsWithItself : Type 0
@@ -179,5 +181,5 @@ AloneIsWithItself =
 -- so does a run that keeps work
 abbrev pub KeptAloneIsWithItself : Type 0
 KeptAloneIsWithItself =
-    (session : Session) (run : RunView) (pair : PairView) → IsKeptPair session [] [] run run pair
-    → pair ≡ with_itself run
+    (session : Session) (run : RunView) (pair : PairView)
+    → IsKeptPair session [] [] None run run pair → pair ≡ with_itself run

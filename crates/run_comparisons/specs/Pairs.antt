@@ -1,10 +1,11 @@
 -- Two runs beside each other: the run before edits, and that after them.
-use Rattle.std.specs.Prelude.{◌≡◌, ℕ, List, [], ◌∷◌, ◌++◌, codes, flat_map, length, map, true}
+use Rattle.std.specs.Prelude.{◌≡◌, ℕ, List, [], ◌∷◌, ◌++◌, codes, flat_map, length, map, min, true, Option, None, option_map}
 use Rattle.list_orders.specs.Search.{numbers}
 use Rattle.bench_types.specs.declared.edit.Edit.{Edit}
 use Rattle.bench_types.specs.declared.header.Header.{Header}
 use Rattle.bench_types.specs.Session.{Session}
 use Rattle.bench_model.specs.Edits.{after_edits}
+use Rattle.kept_runs.specs.declared.known_limit.KnownLimit.{KnownLimit}
 use Rattle.session_edits.specs.Refused.{refused_places}
 use Rattle.settled_runs.specs.declared.waiting_call.WaitingCall.{WaitingCall}
 use Rattle.session_runs.specs.Run.{IsRunOf, RunView}
@@ -24,11 +25,19 @@ pub record PairView : Type 0 where
   pub rows : List Row
   -- the places of the edits that are refused
   pub refused : List ℕ
+  -- up to where the run after the edits is known; all of it where there is none
+  pub known : Option KnownLimit
 
 -- the one run of the pair
 abbrev pub run_of : Side → PairView → RunView
 run_of Before pair = pair.before
 run_of After pair = pair.after
+
+-- the place up to which the run after the edits is known, at most the end of the run; none where
+-- all of it is known
+abbrev pub known_place : PairView → Option ℕ
+known_place pair =
+    option_map (λ limit. min limit.place (length pair.after.session.steps)) pair.known
 
 -- each step of either run stands in one row, in its order
 pub record EachStandsOnce (before after : RunView) (rows : List Row) : Type 0 where
@@ -48,6 +57,7 @@ edited_pair session edits = record {
   after = as_written (after_edits session edits);
   rows = rows_of session edits;
   refused = refused_places session edits;
+  known = None;
 }
 
 -- the settled runs of both
@@ -57,6 +67,7 @@ pub record IsSettledPair (session : Session) (edits : List Edit) (pair : PairVie
   pub rows : AreSettledRows session edits pair.before.session.steps pair.after.session.steps
       pair.rows
   pub refused : pair.refused ≡ refused_places session edits
+  pub known : pair.known ≡ None
 
 -- these two runs of workloads; no edit of a workload is refused
 pub record IsSimulatedPair (before after : RunView) (pair : PairView) : Type 0 where
@@ -64,17 +75,19 @@ pub record IsSimulatedPair (before after : RunView) (pair : PairView) : Type 0 w
   pub is_after : pair.after ≡ after
   pub rows : AreSimulatedRows before.session.steps after.session.steps pair.rows
   pub refused : pair.refused ≡ []
+  pub known : pair.known ≡ None
 
 -- these two runs that keep work, of a session and of the session after edits of it; edits are
--- refused at these places
+-- refused at these places, and so far the run after the edits is known
 pub record IsKeptPair (session : Session) (edits : List Edit) (refused : List ℕ)
-    (before after : RunView) (pair : PairView) : Type 0 where
+    (known : Option KnownLimit) (before after : RunView) (pair : PairView) : Type 0 where
   pub is_before : pair.before ≡ before
   pub is_after : pair.after ≡ after
   pub of_session : AreMomentsOf session.steps before.session.steps
   pub of_edited : AreMomentsOf (after_edits session edits).steps after.session.steps
   pub rows : AreKeptRows session edits before.session.steps after.session.steps pair.rows
   pub is_refused : pair.refused ≡ refused
+  pub is_known : pair.known ≡ known
 
 -- a run beside itself
 abbrev pub with_itself : RunView → PairView
@@ -83,6 +96,7 @@ with_itself run = record {
   after = run;
   rows = map (λ place. Both place place) (numbers (length run.session.steps));
   refused = [];
+  known = None;
 }
 
 -- ---- the calls that were not made

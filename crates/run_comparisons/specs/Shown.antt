@@ -2,9 +2,11 @@
 use Rattle.std.specs.Prelude.{ℕ, List, [], ◌++◌, ◌==◌, length, filter, flat_map, codes, decimal, Bool, true, not, Option, Some, None, if◌then◌else◌}
 use Rattle.std.specs.List.{list_any}
 use Rattle.bench_types.specs.Session.{Session}
+use Rattle.kept_runs.specs.declared.known_limit.KnownLimit.{KnownLimit}
 use Rattle.run_views.specs.declared.places.Places.{Places}
 use Rattle.run_views.specs.Trace.{shows}
 use Rattle.run_comparisons.specs.declared.rows.Row.{Row}
+use Rattle.run_comparisons.specs.Known.{known_before, known_behind}
 use Rattle.run_comparisons.specs.Rows.{place_after, place_before}
 use Rattle.run_comparisons.specs.RowWords.{row_line}
 
@@ -43,13 +45,15 @@ abbrev pub line_shown : Option Places → Session → Session → Row → List �
 line_shown shown before after row =
     if is_row_shown shown row then row_line before after row else []
 
--- a line for each row that is shown, and how many are left out
-abbrev pub shown_rows_text : Places → Session → Session → List Row → List ℕ
-shown_rows_text places before after rows =
-    flat_map (row_line before after) (shown_rows places rows)
-    ++ left_out_line (length (rows_left_out places rows))
+-- The same, and before it up to where the run after the edits is known, which is told also where
+-- the row is not shown.
+abbrev pub row_told : Option KnownLimit → Option Places → Session → Session → Row → List ℕ
+row_told known shown before after row =
+    known_before after.header known row ++ line_shown shown before after row
 
--- the same where there are places; without them a line for each row
-abbrev pub lines_text : Option Places → Session → Session → List Row → List ℕ
-lines_text None before after rows = flat_map (row_line before after) rows
-lines_text (Some places) before after rows = shown_rows_text places before after rows
+-- row by row, and how many rows are left out
+abbrev pub lines_text :
+    Option KnownLimit → Option Places → Session → Session → List Row → List ℕ
+lines_text known shown before after rows =
+    flat_map (row_told known shown before after) rows ++ known_behind after.header known rows
+    ++ left_out_text shown rows

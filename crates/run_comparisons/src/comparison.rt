@@ -2,40 +2,46 @@
 ghost use Rattle.std.specs.Prelude.{◌≡◌, ◌++◌, IfOk, OnOk, filter, flat_map, map, string_bytes};
 ghost use Rattle.list_orders.specs.Search.{numbers};
 ghost use Rattle.run_comparisons.specs.declared.rows.Row.TheVariants.{Both};
-ghost use Rattle.run_comparisons.specs.Comparison.{compare_text, differences_text, ends_text, fared_text, first_text, further_text, last_text, no_difference_text, not_made_line, not_made_text, places_text, rows_text};
+ghost use Rattle.run_comparisons.specs.Comparison.{compare_text, differences_text, ends_text, fared_text, first_text, further_text, last_text, no_difference_text, not_made_line, not_made_text, places_text};
 ghost use Rattle.run_comparisons.specs.RowWords.{differs};
 ghost use Rattle.run_comparisons.specs.Pairs.{with_itself};
-ghost use Rattle.run_comparisons.specs.Shown.{line_shown};
+ghost use Rattle.run_comparisons.specs.Shown.{lines_text, row_told};
 
 use crate::gains::push_gains;
+use crate::known::{push_known_before, push_known_behind};
 use crate::left::push_left_lines;
 use crate::pair::RunPair;
 use crate::row_words::{push_place, push_row_shown};
 use crate::rows::Row;
 use crate::run_reader::RunReader;
 use crate::shown::push_left_out;
+use kept_runs::KnownLimit;
 use run_views::Places;
 use session_runs::Run;
 use std::alloc::{AllocError, Global};
 
-// Writes the rows that are shown, and gives those in which the runs differ, shown or not.
+// Writes the rows that are shown, and before its row up to where the run after the edits is known.
+// Gives the rows in which the runs differ, shown or not.
 fn push_lines(
     alloc: Global,
     text: &mut String,
     before: &mut RunReader<'_>,
     after: &mut RunReader<'_>,
+    known: Option<KnownLimit>,
     shown: Option<Places>,
     rows: &[Row],
 ) -> Result<Vec<Row>, AllocError>
     ensures lines { OnOk result
         (string_bytes text.new
-        ≡ string_bytes text.old ++ flat_map (line_shown shown before.old after.old) rows.now) }
+        ≡ string_bytes text.old
+        ++ flat_map (row_told known shown before.old after.old) rows.now) }
     ensures differing { IfOk result
         (λ differing. differing.items ≡ filter (differs before.old after.old) rows.now) }
 {
     let named_alike = before.is_named_alike(after);
     let mut differing = Vec::new(alloc);
     for row in rows {
+        push_known_before(text, after.header(), known, *row)?;
         if push_row_shown(alloc, text, before, after, shown, named_alike, *row)? {
             differing.push(*row)?;
         }
@@ -136,27 +142,31 @@ fn push_differences(text: &mut String, refused: &[usize], rows: &[Row]) -> Resul
     }
 }
 
-// Writes the rows, all of them or those at the places alone, and where the runs differ first and
-// last. Where they do not, the edits that were refused are told.
+// Writes the rows, all of them or those at the places alone, with up to where the run after the
+// edits is known. Gives the rows in which the runs differ, shown or not.
 fn push_rows_text(
     alloc: Global,
     text: &mut String,
     before: &Run,
     after: &Run,
-    refused: &[usize],
+    known: Option<KnownLimit>,
     shown: Option<Places>,
     rows: &[Row],
-) -> Result<(), AllocError>
-    ensures { OnOk result
+) -> Result<Vec<Row>, AllocError>
+    ensures lines { OnOk result
         (string_bytes text.new
         ≡ string_bytes text.old
-        ++ rows_text shown before.now.session after.now.session refused.now rows.now) }
+        ++ lines_text known shown before.now.session after.now.session rows.now) }
+    ensures differing { IfOk result
+        (λ differing. differing.items
+        ≡ filter (differs before.now.session after.now.session) rows.now) }
 {
     let mut earlier = RunReader::of(alloc, before)?;
     let mut later = RunReader::of(alloc, after)?;
-    let differing = push_lines(alloc, text, &mut earlier, &mut later, shown, rows)?;
+    let differing = push_lines(alloc, text, &mut earlier, &mut later, known, shown, rows)?;
+    push_known_behind(text, after.session().header(), known, rows)?;
     push_left_out(text, shown, rows)?;
-    push_differences(text, refused, differing.as_slice())
+    Ok(differing)
 }
 
 // Writes what each task gained and lost.
@@ -178,6 +188,7 @@ fn compared(
     after: &Run,
     rows: &[Row],
     refused: &[usize],
+    known: Option<KnownLimit>,
     shown: Option<Places>,
 ) -> Result<String, AllocError>
     ensures { IfOk result
@@ -187,17 +198,21 @@ fn compared(
           after = after.now;
           rows = rows.now;
           refused = refused.now;
+          known = known;
         })) }
 {
     let mut text = String::new(alloc);
-    push_rows_text(alloc, &mut text, before, after, refused, shown, rows)?;
+    let differing = push_rows_text(alloc, &mut text, before, after, known, shown, rows)?;
+    // Where the runs differ in no row, the edits that were refused are told.
+    push_differences(&mut text, refused, differing.as_slice())?;
     push_fared(alloc, &mut text, before, after)?;
     push_left_lines(&mut text, before, after)?;
     Ok(text)
 }
 
 /// The run before the edits beside the run after them: a line for each step of either, where they
-/// differ first and last, what each task gained and lost, and the calls that were not made.
+/// differ first and last, what each task gained and lost, and the calls that were not made. Where
+/// the run after the edits is known up to a place alone, a line tells so before the step there.
 ///
 /// With places there are lines for the steps at them alone, by their places before the edits or
 /// after them, and how many lines are left out. The rest is told of the whole runs.
@@ -210,6 +225,7 @@ pub fn compare(alloc: Global, pair: &RunPair, shown: Option<Places>) -> Result<S
         pair.after(),
         pair.rows(),
         pair.refused(),
+        pair.known(),
         shown,
     )
 }
@@ -238,5 +254,5 @@ pub fn compare_with_itself(
     ensures { IfOk result (λ text. string_bytes text ≡ compare_text shown (with_itself run.now)) }
 {
     let rows = rows_of_both(alloc, run.session().steps().len() as u32)?;
-    compared(alloc, run, run, rows.as_slice(), &[], shown)
+    compared(alloc, run, run, rows.as_slice(), &[], None, shown)
 }

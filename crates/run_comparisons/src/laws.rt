@@ -2,7 +2,7 @@
 ghost use Rattle.run_comparisons.specs.Comparison.{NoDifferenceIsSaid};
 ghost use Rattle.run_comparisons.specs.PairLaws.{AlikeAreNotApart, AloneIsWithItself, ComingsAreMoments, EachStands, FurtherStandTogether, KeptAloneIsWithItself, KeptPairIsOne, KeptStandTogether, MomentsStandTogether, RowsAreAlike, SettledPairIsOne, SharedStandTogether, SimulatedPairIsOne};
 ghost use Rattle.run_comparisons.specs.RowLaws.{MovedStandTogether, RowsAreOfOne};
-ghost use Rattle.run_comparisons.specs.ShownLaws.{AllShownAreWhole, AllShownIsCompared, ShownAndLeftOutAreAll, ShownHavePlaces};
+ghost use Rattle.run_comparisons.specs.ShownLaws.{AllKnownIsNotTold, AllShownAreWhole, AllShownIsCompared, KnownIsToldOnce, ShownAndLeftOutAreAll, ShownHavePlaces};
 
 /// The rows of two runs. It does nothing: its contract is the laws.
 pub fn laws_of_rows()
@@ -64,4 +64,12 @@ pub fn laws_of_shown_rows()
     // places.
     ensures whole { AllShownAreWhole }
     ensures compared { AllShownIsCompared }
+{}
+
+/// Up to where the run after the edits is known. It does nothing: its contract is the laws.
+pub fn laws_of_known_rows()
+    // Where all of it is known, the rows alone are told.
+    ensures alone { AllKnownIsNotTold }
+    // Else it is told once, whichever rows are shown.
+    ensures once { KnownIsToldOnce }
 {}

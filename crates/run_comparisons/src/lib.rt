@@ -7,6 +7,7 @@ mod columns;
 mod comparison;
 mod event_kind;
 mod gains;
+mod known;
 pub mod laws;
 mod left;
 mod made;
@@ -23,6 +24,7 @@ mod side_by_side;
 
 pub use columns::{Side, columns_of, law_of_columns};
 pub use comparison::{compare, compare_with_itself};
+pub use known::push_known;
 pub use left::push_left_lines;
 pub use pair::RunPair;
 pub use refusals::{has_refusal, refused_places};

@@ -1,13 +1,14 @@
 //! Two runs beside each other.
 ghost use Rattle.std.specs.Prelude.{◌≡◌, ◌+◌, ◌<◌, ◌^◌, IfOk, length, true, false};
 ghost use Rattle.bench_model.specs.Edits.{after_edits};
-ghost use Rattle.run_comparisons.specs.Pairs.{edited_pair, EachStandsOnce, IsKeptPair, IsSettledPair, IsSimulatedPair};
+ghost use Rattle.run_comparisons.specs.Pairs.{edited_pair, known_place, EachStandsOnce, IsKeptPair, IsSettledPair, IsSimulatedPair};
 ghost use Rattle.run_comparisons.specs.Shared.{AreMomentsOf};
 ghost use Rattle.session_runs.specs.Run.{IsRunOf};
 
 use crate::refusals::refused_places;
 use crate::rows::{Row, edited_rows};
 use crate::side_by_side::{kept_rows, settled_rows, simulated_rows};
+use kept_runs::KnownLimit;
 use session_edits::EditedSession;
 use session_runs::Run;
 use std::alloc::{AllocError, Global};
@@ -15,13 +16,14 @@ use std::marker::Model;
 
 /// A run before edits and the run after them, with the rows in which their steps stand beside each
 /// other, and the places of the edits that are refused. Each step of either run stands in one row,
-/// in the order of that run.
+/// in the order of that run. A run that keeps work may be known up to a place alone.
 #[derive(Debug, Drop)]
 pub struct RunPair {
     before: Run,
     after: Run,
     rows: Vec<Row>,
     refused: Vec<usize>,
+    known: Option<KnownLimit>,
 }
 
 impl Model for RunPair {
@@ -35,14 +37,22 @@ impl Model for RunPair {
           after = pair.after;
           rows = pair.rows.items;
           refused = pair.refused.items;
+          known = pair.known;
         } };
 
     ghost invariant = { λ pair. EachStandsOnce pair.before pair.after pair.rows.items };
 }
 
 impl RunPair {
-    // Of these runs and rows, and edits that are refused at these places.
-    fn of_parts(before: Run, after: Run, rows: Vec<Row>, refused: Vec<usize>) -> RunPair
+    // Of these runs and rows, and edits that are refused at these places. So far the run after them
+    // is known.
+    fn of_parts(
+        before: Run,
+        after: Run,
+        rows: Vec<Row>,
+        refused: Vec<usize>,
+        known: Option<KnownLimit>,
+    ) -> RunPair
         requires { EachStandsOnce before after rows.items }
         ensures { result
             ≡ record {
@@ -50,6 +60,7 @@ impl RunPair {
               after = after;
               rows = rows.items;
               refused = refused.items;
+              known = known;
             } }
     {
         RunPair {
@@ -57,6 +68,7 @@ impl RunPair {
             after,
             rows,
             refused,
+            known,
         }
     }
 
@@ -74,7 +86,7 @@ impl RunPair {
     {
         let rows = edited_rows(alloc, edited)?;
         let refused = refused_places(alloc, edited)?;
-        Ok(RunPair::of_parts(before, after, rows, refused))
+        Ok(RunPair::of_parts(before, after, rows, refused, None))
     }
 
     /// The settled run of the session and that of the session after the edits.
@@ -93,7 +105,7 @@ impl RunPair {
     {
         let rows = settled_rows(alloc, edited, &before, &after)?;
         let refused = refused_places(alloc, edited)?;
-        Ok(RunPair::of_parts(before, after, rows, refused))
+        Ok(RunPair::of_parts(before, after, rows, refused, None))
     }
 
     /// The runs of two workloads. No edit of a workload is refused.
@@ -101,28 +113,29 @@ impl RunPair {
         ensures { IfOk result (λ pair. IsSimulatedPair before after pair) }
     {
         let rows = simulated_rows(alloc, &before, &after)?;
-        Ok(RunPair::of_parts(before, after, rows, Vec::new(alloc)))
+        Ok(RunPair::of_parts(before, after, rows, Vec::new(alloc), None))
     }
 
     /// The run that keeps work of the session, and that of the session after the edits. Edits are
-    /// refused at these places.
+    /// refused at these places, and so far the run after them is known.
     pub fn of_kept(
         alloc: Global,
         edited: &EditedSession,
         before: Run,
         after: Run,
         refused: Vec<usize>,
+        known: Option<KnownLimit>,
     ) -> Result<RunPair, AllocError>
         // The ticks and interrupts of each are those of its run; behind them further ones may come.
         requires before { AreMomentsOf edited.now.session.steps before.session.steps }
         requires after { AreMomentsOf (after_edits edited.now.session edited.now.edits).steps
             after.session.steps }
         ensures { IfOk result
-            (λ pair. IsKeptPair edited.now.session edited.now.edits refused.items before after
-            pair) }
+            (λ pair. IsKeptPair edited.now.session edited.now.edits refused.items known before
+            after pair) }
     {
         let rows = kept_rows(alloc, edited, &before, &after)?;
-        Ok(RunPair::of_parts(before, after, rows, refused))
+        Ok(RunPair::of_parts(before, after, rows, refused, known))
     }
 
     /// The run before the edits.
@@ -156,5 +169,22 @@ impl RunPair {
         ensures { result.now ≡ self.now.refused }
     {
         self.refused.as_slice()
+    }
+
+    /// Up to where the run after the edits is known; all of it where there is none.
+    pub fn known(&self) -> Option<KnownLimit>
+        ensures { result ≡ self.now.known }
+    {
+        self.known
+    }
+
+    /// The place up to which the run after the edits is known, at most the end of the run; none
+    /// where all of it is known.
+    pub fn known_place(&self) -> Option<u32>
+        ensures { result ≡ known_place self.now }
+    {
+        let end = self.after.session().steps().len();
+        let limit = self.known?;
+        Some(limit.place.min(end) as u32)
     }
 }

@@ -6,6 +6,7 @@ ghost use Rattle.run_comparisons.specs.Printed.{printed_at};
 use crate::made::{MadeStep, are_named_alike};
 use crate::printed::{Printed, no_step, printed_of};
 use crate::shared::step_at;
+use bench_types::Header;
 use session_runs::{Run, RunWalk};
 use std::alloc::{AllocError, Global};
 use std::marker::Model;
@@ -36,6 +37,13 @@ impl<'a> RunReader<'a> {
     {
         let walk = run.walk(alloc)?;
         Ok(RunReader { run, walk })
+    }
+
+    /// The header of the session.
+    pub(crate) fn header(&self) -> &Header
+        ensures { result.now ≡ self.now.header }
+    {
+        self.run.session().header()
     }
 
     /// Whether each task has one name in both runs.

@@ -1,8 +1,9 @@
--- A sign stands in the legend just where a bar of such an ink, or such a mark, is drawn.
-use Rattle.std.proofs.Common.{◌≡◌, ◌<◌, ℕ, ◌+◌, ◌-◌, List, [], ◌∷◌, ◌++◌, flat_map, length, map, get_or, nat_lt, Bool, true, false, Option, Some, None, inl, inr, refl, sym, ap}
+-- A sign stands in the legend just where a bar of such an ink, or such a mark, is drawn, and that of what is not known where a place is not.
+use Rattle.std.proofs.Common.{◌≡◌, ◌<◌, ◌≤◌, max, ℕ, ◌+◌, ◌-◌, List, [], ◌∷◌, ◌++◌, flat_map, length, map, get_or, nat_lt, Bool, true, false, Option, Some, None, inl, inr, refl, sym, ap}
 use Rattle.std.proofs.Common.{subst, ◌∙◌, cond, true≢false, arith}
 use Rattle.std.specs.Prelude.{◌||◌, ◌==◌, ◌%◌, Contains, Decides, is_some, nat_eq, not, slice_index_or, if◌then◌else◌}
 use Rattle.std.specs.List.{list_any, position_or_len}
+use Rattle.std.specs.Option.{option_and_then}
 use Rattle.std.proofs.lemmas.Bool.Decides.{nat_tests}
 use Rattle.std.proofs.lemmas.List.{get_or_default}
 use Rattle.std.proofs.lemmas.List.Elements.{Contains-append_cases, Contains-append_left, Contains-append_right, Contains-get_or}
@@ -35,7 +36,7 @@ use Rattle.run_pictures.specs.Bars.{all_bars, bar_over, changed_bars, core_bars,
 use Rattle.run_pictures.specs.Bars.{inherited_bars, inherited_shape, messages_shape, mutex_bars, mutex_top, off_bars, off_shape, pose_bars, pose_shape, queue_bars}
 use Rattle.run_pictures.specs.Bars.{queue_top, step_bars, step_shape, taken_bars, task_bars, task_top, tick_bars, tick_shape, where_drawn}
 use Rattle.run_pictures.specs.Ink.{task_ink, tick_ink}
-use Rattle.run_pictures.specs.LegendLaws.{sign_of, sign_of_mark, IsDrawn}
+use Rattle.run_pictures.specs.LegendLaws.{sign_of, sign_of_mark, HasUnknown, IsDrawn}
 use Rattle.run_pictures.specs.Marks.{mark_at}
 use Rattle.run_pictures.specs.MutexLines.{is_taken, taken_mutexes}
 use Rattle.run_pictures.specs.Poses.{detail_for, detailed_stretches, opening, pose_in, pose_stretches, stands_ready}
@@ -52,6 +53,7 @@ use Rattle.run_pictures.specs.StretchValues.{stances_decided}
 use Rattle.run_pictures.specs.TaskBands.{stance_ink, stance_shape, stance_stretch}
 use Rattle.run_pictures.specs.TaskStretches.{core_in, current_in, current_stretches, due_in, due_stretches, hold_in, hold_stretches, holder_in, holder_stretches}
 use Rattle.run_pictures.specs.TaskStretches.{message_stretches, messages_in, own_hold, priorities_in, priority_stretches, stance_stretches, tick_in, tick_stretches}
+use Rattle.run_pictures.specs.Unknown.{is_pale}
 use Rattle.run_pictures.proofs.Members.{any_from, any_to, filter_from, filter_to, flat_from, flat_to, here, here_or, map_from, map_to, none, number_from}
 use Rattle.run_pictures.proofs.Members.{number_to, value_from, value_to, HasValue}
 use Rattle.run_pictures.proofs.Placed.{flat_mapped}
@@ -592,9 +594,21 @@ module _ (shown : Shown) (top : ℕ)
   by_mark k mark.Refused within made = any_to (λ k. is_refusal (mark_at shown.run_looks.made k)) (numbers (length looks)) k
       (number_to (length looks) k within) (ap is_refusal made)
 
+  -- where that makes a place that is shown pale
+  abbrev pale : ℕ → Option ℕ
+  pale place = if is_pale shown.frame (length looks) place then Some place else None
+
+  by_unknown : (has : HasUnknown shown sign.Unknown) → IsUsed sign.Unknown
+  by_unknown has =
+      let there : is_pale shown.frame (length looks) has.from ≡ true = grind (arith, nat_tests, has.within, has.behind) in
+      ap (λ (known : Option ℕ). is_some (option_and_then pale known)) has.known ∙ ap (λ b. is_some (if b then Some has.from else None)) there
+
   pub drawn_used : (wanted : Sign) → IsDrawn shown top wanted → IsUsed wanted
   drawn_used wanted (inl has) = by_bar has.bar wanted has.so has.drawn
-  drawn_used wanted (inr has) = subst IsUsed has.so (by_mark has.k has.mark has.within has.made)
+  drawn_used wanted (inr (inl has)) = subst IsUsed has.so (by_mark has.k has.mark has.within has.made)
+  drawn_used wanted (inr (inr has)) =
+      subst IsUsed (sym has.so)
+      (by_unknown (record { from = has.from; known = has.known; k = has.k; within = has.within; behind = has.behind; so = refl }))
 
   -- ---- what is used is drawn
 
@@ -651,6 +665,15 @@ module _ (shown : Shown) (top : ℕ)
   refusal_is (Some mark.Interrupt) is = absurd (true≢false (sym is))
   refusal_is (Some mark.Refused) is = refl
 
+  taken_if : (b : Bool) (place : ℕ) → is_some (if b then Some place else None) ≡ true → b ≡ true
+  taken_if true place is = refl
+  taken_if false place is = absurd (true≢false (sym is))
+
+  known_is : (known : Option ℕ) → is_some (option_and_then pale known) ≡ true
+      → (place : ℕ) × (known ≡ Some place) × (is_pale shown.frame (length looks) place ≡ true)
+  known_is None is = absurd (true≢false (sym is))
+  known_is (Some place) is = (place, refl, taken_if (is_pale shown.frame (length looks) place) place is)
+
   pub used_drawn : (wanted : Sign) → IsUsed wanted → IsDrawn shown top wanted
   used_drawn sign.Running used =
       let seen = some_core (λ one. not (nat_lt one.current cores)) used in
@@ -696,19 +719,30 @@ module _ (shown : Shown) (top : ℕ)
       inl (record { bar = drawn.0; drawn = drawn.1; so = drawn.2 })
   used_drawn sign.Interrupt used =
       let seen = any_from (λ k. is_interrupt (mark_at shown.run_looks.made k)) (numbers (length looks)) used in
-      inr (record {
+      inr (inl (record {
         k = seen.0;
         within = number_from (length looks) seen.0 seen.1;
         mark = mark.Interrupt;
         made = mark_is (mark_at shown.run_looks.made seen.0) seen.2;
         so = refl;
-      })
+      }))
   used_drawn sign.Refused used =
       let seen = any_from (λ k. is_refusal (mark_at shown.run_looks.made k)) (numbers (length looks)) used in
-      inr (record {
+      inr (inl (record {
         k = seen.0;
         within = number_from (length looks) seen.0 seen.1;
         mark = mark.Refused;
         made = refusal_is (mark_at shown.run_looks.made seen.0) seen.2;
         so = refl;
-      })
+      }))
+  used_drawn sign.Unknown used =
+      let found = known_is shown.known used in
+      let before : max found.0 first < first + length looks = grind (arith, nat_tests, found.2) in
+      inr (inr (record {
+        from = found.0;
+        known = found.1;
+        k = max found.0 first - first;
+        within = omega (arith, before);
+        behind = omega arith;
+        so = refl;
+      }))

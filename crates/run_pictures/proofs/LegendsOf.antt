@@ -14,7 +14,7 @@ use Rattle.run_views.specs.declared.look.Look.{Look}
 use Rattle.run_views.specs.declared.places.Places.{Places}
 use Rattle.run_views.specs.Looks.{look_of}
 use Rattle.run_pictures.specs.declared.signs.Sign.{Sign}
-use Rattle.run_pictures.specs.declared.signs.Sign.TheVariants.{Running, Idle, Ready, Blocked, Suspended, Due, Held, Inherited, PreemptionOff, Taken, Messages, Interrupt, Refused}
+use Rattle.run_pictures.specs.declared.signs.Sign.TheVariants.{Running, Idle, Ready, Blocked, Suspended, Due, Held, Inherited, PreemptionOff, Taken, Messages, Interrupt, Refused, Unknown}
 use Rattle.run_pictures.specs.LegendLaws.{LegendIsOfRun, LegendIsOfRuns}
 use Rattle.run_pictures.specs.Picture.{shown_alone, shown_at}
 use Rattle.run_pictures.specs.RunLooks.{looks_of, run_looks, shown_places}
@@ -37,6 +37,7 @@ all_has Taken = (9, omega arith, refl)
 all_has Messages = (10, omega arith, refl)
 all_has Interrupt = (11, omega arith, refl)
 all_has Refused = (12, omega arith, refl)
+all_has Unknown = (13, omega arith, refl)
 
 -- of a checked session
 module _ (places : Places) (header : Header) (steps : List Step) (is : IsCheckedHeader header) (checked : All (IsCheckedStep (settings_of header)) steps) where

@@ -1,5 +1,5 @@
 -- A run that is drawn.
-use Rattle.std.specs.Prelude.{◌<◌, ℕ, ◌+◌, ◌^◌, List, All, length}
+use Rattle.std.specs.Prelude.{◌<◌, ℕ, ◌+◌, ◌^◌, List, All, Option, length}
 use Rattle.bench_types.specs.declared.header.Header.{Header}
 use Rattle.bench_types.specs.declared.step.Step.{Step}
 use Rattle.bench_types.specs.Header.{IsCheckedHeader}
@@ -11,12 +11,15 @@ pub record Drawn : Type 0 where
   pub steps : List Step
   -- the column at which each place begins
   pub columns : List ℕ
+  -- from which place on it is not known what tasks do
+  pub known : Option ℕ
 
 abbrev pub drawn : PlacedRun → Drawn
 drawn run = record {
   header = run.session.now.header;
   steps = run.session.now.steps;
   columns = run.columns.now;
+  known = run.known;
 }
 
 -- a checked session's run, the places of which have numbers of 32 bits

@@ -1,5 +1,6 @@
--- A sign stands in the legend just where a bar of such an ink, or such a mark, is drawn.
-use Rattle.std.specs.Prelude.{◌≡◌, ◌<◌, ℕ, ◌⊎◌, ◌↔◌, Contains, length, Option, Some, None}
+-- A sign stands in the legend just where a bar of such an ink, or such a mark, is drawn, and that
+-- of what is not known where a place that is shown is not.
+use Rattle.std.specs.Prelude.{◌≡◌, ◌<◌, ◌≤◌, ℕ, ◌+◌, ◌⊎◌, ◌↔◌, Contains, length, Option, Some, None}
 use Rattle.run_views.specs.declared.places.Places.{Places}
 use Rattle.run_pictures.specs.declared.bar.Bar.{Bar}
 use Rattle.run_pictures.specs.declared.frame.Axis.{Axis}
@@ -9,7 +10,7 @@ use Rattle.run_pictures.specs.declared.ink.Ink.TheVariants as ink
 use Rattle.run_pictures.specs.declared.marks.Mark.{Mark}
 use Rattle.run_pictures.specs.declared.marks.Mark.TheVariants as mark
 use Rattle.run_pictures.specs.declared.signs.Sign.{Sign}
-use Rattle.run_pictures.specs.declared.signs.Sign.TheVariants.{Running, Idle, Ready, Blocked, Suspended, Due, Held, Inherited, PreemptionOff, Taken, Messages, Interrupt, Refused}
+use Rattle.run_pictures.specs.declared.signs.Sign.TheVariants.{Running, Idle, Ready, Blocked, Suspended, Due, Held, Inherited, PreemptionOff, Taken, Messages, Interrupt, Refused, Unknown}
 use Rattle.run_pictures.specs.Bars.{all_bars}
 use Rattle.run_pictures.specs.Drawn.{Drawn, IsDrawable}
 use Rattle.run_pictures.specs.Marks.{mark_at}
@@ -52,8 +53,17 @@ pub record HasMark (shown : Shown) (sign : Sign) : Type 0 where
   pub made : mark_at shown.run_looks.made k ≡ Some mark
   pub so : sign_of_mark mark ≡ sign
 
+-- the sign is that of what is not known, and one of the places that are shown is not
+pub record HasUnknown (shown : Shown) (sign : Sign) : Type 0 where
+  pub from : ℕ
+  pub known : shown.known ≡ Some from
+  pub k : ℕ
+  pub within : k < length shown.run_looks.looks
+  pub behind : from ≤ shown.frame.first + k
+  pub so : sign ≡ Unknown
+
 abbrev pub IsDrawn : Shown → ℕ → Sign → Type 0
-IsDrawn shown top sign = HasBar shown top sign ⊎ HasMark shown sign
+IsDrawn shown top sign = HasBar shown top sign ⊎ (HasMark shown sign ⊎ HasUnknown shown sign)
 
 -- wherever the run begins from top to bottom
 abbrev pub LegendIsOfRun : Type 0

@@ -34,4 +34,5 @@ pub mod TaskNames
 pub mod TaskStretches
 pub mod Theorem
 pub mod TimeRow
+pub mod Unknown
 pub mod WaitLaws

@@ -1,5 +1,5 @@
 -- The picture of a run, or of two runs one above the other.
-use Rattle.std.specs.Prelude.{◌≡◌, ◌<◌, ◌≤◌, ℕ, suc, ◌+◌, ◌-◌, ◌*◌, ◌/◌, List, ◌++◌, flat_map, length, min, max, codes, decimal, MatchResult, Result}
+use Rattle.std.specs.Prelude.{◌≡◌, ◌<◌, ◌≤◌, ℕ, suc, ◌+◌, ◌-◌, ◌*◌, ◌/◌, List, [], ◌++◌, flat_map, length, min, max, codes, decimal, MatchResult, Option, None, Some, Result}
 use Rattle.std.specs.Prelude.{String, string_bytes}
 use Rattle.std.specs.declared.alloc.Global.{Global}
 use Rattle.bench_types.specs.declared.header.Header.{Header}
@@ -27,6 +27,7 @@ use Rattle.run_pictures.specs.Shown.{Shown}
 use Rattle.run_pictures.specs.Signs.{entries_text, legend_height, signs_of, signs_of_both}
 use Rattle.run_pictures.specs.TaskBands.{task_row}
 use Rattle.run_pictures.specs.TimeRow.{time_height, time_row}
+use Rattle.run_pictures.specs.Unknown.{pale_text, unknown_in}
 use Rattle.run_columns.specs.TimeSlots.{times_of}
 
 -- as wide as so many columns, between the names and the last label
@@ -123,11 +124,22 @@ unfoldable pub time_text : Shown → ℕ → List ℕ
 time_text shown top =
     time_row shown.header shown.frame top shown.times (length shown.run_looks.looks)
 
+abbrev pub pale_behind : Shown → ℕ → Option ℕ → List ℕ
+pale_behind shown top None = []
+pale_behind shown top (Some place) =
+    let looks = shown.run_looks.looks in
+    pale_text shown.frame (length looks) place top (run_height shown.header looks)
+
+-- where it is not known what its tasks do, over all its rows
+unfoldable pub unknown_text : Shown → ℕ → List ℕ
+unknown_text shown top = pale_behind shown top (unknown_in shown)
+
 -- a run, from the top on
 unfoldable pub panel_text : Shown → ℕ → List ℕ
 panel_text shown top =
     let below = top + time_height shown.header in
     time_text shown top ++ bands_text shown below ++ marks_text shown below
+    ++ unknown_text shown top
 
 -- the picture of a run that is so many columns wide
 unfoldable pub drawn_run : ℕ → Shown → List ℕ
@@ -171,6 +183,7 @@ shown_at places axis scale left run = record {
   frame = frame_of places axis scale left run;
   run_looks = run_looks places run.header run.steps;
   times = times_of run.header.config.units run.steps;
+  known = run.known;
 }
 
 -- a run alone

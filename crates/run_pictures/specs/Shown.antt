@@ -1,5 +1,5 @@
 -- A run as it is drawn.
-use Rattle.std.specs.Prelude.{ℕ, ◌+◌, ◌<◌, ◌≤◌, ◌^◌, List, length}
+use Rattle.std.specs.Prelude.{ℕ, ◌+◌, ◌<◌, ◌≤◌, ◌^◌, List, Option, length}
 use Rattle.bench_types.specs.declared.header.Header.{Header}
 use Rattle.bench_types.specs.Limits.{max_cores, max_queues, max_tasks}
 use Rattle.run_pictures.specs.declared.run_looks.RunLooks.{RunLooks}
@@ -15,6 +15,8 @@ pub record Shown : Type 0 where
   pub run_looks : RunLooks
   -- the time before each place of the run
   pub times : List ℕ
+  -- from which place on it is not known what tasks do
+  pub known : Option ℕ
 
 abbrev pub shown : Panel → Shown
 shown panel = record {
@@ -22,6 +24,7 @@ shown panel = record {
   frame = panel.frame;
   run_looks = panel.run_looks;
   times = panel.times;
+  known = panel.known;
 }
 
 -- its places have numbers of 32 bits, and it has no more cores, tasks and queues than a session may

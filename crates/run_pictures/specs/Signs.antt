@@ -9,7 +9,7 @@ use Rattle.run_pictures.specs.declared.run_looks.Made.{Made}
 use Rattle.run_pictures.specs.declared.marks.Mark.{Mark}
 use Rattle.run_pictures.specs.declared.marks.Mark.TheVariants as mark
 use Rattle.run_pictures.specs.declared.signs.Sign.{Sign}
-use Rattle.run_pictures.specs.declared.signs.Sign.TheVariants.{Running, Idle, Ready, Blocked, Suspended, Due, Held, Inherited, PreemptionOff, Taken, Messages, Interrupt, Refused}
+use Rattle.run_pictures.specs.declared.signs.Sign.TheVariants.{Running, Idle, Ready, Blocked, Suspended, Due, Held, Inherited, PreemptionOff, Taken, Messages, Interrupt, Refused, Unknown}
 use Rattle.run_pictures.specs.declared.stance.Stance.{Stance}
 use Rattle.run_pictures.specs.declared.stance.Stance.TheVariants as stance
 use Rattle.run_pictures.specs.Marks.{mark_at}
@@ -19,6 +19,7 @@ use Rattle.run_pictures.specs.Preemption.{preempt_in}
 use Rattle.run_pictures.specs.QueueLines.{is_changed, queues_of}
 use Rattle.run_pictures.specs.Shown.{Shown}
 use Rattle.run_pictures.specs.Stances.{stance_in, status_in}
+use Rattle.run_pictures.specs.Unknown.{unknown_in}
 
 -- a core has one of the idle tasks, those below so many, as its current task
 abbrev pub has_idle : ℕ → Look → Bool
@@ -107,12 +108,13 @@ is_used shown Messages =
     list_any (is_changed shown.run_looks.looks) (numbers (queues_of shown.header))
 is_used shown Interrupt = has_interrupt shown.run_looks.made (length shown.run_looks.looks)
 is_used shown Refused = has_refusal shown.run_looks.made (length shown.run_looks.looks)
+is_used shown Unknown = is_some (unknown_in shown)
 
 -- in their order
 abbrev pub all_signs : List Sign
 all_signs =
     Running ∷ Ready ∷ Blocked ∷ Suspended ∷ Idle ∷ Due ∷ Held ∷ Inherited ∷ PreemptionOff ∷ Taken
-    ∷ Messages ∷ Interrupt ∷ Refused ∷ []
+    ∷ Messages ∷ Interrupt ∷ Refused ∷ Unknown ∷ []
 
 -- the legend of a run has what the run has
 abbrev pub signs_of : Shown → List Sign
@@ -140,6 +142,9 @@ drawing Taken = codes "<rect class='m c0' width='20' height='14'/>"
 drawing Messages = codes "<rect class='q' width='20' height='14'/>"
 drawing Interrupt = codes "<path class='n' d='M6 3h8l-4 7z'/>"
 drawing Refused = codes "<path class='x' d='M6 3l8 8m0-8l-8 8'/>"
+drawing Unknown =
+    codes "<rect class='c0' width='20' height='14'/><rect class='b f' x='8' width='12' height='14'/>"
+    ++ codes "<path class='y' d='M8 0v14'/>"
 
 unfoldable pub meaning : Sign → List ℕ
 meaning Running = codes "running"
@@ -155,6 +160,7 @@ meaning Taken = codes "mutex held"
 meaning Messages = codes "messages in a queue"
 meaning Interrupt = codes "interrupt"
 meaning Refused = codes "refused"
+meaning Unknown = codes "not known"
 
 -- where the k-th sign of the legend stands: four stand side by side
 abbrev pub across : ℕ → ℕ

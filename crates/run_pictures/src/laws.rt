@@ -28,7 +28,8 @@ pub fn law_of_bars()
     ensures both { RunsAreLaidOut }
 {}
 
-/// A sign stands in the legend just where a bar of such an ink, or such a mark, is drawn.
+/// A sign stands in the legend just where a bar of such an ink, or such a mark, is drawn, and that
+/// of what is not known where a place that is shown is not.
 pub fn law_of_legends()
     ensures one { LegendIsOfRun }
     ensures both { LegendIsOfRuns }

@@ -28,6 +28,7 @@ mod task_bands;
 mod task_names;
 mod task_stretches;
 mod time_row;
+mod unknown;
 
 pub use escape::{law_of_escapes, push_escaped, push_escaped_bytes};
 pub use frame::Axis;

@@ -14,4 +14,6 @@ pub(crate) struct Panel<'a> {
     pub(crate) run_looks: RunLooks,
     /// The time before each place of the run.
     pub(crate) times: Items<u64>,
+    /// From which place on it is not known what tasks do.
+    pub(crate) known: Option<u32>,
 }

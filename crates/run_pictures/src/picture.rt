@@ -7,7 +7,7 @@ ghost use Rattle.run_pictures.specs.CoreBands.{core_row};
 ghost use Rattle.run_pictures.specs.Frame.{column_of};
 ghost use Rattle.run_pictures.specs.Limits.{max_places};
 ghost use Rattle.run_pictures.specs.Drawn.{drawn};
-ghost use Rattle.run_pictures.specs.Picture.{bands_text, both_text, core_rows, count_of, count_of_both, drawn_run, drawn_runs, end_of, frame_of, headed_text, heading_text, height_text, least_width, least_text, left_of, legend_text, marks_text, mutexes_down, opening_text, panel_height, panel_text, picture_text, pictures_text, queues_down, run_height, shown_at, size_text, task_rows, tasks_down, time_text, width_of, width_text, Answers};
+ghost use Rattle.run_pictures.specs.Picture.{bands_text, both_text, core_rows, count_of, count_of_both, drawn_run, drawn_runs, end_of, frame_of, headed_text, heading_text, height_text, least_width, least_text, left_of, legend_text, marks_text, mutexes_down, opening_text, panel_height, panel_text, picture_text, pictures_text, queues_down, run_height, shown_at, size_text, task_rows, tasks_down, time_text, unknown_text, width_of, width_text, Answers};
 ghost use Rattle.run_pictures.specs.QueueLines.{queues_of};
 ghost use Rattle.run_pictures.specs.Shown.{shown, IsNumbered};
 ghost use Rattle.run_pictures.specs.Theorem.{IsTiled};
@@ -28,6 +28,7 @@ use crate::signs::{Sign, legend_height, push_entries, signs_of, signs_of_both};
 use crate::style::{OPENING, STYLE};
 use crate::task_bands::push_task_row;
 use crate::time_row::{push_time_row, time_height};
+use crate::unknown::{push_pale, unknown_in};
 use bench_types::{CheckedSession, Header, Items};
 use run_columns::times_of;
 use run_views::{Look, Places};
@@ -327,6 +328,28 @@ fn push_time(
     )
 }
 
+// Where it is not known what its tasks do, over all its rows.
+#[tactic(auto, unfolding(crate::specs::Picture::unknown_text))]
+fn push_unknown(
+    alloc: Global,
+    text: &mut String,
+    panel: &Panel<'_>,
+    top: u64,
+) -> Result<(), AllocError>
+    requires numbered { IsNumbered (shown panel.now) }
+    ensures { OnOk result
+        (string_bytes text.new ≡ string_bytes text.old ++ unknown_text (shown panel.now) top) }
+{
+    match unknown_in(panel) {
+        Some(place) => {
+            let looks = panel.run_looks.looks.as_slice();
+            let height = run_height(alloc, panel.header, looks)?;
+            push_pale(text, &panel.frame, looks.len() as u32, place, top, height)
+        }
+        None => Ok(()),
+    }
+}
+
 // One run, from the top on.
 #[tactic(auto, unfolding(crate::specs::Picture::panel_text))]
 fn push_panel(
@@ -343,7 +366,8 @@ fn push_panel(
     push_time(alloc, text, panel, top)?;
     let below = top + time_height(panel.header);
     push_bands(alloc, text, panel, below)?;
-    push_marks(alloc, text, panel, below)
+    push_marks(alloc, text, panel, below)?;
+    push_unknown(alloc, text, panel, top)
 }
 
 // The picture of a run that is so many columns wide.
@@ -369,6 +393,8 @@ fn draw_panel(alloc: Global, panel: &Panel<'_>, count: u64) -> Result<String, Al
 pub struct PlacedRun<'a> {
     pub session: &'a CheckedSession,
     pub columns: &'a [u32],
+    /// From which place on it is not known what tasks do; none where all of it is known.
+    pub known: Option<u32>,
 }
 
 fn first_of(places: Places, run: &PlacedRun<'_>) -> u64
@@ -455,6 +481,7 @@ fn panel_of<'a>(
         frame,
         run_looks,
         times: Items::new(times),
+        known: run.known,
     })
 }
 

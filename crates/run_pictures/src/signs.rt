@@ -14,6 +14,7 @@ use crate::panel::Panel;
 use crate::pose::stands_ready;
 use crate::queue_lines::{is_changed, queues_of};
 use crate::stance::{Stance, stance_in, status_in};
+use crate::unknown::unknown_in;
 use bench_types::Header;
 use run_views::Look;
 use std::alloc::{AllocError, Global};
@@ -34,10 +35,12 @@ pub(crate) enum Sign {
     Messages,
     Interrupt,
     Refused,
+    /// It is not known what tasks do.
+    Unknown,
 }
 
 /// In their order.
-const SIGNS: [Sign; 13] = [
+const SIGNS: [Sign; 14] = [
     Sign::Running,
     Sign::Ready,
     Sign::Blocked,
@@ -51,6 +54,7 @@ const SIGNS: [Sign; 13] = [
     Sign::Messages,
     Sign::Interrupt,
     Sign::Refused,
+    Sign::Unknown,
 ];
 
 fn has_idle(look: &Look, cores: u32) -> bool
@@ -271,6 +275,7 @@ fn is_used(panel: &Panel<'_>, sign: Sign) -> bool
         Sign::Messages => some_changed(looks, queues_of(header)),
         Sign::Interrupt => has_interrupt(made, count),
         Sign::Refused => has_refusal(made, count),
+        Sign::Unknown => unknown_in(panel).is_some(),
     }
 }
 
@@ -329,6 +334,10 @@ fn drawing(sign: Sign) -> &'static str
         Sign::Messages => "<rect class='q' width='20' height='14'/>",
         Sign::Interrupt => "<path class='n' d='M6 3h8l-4 7z'/>",
         Sign::Refused => "<path class='x' d='M6 3l8 8m0-8l-8 8'/>",
+        Sign::Unknown => {
+            "<rect class='c0' width='20' height='14'/><rect class='b f' x='8' width='12' height='14'/>\
+<path class='y' d='M8 0v14'/>"
+        }
     }
 }
 
@@ -350,6 +359,7 @@ fn meaning(sign: Sign) -> &'static str
         Sign::Messages => "messages in a queue",
         Sign::Interrupt => "interrupt",
         Sign::Refused => "refused",
+        Sign::Unknown => "not known",
     }
 }
 

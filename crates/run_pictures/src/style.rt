@@ -31,3 +31,10 @@ pub(crate) const STYLE: &str = "\
 pub(crate) const QUEUE_STYLE: &str = "\
 <style>.q{fill:#47856c;stroke:#000;stroke-opacity:.4;stroke-width:.5}</style>
 ";
+
+/// How much of the bars is seen through the ground where a run is not known, and the dashes where
+/// that begins, on white and on black. It stands in those pictures alone that show such places.
+pub(crate) const UNKNOWN_STYLE: &str = "\
+<style>.f{fill-opacity:.6;pointer-events:none}.y{stroke:#222;stroke-width:2;stroke-dasharray:6 4}
+@media(prefers-color-scheme:dark){.y{stroke:#dde1e6}}</style>
+";

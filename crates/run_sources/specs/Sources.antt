@@ -89,9 +89,9 @@ most_of (source.Kept made order) = 3 * max_steps
 most_of source = max_steps
 
 -- the kernel made the steps of the run, and those of a workload twice; for a run that keeps work
--- those of the settled run of the session before the edits, too
+-- those of the settled run of the session before the edits, too, unless that is the run
 abbrev pub IsCounted : Source → RunView → ℕ → ℕ → Type 0
-IsCounted (source.Kept made order) run old new = IsKeptCount made run old new
+IsCounted (source.Kept made order) run old new = IsKeptCount order made run old new
 IsCounted (source.Workload workload) run old new =
     new ≡ meter_after (length run.session.steps + length run.session.steps) old
 IsCounted source run old new = new ≡ meter_after (length run.session.steps) old

@@ -87,7 +87,7 @@ fn kept_run_of(
     ensures run { IfOk result (IsKeptRunOf order made.now) }
     ensures room { IfOk result (λ run. length run.session.steps ≤ max_steps) }
     ensures fault { IfErr result (IsFaultOf (source.Kept made.now order)) }
-    ensures counted { IfOk result (λ run. IsKeptCount made.now run meter.old meter.new) }
+    ensures counted { IfOk result (λ run. IsKeptCount order made.now run meter.old meter.new) }
     ensures some { OnErr result (CountsUpTo (3 * max_steps) meter.old meter.new) }
 {
     match kept_run(alloc, made, order, meter) {
@@ -99,7 +99,7 @@ fn kept_run_of(
 
 /// The run of the source. The meter counts each step once, and those of a workload twice: they are
 /// found, and then made. For a run that keeps work it counts those of the settled run of the
-/// session before the edits twice, too.
+/// session before the edits twice, too, unless that is the run.
 pub fn make_run(alloc: Global, source: &Source, meter: &mut Meter) -> Result<Run, RunFault>
     ensures run { IfOk result (IsRunOfSource source.now) }
     ensures header { IfOk result (λ run. run.session.header ≡ header_of source.now) }

@@ -1,6 +1,6 @@
 -- What is written where a picture was asked for.
 use Rattle.std.proofs.Common.{◌≡◌, ℕ, List, [], Bool, true, false, Result, Ok, Err, IfOk, Global, nat_lt, arith, sym, ap, subst, ◌∙◌}
-use Rattle.std.specs.Prelude.{String, if◌then◌else◌}
+use Rattle.std.specs.Prelude.{Option, None, String, if◌then◌else◌}
 use Rattle.std.proofs.lemmas.Bool.Decides.{nat_tests}
 use Rattle.run_pictures.specs.declared.picture.TooLong.{TooLong}
 use Rattle.bench_types.specs.Session.{Session}
@@ -29,10 +29,10 @@ pictured count picture answer (Ok text) answers printed = printed ∙ answered c
 
 -- of one run that is that
 pub run_pictured : {E : Type 0} (extent : Extent) (session : Session) (one : Drawn) (answer : Result (String Global) TooLong) (result : Result Printed E) → one ≡
-    drawn_in extent [] session session session → Answers (count_of extent.places one) (picture_text extent.places extent.axis one) answer
+    drawn_in extent [] None session session session → Answers (count_of extent.places one) (picture_text extent.places extent.axis one) answer
     → IfOk result (λ shown. shown ≡ answer_output answer) → IfOk result (λ shown. shown ≡ picture_of_run extent session)
 run_pictured extent session one answer result is answers printed =
-    let run = drawn_in extent [] session session session in
+    let run = drawn_in extent [] None session session session in
     pictured (count_of extent.places run) (picture_text extent.places extent.axis run) answer result
     (subst (λ (drawn : Drawn). Answers (count_of extent.places drawn) (picture_text extent.places extent.axis drawn) answer) is answers) printed
 
@@ -53,6 +53,6 @@ same_pictured extent before after one other answer result is is_too answers prin
     (subst (λ (run : Drawn). Answers (count_of_both extent.places run other) (pictures_text extent.places extent.axis run other) answer) is answers))
     printed
 
--- a run, each of whose places is drawn at a column
-abbrev pub with_columns : Session → List ℕ → Drawn
-with_columns session columns = record { header = session.header; steps = session.steps; columns = columns }
+-- a run, each of whose places is drawn at a column, and known up to a place
+abbrev pub with_columns : Session → Option ℕ → List ℕ → Drawn
+with_columns session known columns = record { header = session.header; steps = session.steps; columns = columns; known = known }

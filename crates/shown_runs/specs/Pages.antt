@@ -12,7 +12,7 @@ use Rattle.program_io.specs.declared.output.OutputStatus.{OutputStatus}
 use Rattle.program_io.specs.declared.output.OutputStatus.TheVariants.{Fine, Failed, Unknown}
 use Rattle.program_io.specs.Outputs.{Printed, printed_with}
 use Rattle.shown_runs.specs.declared.ask.Making.{Making}
-use Rattle.shown_runs.specs.declared.ask.Making.TheVariants.{AsWritten, Settled, Simulated}
+use Rattle.shown_runs.specs.declared.ask.Making.TheVariants.{AsWritten, Settled, Simulated, Kept}
 use Rattle.shown_runs.specs.declared.shown.Shown.{Shown}
 use Rattle.shown_runs.specs.declared.shown.Shown.TheVariants.{One, Two}
 use Rattle.shown_runs.specs.Pictures.{picture_of}
@@ -24,6 +24,7 @@ abbrev pub run_word : Making → List ℕ
 run_word AsWritten = codes "Run"
 run_word Settled = codes "Settled run"
 run_word Simulated = codes "Simulated run"
+run_word Kept = codes "Run that keeps work"
 
 -- of so many steps, cores and user tasks
 abbrev pub counts_text : ℕ → ℕ → ℕ → List ℕ

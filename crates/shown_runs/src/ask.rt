@@ -42,6 +42,8 @@ pub enum Making {
     Settled,
     /// Of a workload.
     Simulated,
+    /// Of a session with edits, so that tasks work for their calls as long as before.
+    Kept,
 }
 
 impl Making {
@@ -50,7 +52,8 @@ impl Making {
         ensures { result ≡ is_settled self }
     {
         match self {
-            Making::Settled => true,
+            // Settling a run that keeps work changes nothing.
+            Making::Settled | Making::Kept => true,
             Making::AsWritten | Making::Simulated => false,
         }
     }

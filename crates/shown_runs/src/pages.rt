@@ -24,6 +24,7 @@ fn run_word(making: Making) -> &'static str
         Making::AsWritten => "Run",
         Making::Settled => "Settled run",
         Making::Simulated => "Simulated run",
+        Making::Kept => "Run that keeps work",
     }
 }
 

@@ -7,7 +7,7 @@ use ranked_changes::{Progress, Silent};
 /// What a command does, one after another.
 #[derive(Clone, Copy, Debug, PartialEq, Eq)]
 pub enum Part {
-    /// A run is settled, or two are.
+    /// A run is settled or keeps work, or two do.
     Settling,
     /// A workload is simulated, or two are.
     Simulating,

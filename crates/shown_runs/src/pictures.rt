@@ -1,5 +1,5 @@
 //! The picture of one run, or of two.
-ghost use Rattle.std.specs.Prelude.{◌≡◌, ◌≤◌, [], IfOk, decimal, length};
+ghost use Rattle.std.specs.Prelude.{◌≡◌, ◌≤◌, [], IfOk, None, decimal, length};
 ghost use Rattle.bench_types.specs.Limits.{max_steps};
 ghost use Rattle.run_comparisons.specs.declared.columns.Side.TheVariants.{Before, After};
 ghost use Rattle.run_comparisons.specs.Pairs.{left_lines};
@@ -94,7 +94,7 @@ fn row_columns(alloc: Global, making: Making, pair: &RunPair) -> Result<RunColum
 {
     match making {
         Making::AsWritten => Ok(no_columns(alloc)),
-        Making::Settled | Making::Simulated => Ok(RunColumns {
+        Making::Settled | Making::Simulated | Making::Kept => Ok(RunColumns {
             before: Items::new(columns_of(alloc, Side::Before, pair.rows())?),
             after: Items::new(columns_of(alloc, Side::After, pair.rows())?),
         }),
@@ -110,9 +110,9 @@ fn session_columns(
     after: &CheckedSession,
 ) -> Result<RunColumns, AllocError>
     ensures before { IfOk result (λ made. made.before
-        ≡ (drawn_in extent columns.before before.now after.now before.now).columns) }
+        ≡ (drawn_in extent columns.before None before.now after.now before.now).columns) }
     ensures after { IfOk result (λ made. made.after
-        ≡ (drawn_in extent columns.after before.now after.now after.now).columns) }
+        ≡ (drawn_in extent columns.after None before.now after.now after.now).columns) }
 {
     let units = before.header().config.units;
     columns_by(alloc, extent, units, columns, before.steps(), after.steps())
@@ -131,32 +131,38 @@ fn picture_of_run(
     let run = PlacedRun {
         session,
         columns: columns.before.as_slice(),
+        known: None,
     };
     let answer = timeline(alloc, meter, extent, &run)?;
     answer_output(alloc, answer)
 }
 
-// The runs of two sessions, one below the other, by their places in these columns.
+// The runs of two sessions, one below the other, by their places in these columns. The second is
+// known up to a place.
 fn picture_of_sessions(
     alloc: Global,
     meter: &mut Meter,
     extent: Extent,
     placed: RunColumns,
+    known: Option<u32>,
     before: &CheckedSession,
     after: &CheckedSession,
 ) -> Result<Output, AllocError>
     ensures { IfOk result (λ shown. shown
-        ≡ picture_of_runs extent (drawn_in extent placed.before before.now after.now before.now)
-        (drawn_in extent placed.after before.now after.now after.now)) }
+        ≡ picture_of_runs extent
+        (drawn_in extent placed.before None before.now after.now before.now)
+        (drawn_in extent placed.after known before.now after.now after.now)) }
 {
     let columns = session_columns(alloc, extent, placed, before, after)?;
     let upper = PlacedRun {
         session: before,
         columns: columns.before.as_slice(),
+        known: None,
     };
     let lower = PlacedRun {
         session: after,
         columns: columns.after.as_slice(),
+        known,
     };
     let answer = timelines(alloc, meter, extent, &upper, &lower)?;
     answer_output(alloc, answer)
@@ -174,7 +180,8 @@ fn picture_of_pair(
 {
     let (before, after) = (pair.before().session(), pair.after().session());
     let placed = row_columns(alloc, making, pair)?;
-    picture_of_sessions(alloc, meter, extent, placed, before, after)
+    let known = pair.known_place();
+    picture_of_sessions(alloc, meter, extent, placed, known, before, after)
 }
 
 // The picture, and the calls of both runs that were not made, unless it is a refusal.

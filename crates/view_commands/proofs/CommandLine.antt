@@ -15,12 +15,13 @@ is_program = record {
   is_simple = refl;
   wants_command = refl;
   is_helpless = (refl, (refl, (refl, (refl, (refl, (refl, (refl, (refl, (refl, (refl, (refl, tt)))))))))));
-  are_alike = (refl, (refl, (refl, (refl, (refl, (refl, (refl, (refl, (refl, (refl, (refl, (refl, (refl, (refl, (refl, (refl, (refl, (refl, (refl, (refl, (refl, (refl, (refl, (refl, (refl, (refl, (refl, (refl, (refl, (refl, (refl, (refl, (refl, (refl, (refl, (refl, (refl, (refl, (refl, (refl, (refl, (refl, (refl, (refl, (refl, (refl, (refl, (refl, (refl, (refl, (refl, (refl, (refl, (refl, (refl, (refl, (refl, tt)))))))))))))))))))))))))))))))))))))))))))))))))))))))));
+  are_alike = (refl, (refl, (refl, (refl, (refl, (refl, (refl, (refl, (refl, (refl, (refl, (refl, (refl, (refl, (refl, (refl, (refl, (refl, (refl, (refl, (refl, (refl, (refl, (refl, (refl, (refl, (refl, (refl, (refl, (refl, (refl, (refl, (refl, (refl, (refl, (refl, (refl, (refl, (refl, (refl, (refl, (refl, (refl, (refl, (refl, (refl, (refl, (refl, (refl, (refl, (refl, (refl, (refl, (refl, (refl, (refl, (refl, (refl, (refl, (refl, (refl, (refl, (refl, (refl, (refl, (refl, (refl, (refl, (refl, (refl, (refl, (refl, (refl, tt)))))))))))))))))))))))))))))))))))))))))))))))))))))))))))))))))))))))));
 }
 
 pub taken : (rows : List Row) → ValuesTaken view_app rows → AreTaken rows
 taken rows given = record {
   settle = one_taken view_app (codes "settle") is_flag (λ text value. value) rows given;
+  keep_work = one_taken view_app (codes "keep-work") is_flag (λ text value. value) rows given;
   strict = one_taken view_app (codes "strict") is_flag (λ text value. value) rows given;
   json = one_taken view_app (codes "json") is_flag (λ text value. value) rows given;
   from = one_taken view_app (codes "from") is_number (number_taken 0 (2 ^ 32 - 1)) rows given;

@@ -3,7 +3,7 @@ use Rattle.std.proofs.Common.{refl}
 use Rattle.std.specs.Path.{rsplit_once}
 use Rattle.clap.proofs.OnLiterals.{clap_on_literals}
 use Rattle.command_words.specs.Answered.{answered_in_words}
-use Rattle.view_commands.specs.CommandLines.{WorkedAdvice, WorkedChecks, WorkedHelp, WorkedMistakes, WorkedSimulations, WorkedTraces, WorkedVersions, WorkedViews}
+use Rattle.view_commands.specs.CommandLines.{WorkedAdvice, WorkedChecks, WorkedHelp, WorkedKeptRuns, WorkedMistakes, WorkedSimulations, WorkedTraces, WorkedVersions, WorkedViews}
 
 pub traces : WorkedTraces
 unfolding clap_on_literals answered_in_words
@@ -42,6 +42,21 @@ views = record {
   page_by_ticks = refl;
   report = refl;
   report_as_json = refl;
+}
+
+pub kept_runs : WorkedKeptRuns
+unfolding clap_on_literals answered_in_words
+kept_runs = record {
+  compare = refl;
+  settle = refl;
+  trace = refl;
+  report = refl;
+  both_ways = refl;
+  ties_alone = refl;
+  settled_ties = refl;
+  unknown_order = refl;
+  session = refl;
+  simulate = refl;
 }
 
 pub simulations : WorkedSimulations

@@ -1,5 +1,5 @@
 -- Refusals, and what becomes of a status.
-use Rattle.std.proofs.Common.{◌≡◌, ◌∙◌, ℕ, List, Bool, true, false, refl, ap, ap₂, subst, inl, inr}
+use Rattle.std.proofs.Common.{◌≡◌, ◌∙◌, ℕ, List, Bool, true, false, refl, ap, subst, inl, inr}
 use Rattle.std.specs.Prelude.{◌↔◌, IsTrue}
 use Rattle.program_io.specs.declared.output.OutputStatus.TheVariants.{Fine, Failed}
 use Rattle.program_io.specs.Outputs.{Printed}
@@ -15,7 +15,7 @@ use Rattle.shown_runs.specs.Runs.{last_of}
 use Rattle.shown_runs.specs.Told.{told}
 use Rattle.program_io.specs.Twice.{warned}
 use Rattle.view_commands.specs.declared.request.Documents.{Documents}
-use Rattle.view_commands.specs.Answers.{ends_told, IsToldOfRuns}
+use Rattle.view_commands.specs.Answers.{AreEnds, IsToldOfRuns}
 use Rattle.view_commands.specs.EditedSources.{after_of, making_of, refused_of}
 use Rattle.view_commands.specs.ShownRuns.{shows_both, IsShown}
 use Rattle.view_commands.specs.Strict.{IsJudged, IsRefusing, IsStrict}
@@ -58,10 +58,12 @@ judged_so false Refused printed judged is so = absurd (cc is)
 -- what is told of the runs that are shown
 pub told_of_runs : (documents : Documents) (asked : Ask) (source : EditedSource) (both : Bool) (shown : Shown) (making : Making) (ends : List ℕ)
     (output printed : Printed) → both ≡ shows_both asked source → making ≡ making_of source → IsShown both source shown
-    → ends ≡ ends_told documents (after_of source) (last_of shown) → output ≡ told making asked shown → printed ≡ warned ends output
+    → AreEnds documents (after_of source) (last_of shown) ends → output ≡ told making asked shown → printed ≡ warned ends output
     → IsToldOfRuns documents asked source printed
 told_of_runs documents asked source both shown making ends output printed same made is ends_are output_is printed_is = record {
   shown = shown;
   is_shown = subst (λ (b : Bool). IsShown b source shown) same is;
-  is_told = printed_is ∙ ap₂ warned ends_are (output_is ∙ ap (λ (m : Making). told m asked shown) made);
+  ends = ends;
+  are_ends = ends_are;
+  is_told = printed_is ∙ ap (warned ends) (output_is ∙ ap (λ (m : Making). told m asked shown) made);
 }

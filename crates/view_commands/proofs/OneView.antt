@@ -1,9 +1,17 @@
 -- One thing alone is told of each input.
-use Rattle.std.proofs.Common.{◌≡◌, ◌⊎◌, ◌&&◌, ℕ, List, [], ◌∷◌, ◌++◌, length, Bool, true, false, Option, Result, Ok, Err, nat_lt, inl, inr, refl, ap, sym}
-use Rattle.std.proofs.Common.{subst, ◌∙◌}
+use Rattle.std.proofs.Common.{◌≡◌, ◌⊎◌, ◌&&◌, ℕ, List, [], ◌∷◌, ◌++◌, length, Bool, true, false, Option, Some, None, Result, Ok, Err, nat_lt, inl, inr, refl, ap, sym}
+use Rattle.std.proofs.Common.{ap₂, subst, ◌∙◌}
 use Rattle.std.specs.Prelude.{All}
 use Rattle.std.proofs.lemmas.List.Elements.{All-head, All-tail}
-use Rattle.bench_types.specs.declared.edit.Edit.{Edit}
+use Rattle.bench_types.specs.declared.step.Step.{Step}
+use Rattle.kept_edits.specs.declared.edit.KeptEdit.{KeptEdit}
+use Rattle.kept_edits.specs.Edits.{plain_edits}
+use Rattle.kept_runs.specs.declared.call_order.CallOrder.{CallOrder}
+use Rattle.kept_runs.specs.declared.known_limit.KnownLimit.{KnownLimit}
+use Rattle.kept_runs.specs.Known.{known_until}
+use Rattle.kept_sessions.specs.Runs.{IsKnownRunOf}
+use Rattle.kept_sessions.specs.Sessions.{without_edits, KeptView}
+use Rattle.settled_runs.proofs.Settlings.{settled_run_is_one}
 use Rattle.bench_types.specs.Limits.{max_input, max_steps}
 use Rattle.bench_types.specs.Session.{Session}
 use Rattle.session_text.specs.declared.bench.Bench.{Bench}
@@ -12,9 +20,8 @@ use Rattle.session_text.specs.declared.fault.TextFault.{TextFault}
 use Rattle.session_text.specs.declared.fault.Why.{Why}
 use Rattle.session_text.specs.declared.fault.Why.TheVariants as why
 use Rattle.serde_json.specs.Data.{Data}
-use Rattle.session_text.specs.Bench.{bench_at, bench_of_text, bench_text}
-use Rattle.session_text.specs.Edit.{edit_at}
-use Rattle.bench_types.specs.StepFlaw.{edit_flaw}
+use Rattle.session_text.specs.Bench.{bench_at, bench_of_text, kept_bench_text}
+use Rattle.session_text.specs.KeptEdit.{kept_edit_at, kept_flaw}
 use Rattle.session_text.specs.ReadingRules.{◌>>=◌}
 use Rattle.session_text.specs.Session.{document}
 use Rattle.task_programs.specs.declared.flaw.WorkloadFlaw.{WorkloadFlaw}
@@ -26,8 +33,8 @@ use Rattle.run_sources.specs.declared.source.Source.{Source}
 use Rattle.run_sources.specs.declared.source.Source.TheVariants as source
 use Rattle.run_sources.specs.Sources.{IsSourceTooLong}
 use Rattle.run_sources.proofs.SourceRuns.{source_run_is_one}
-use Rattle.run_comparisons.specs.Pairs.{IsSimulatedPair, PairView}
-use Rattle.run_comparisons.proofs.OnePair.{settled_pair_is_one, simulated_pair_is_one}
+use Rattle.run_comparisons.specs.Pairs.{IsKeptPair, IsSimulatedPair, PairView}
+use Rattle.run_comparisons.proofs.OnePair.{kept_pair_is_one, settled_pair_is_one, simulated_pair_is_one}
 use Rattle.session_advice.specs.Questions.{Printed as AdvicePrinted}
 use Rattle.session_advice.proofs.OneAdvice.{advice_is_one}
 use Rattle.shown_runs.specs.declared.shown.Shown.{Shown}
@@ -47,11 +54,12 @@ use Rattle.view_commands.specs.declared.request.Command.TheVariants.{Advise, Sho
 use Rattle.view_commands.specs.declared.request.Documents.{Documents}
 use Rattle.view_commands.specs.declared.request.Documents.TheVariants as documents
 use Rattle.view_commands.specs.declared.request.Job.{Job}
-use Rattle.view_commands.specs.Answers.{ends_told, printed_of_advice, sources_for, IsAnswer, IsJudgedAnswer, IsNoted, IsTold}
-use Rattle.view_commands.specs.Commands.{is_json, is_json_fault, is_json_text, IsPrintedOfBench, IsRefusedOr, IsSame}
+use Rattle.view_commands.specs.Answers.{printed_of_advice, sources_for, AreEnds, IsAnswer, IsJudgedAnswer, IsNoted, IsTold}
+use Rattle.view_commands.specs.Commands.{is_json, is_json_fault, is_json_text, unshown_edit, IsPrintedOfBench, IsPrintedOfSession, IsPrintedUnless, IsRefusedOr, IsSame}
 use Rattle.view_commands.specs.Commands.{IsPrintedOfDocument, IsPrintedOfNone, IsPrintedOfOther, IsPrintedOfText, IsPrintedOfTicked, IsPrintedOfWorkload}
 use Rattle.view_commands.specs.Commands.{IsView, ViewIsOne}
-use Rattle.view_commands.specs.EditedSources.{after_of, edit_lines, last_workload, making_of, session_source}
+use Rattle.view_commands.specs.EditedSources.{after_of, edit_lines, last_workload, making_of, refused_of, session_source}
+use Rattle.view_commands.specs.Known.{known_text, IsToldKnown}
 use Rattle.view_commands.specs.Refusals.{refused_lines, simulated_too_long, too_long_input, too_many_steps}
 use Rattle.view_commands.specs.ShownRuns.{shows_both, IsPair, IsShown}
 use Rattle.view_commands.specs.Strict.{IsJudged, IsRefusing, IsStrict}
@@ -91,6 +99,16 @@ none_first (origin ∷ sources) refusal short (inr is) =
 
 -- ---- runs that are shown
 
+-- up to where a run that keeps work is known
+one_limit : (order : CallOrder) (made : KeptView) (run : RunView) (limit other : Option KnownLimit) → IsKnownRunOf order made run limit
+    → IsKnownRunOf order made run other → limit ≡ other
+one_limit order made run limit other one two =
+    let first = one.run_is.kept in
+    let second = two.run_is.kept in
+    let same = settled_run_is_one made.session.header made.session.steps first.settled second.settled first.waiting second.waiting first.is_settled
+    second.is_settled in
+    one.known ∙ ap (λ (steps : List Step). known_until order made.session made.edits steps run.session.steps) same.0 ∙ sym two.known
+
 one_pair : (made : EditedSource) (pair other : PairView) → IsPair made pair → IsPair made other → pair ≡ other
 one_pair (edited.Session both) pair other one two = one ∙ sym two
 one_pair (edited.Settled both) pair other one two = settled_pair_is_one both.session both.edits pair other one two
@@ -99,6 +117,17 @@ one_pair (edited.Workload both) pair other one two =
     let after = source_run_is_one (source.Workload (last_workload both)) pair.after other.after one.after two.after in
     let beside = subst (λ (run : RunView). IsSimulatedPair run other.after other) (sym before) two.beside in
     simulated_pair_is_one pair.before pair.after pair other one.beside (subst (λ (run : RunView). IsSimulatedPair pair.before run other) (sym after) beside)
+one_pair (edited.Kept both order) pair other one two =
+    let edits = plain_edits both.edits in
+    let refused = refused_of (edited.Kept both order) in
+    let before = source_run_is_one (source.Kept (without_edits both) order) pair.before other.before one.before two.before in
+    let after = source_run_is_one (source.Kept both order) pair.after other.after one.after.run_is two.after.run_is in
+    let known = one_limit order both pair.after pair.known other.known one.after
+    (subst (λ (run : RunView). IsKnownRunOf order both run other.known) (sym after) two.after) in
+    let limit = subst (λ (limit : Option KnownLimit). IsKeptPair both.session edits refused limit other.before other.after other) (sym known) two.beside in
+    let beside = subst (λ (run : RunView). IsKeptPair both.session edits refused pair.known run other.after other) (sym before) limit in
+    kept_pair_is_one both.session edits refused pair.known pair.before pair.after pair other one.beside
+    (subst (λ (run : RunView). IsKeptPair both.session edits refused pair.known pair.before run other) (sym after) beside)
 
 one_shown : (both : Bool) (made : EditedSource) (shown other : Shown) → IsShown both made shown → IsShown both made other → shown ≡ other
 one_shown false made (One run) (One next) one two = ap (λ (r : RunView). One r) (source_run_is_one (after_of made) run next one two)
@@ -108,13 +137,27 @@ one_shown true made (One run) other one two = absurd one
 one_shown true made (Two pair) (One run) one two = absurd two
 one_shown true made (Two pair) (Two next) one two = ap (λ (p : PairView). Two p) (one_pair made pair next one two)
 
+-- what is told of how far a run is known
+one_known : (order : CallOrder) (made : KeptView) (run : RunView) (text other : List ℕ) → IsToldKnown order made run text → IsToldKnown order made run other
+    → text ≡ other
+one_known order made run text other one two =
+    let limit = one_limit order made run one.limit two.limit one.known two.known in
+    one.is_told ∙ ap (known_text run.session.header) limit ∙ sym two.is_told
+
+one_end : (reads : Documents) (origin : Source) (run : RunView) (ends other : List ℕ) → AreEnds reads origin run ends → AreEnds reads origin run other
+    → ends ≡ other
+one_end reads (source.Session session) run ends other one two = one ∙ sym two
+one_end reads (source.Settled session) run ends other one two = one ∙ sym two
+one_end reads (source.Workload workload) run ends other one two = one ∙ sym two
+one_end reads (source.Kept made order) run ends other one two = one_known order made run ends other one two
+
 one_told : (reads : Documents) (command : Command) (made : EditedSource) (printed other : Printed) → IsTold reads command made printed → IsTold reads command made
     other → printed ≡ other
 one_told reads (Show asked) made printed other one two =
     let same = one_shown (shows_both asked made) made one.shown two.shown one.is_shown two.is_shown in
-    one.is_told
-    ∙ ap (λ (shown : Shown). warned (ends_told reads (after_of made) (last_of shown)) (told (making_of made) asked shown)) same
-    ∙ sym two.is_told
+    let first = subst (λ (shown : Shown). AreEnds reads (after_of made) (last_of shown) one.ends) same one.are_ends in
+    let alike = one_end reads (after_of made) (last_of two.shown) one.ends two.ends first two.are_ends in
+    one.is_told ∙ ap₂ (λ (ends : List ℕ) (shown : Shown). warned ends (told (making_of made) asked shown)) alike same ∙ sym two.is_told
 one_told reads (Advise question) made printed other one two =
     let same = advice_is_one question (after_of made) one.advised two.advised one.is_advice two.is_advice in
     one.is_printed ∙ ap (λ (advised : AdvicePrinted). printed_of_advice advised.status advised.text) same ∙ sym two.is_printed
@@ -171,12 +214,22 @@ one_or_refused : (test : Bool) (refused : Printed) (claim other_claim : Type 0) 
 one_or_refused true refused claim other_claim input printed other both one two = same_printed input printed other (one ∙ sym two)
 one_or_refused false refused claim other_claim input printed other both one two = both one two
 
-one_of_bench : (lines : List ℕ) (job : Job) (input : List ℕ) (bench : Bench Edit) (printed other : Printed) → IsPrintedOfBench lines job bench printed →
-    IsPrintedOfBench lines job bench other → IsSame input printed other
-one_of_bench lines job input bench printed other one two =
-    let made : EditedSource = session_source job.settled (record { header = bench.header; steps = bench.steps }) bench.edits in
+one_of_session : (lines : List ℕ) (job : Job) (input : List ℕ) (bench : Bench KeptEdit) (printed other : Printed) → IsPrintedOfSession lines job bench printed →
+    IsPrintedOfSession lines job bench other → IsSame input printed other
+one_of_session lines job input bench printed other one two =
+    let made : EditedSource = session_source job.sessions (record { header = bench.header; steps = bench.steps }) bench.edits in
     one_or_refused (nat_lt max_steps (length bench.steps)) (warned lines too_many_steps) (IsNoted lines job made printed) (IsNoted lines job made other) input
     printed other (λ first second. same_printed input printed other (one_noted lines job made printed other first second)) one two
+
+one_unless : (found : Option ℕ) (lines : List ℕ) (job : Job) (input : List ℕ) (bench : Bench KeptEdit) (printed other : Printed)
+    → IsPrintedUnless found lines job bench printed → IsPrintedUnless found lines job bench other → IsSame input printed other
+one_unless (Some place) lines job input bench printed other one two = same_printed input printed other (one ∙ sym two)
+one_unless None lines job input bench printed other one two = one_of_session lines job input bench printed other one two
+
+one_of_bench : (lines : List ℕ) (job : Job) (input : List ℕ) (bench : Bench KeptEdit) (printed other : Printed) → IsPrintedOfBench lines job bench printed →
+    IsPrintedOfBench lines job bench other → IsSame input printed other
+one_of_bench lines job input bench printed other one two =
+    one_unless (unshown_edit job.sessions bench.edits) lines job input bench printed other one two
 
 -- a text that is JSON has one hint
 one_hint : (input : List ℕ) (why : Why) (path : List ℕ) (more : Detail) (hint other : List ℕ) → is_json_fault why ≡ true → IsFaultHint input why path more hint
@@ -207,13 +260,13 @@ one_of_fault input fault printed other told one two = record {
       ∙ sym two.is_printed);
 }
 
-of_bench : (input : List ℕ) (fault : TextFault) → bench_text input ≡ Err fault → is_json_text input ≡ true → is_json_fault fault.why ≡ true
-of_bench input fault read json = sym (ap is_json read) ∙ left_of (is_json (bench_text input)) (is_json (edited_workload_text input)) json
+of_bench : (input : List ℕ) (fault : TextFault) → kept_bench_text input ≡ Err fault → is_json_text input ≡ true → is_json_fault fault.why ≡ true
+of_bench input fault read json = sym (ap is_json read) ∙ left_of (is_json (kept_bench_text input)) (is_json (edited_workload_text input)) json
 
 of_workload : (input : List ℕ) (fault : TextFault) → edited_workload_text input ≡ Err fault → is_json_text input ≡ true → is_json_fault fault.why ≡ true
-of_workload input fault read json = sym (ap is_json read) ∙ right_of (is_json (bench_text input)) (is_json (edited_workload_text input)) json
+of_workload input fault read json = sym (ap is_json read) ∙ right_of (is_json (kept_bench_text input)) (is_json (edited_workload_text input)) json
 
-one_of_text : (job : Job) (input : List ℕ) (text : Result (Bench Edit) TextFault) (printed other : Printed) → bench_text input ≡ text → IsPrintedOfText job input text
+one_of_text : (job : Job) (input : List ℕ) (text : Result (Bench KeptEdit) TextFault) (printed other : Printed) → kept_bench_text input ≡ text → IsPrintedOfText job input text
     printed → IsPrintedOfText job input text other → IsSame input printed other
 one_of_text job input (Ok bench) printed other read one two = one_of_bench (twice_note input) job input bench printed other one two
 one_of_text job input (Err fault) printed other read one two = one_of_fault input fault printed other (of_bench input fault read) one two
@@ -232,9 +285,9 @@ one_of_workload job input (Ok made) printed other read one two =
 one_of_workload job input (Err fault) printed other read one two = one_of_fault input fault printed other (of_workload input fault read) one two
 
 -- a text that is no JSON is none of a session
-no_bench : (input : List ℕ) (fault : TextFault) → document input ≡ Err fault → bench_text input ≡ Err fault
+no_bench : (input : List ℕ) (fault : TextFault) → document input ≡ Err fault → kept_bench_text input ≡ Err fault
 unfolding bench_of_text
-no_bench input fault read = ap (λ (r : Result Data TextFault). r >>= (λ d. bench_at edit_at edit_flaw [] d)) read
+no_bench input fault read = ap (λ (r : Result Data TextFault). r >>= (λ d. bench_at kept_edit_at kept_flaw [] d)) read
 
 one_of_none : (input : List ℕ) (text : Result Data TextFault) (printed other : Printed) → document input ≡ text → IsPrintedOfNone input text printed
     → IsPrintedOfNone input text other → IsSame input printed other
@@ -244,7 +297,7 @@ one_of_none input (Err fault) printed other read one two =
 
 one_of_other : (which : Documents) (job : Job) (input : List ℕ) (printed other : Printed) → IsPrintedOfOther which job input printed → IsPrintedOfOther which job
     input other → IsSame input printed other
-one_of_other documents.All job input printed other one two = one_of_text job input (bench_text input) printed other refl one two
+one_of_other documents.All job input printed other one two = one_of_text job input (kept_bench_text input) printed other refl one two
 one_of_other (documents.Workloads ticks) job input printed other one two = one_of_none input (document input) printed other refl one two
 
 one_of_document : (is : Bool) (job : Job) (input : List ℕ) (printed other : Printed) → IsPrintedOfDocument is job input printed → IsPrintedOfDocument is job

@@ -25,6 +25,7 @@ use Rattle.view_commands.specs.declared.request.Documents.{Documents}
 use Rattle.view_commands.specs.declared.request.Documents.TheVariants as of_documents
 use Rattle.view_commands.specs.declared.request.Job.{Job}
 use Rattle.view_commands.specs.EditedSources.{after_of, edit_lines, making_of}
+use Rattle.view_commands.specs.Known.{IsToldKnown}
 use Rattle.view_commands.specs.ShownRuns.{shows_both, sources_of, IsShown}
 use Rattle.view_commands.specs.Strict.{IsJudged, IsRefusing}
 use Rattle.view_commands.specs.TooLong.{IsFirstTooLong}
@@ -36,23 +37,22 @@ abbrev pub ends_by : Documents → Workload → List Bool → List ℕ
 ends_by of_documents.All workload at_end = []
 ends_by (of_documents.Workloads ticks) workload at_end = ends_text workload at_end
 
--- of a workload the same, when the run ends
-abbrev pub ends_told : Documents → Source → RunView → List ℕ
-ends_told documents (source.Session session) run = []
-ends_told documents (source.Settled session) run = []
-ends_told documents (source.Workload workload) run =
-    ends_by documents workload (ends_of workload run.session.steps)
-ends_told documents (source.Kept made order) run = []
+-- Of a workload the same, when the run ends; up to where a run that keeps work is known.
+abbrev pub AreEnds : Documents → Source → RunView → List ℕ → Type 0
+AreEnds documents (source.Session session) run ends = ends ≡ []
+AreEnds documents (source.Settled session) run ends = ends ≡ []
+AreEnds documents (source.Workload workload) run ends =
+    ends ≡ ends_by documents workload (ends_of workload run.session.steps)
+AreEnds documents (source.Kept made order) run ends = IsToldKnown order made run ends
 
--- what is asked of the runs that are shown
+-- what is asked of the runs that are shown, behind what the last of them ends with
 pub record IsToldOfRuns (documents : Documents) (asked : Ask) (source : EditedSource)
     (printed : Printed) : Type 0 where
   pub shown : Shown
   pub is_shown : IsShown (shows_both asked source) source shown
-  pub is_told :
-      printed
-      ≡ warned (ends_told documents (after_of source) (last_of shown))
-      (told (making_of source) asked shown)
+  pub ends : List ℕ
+  pub are_ends : AreEnds documents (after_of source) (last_of shown) ends
+  pub is_told : printed ≡ warned ends (told (making_of source) asked shown)
 
 -- ---- advice
 

@@ -1,5 +1,5 @@
 -- What a command line asks for: what clap is told, and what it answers.
-use Rattle.std.specs.Prelude.{⊤, ℕ, List, [], ◌∷◌, ◌++◌, Bool, true, codes, string_bytes, Option, Some, None, option_map, pos, if◌then◌else◌}
+use Rattle.std.specs.Prelude.{⊤, ℕ, List, [], ◌∷◌, ◌++◌, Bool, true, codes, string_bytes, Option, Some, None, option_map, Result, Ok, Err, pos, if◌then◌else◌}
 use Rattle.std.specs.Str.{bytes_eq}
 use Rattle.clap.specs.Simple.{on_top}
 use Rattle.clap.specs.Words.{App, Row, Rule, Text, new_rule}
@@ -11,9 +11,13 @@ use Rattle.command_words.specs.Asking.{helps, mistakes, versions}
 use Rattle.command_words.specs.Said.{IsMistake}
 use Rattle.command_words.specs.Printed.{command_app, flag_rule, option_rule, program_app, with_commands}
 use Rattle.task_programs.specs.Limits.{max_ticks}
-use Rattle.view_commands.specs.Options.{command_of, documents_in, file_in, settled_in, strict_in}
+use Rattle.view_commands.specs.Options.{command_of, documents_in, file_in, strict_in}
+use Rattle.view_commands.specs.RunOptions.{runs_in}
 use Rattle.view_commands.specs.declared.request.Command.{Command}
 use Rattle.view_commands.specs.declared.request.Job.{Job}
+use Rattle.view_commands.specs.declared.request.SessionRuns.{SessionRuns}
+use Rattle.view_commands.specs.declared.run_options.RunsFault.{RunsFault}
+use Rattle.view_commands.specs.declared.run_options.RunsFault.TheVariants.{TwoWays, LoneTies, NoOrder}
 use Rattle.view_commands.specs.declared.request.Request.{Request}
 use Rattle.view_commands.specs.declared.request.Request.TheVariants.{Show, Help, Version, Lacking, Bad}
 
@@ -28,15 +32,22 @@ pub data Asked : Type 0 where
 
 -- ---- what clap is told
 
--- the flags `--settle`, `--strict` and `--json`
+-- the flags `--settle`, `--keep-work`, `--strict` and `--json`
 abbrev pub settle_rule : Rule
 settle_rule = flag_rule (codes "settle")
+
+abbrev pub keep_work_rule : Rule
+keep_work_rule = flag_rule (codes "keep-work")
 
 abbrev pub strict_rule : Rule
 strict_rule = flag_rule (codes "strict")
 
 abbrev pub json_rule : Rule
 json_rule = flag_rule (codes "json")
+
+-- the option `--ties`
+abbrev pub ties_rule : Rule
+ties_rule = option_rule (codes "ties")
 
 -- a number below 2^32
 abbrev pub a_number : ValueParser
@@ -98,40 +109,49 @@ file_rule = record (new_rule (codes "file")) { value_names = 1 }
 abbrev pub trace_app : App
 trace_app =
     command_app (codes "trace")
-    (settle_rule ∷ from_rule ∷ to_rule ∷ task_rule ∷ core_rule ∷ strict_rule ∷ file_rule ∷ [])
+    (settle_rule ∷ keep_work_rule ∷ ties_rule ∷ from_rule ∷ to_rule ∷ task_rule ∷ core_rule
+    ∷ strict_rule ∷ file_rule ∷ [])
 
 abbrev pub session_app : App
 session_app = command_app (codes "session") (strict_rule ∷ file_rule ∷ [])
 
 abbrev pub settle_app : App
-settle_app = command_app (codes "settle") (strict_rule ∷ file_rule ∷ [])
+settle_app =
+    command_app (codes "settle") (keep_work_rule ∷ ties_rule ∷ strict_rule ∷ file_rule ∷ [])
 
 abbrev pub compare_app : App
-compare_app = command_app (codes "compare") (settle_rule ∷ strict_rule ∷ file_rule ∷ [])
+compare_app =
+    command_app (codes "compare")
+    (settle_rule ∷ keep_work_rule ∷ ties_rule ∷ strict_rule ∷ file_rule ∷ [])
 
 abbrev pub timeline_app : App
 timeline_app =
     command_app (codes "timeline")
-    (settle_rule ∷ axis_rule ∷ from_rule ∷ to_rule ∷ strict_rule ∷ file_rule ∷ [])
+    (settle_rule ∷ keep_work_rule ∷ ties_rule ∷ axis_rule ∷ from_rule ∷ to_rule ∷ strict_rule
+    ∷ file_rule ∷ [])
 
 abbrev pub page_app : App
 page_app =
     command_app (codes "page")
-    (settle_rule ∷ axis_rule ∷ from_rule ∷ to_rule ∷ strict_rule ∷ file_rule ∷ [])
+    (settle_rule ∷ keep_work_rule ∷ ties_rule ∷ axis_rule ∷ from_rule ∷ to_rule ∷ strict_rule
+    ∷ file_rule ∷ [])
 
 abbrev pub report_app : App
 report_app =
-    command_app (codes "report") (settle_rule ∷ json_rule ∷ strict_rule ∷ file_rule ∷ [])
+    command_app (codes "report")
+    (settle_rule ∷ keep_work_rule ∷ ties_rule ∷ json_rule ∷ strict_rule ∷ file_rule ∷ [])
 
 abbrev pub check_app : App
 check_app =
     command_app (codes "check")
-    (settle_rule ∷ at_most_rule ∷ at_least_rule ∷ strict_rule ∷ file_rule ∷ [])
+    (settle_rule ∷ keep_work_rule ∷ ties_rule ∷ at_most_rule ∷ at_least_rule ∷ strict_rule
+    ∷ file_rule ∷ [])
 
 abbrev pub advise_app : App
 advise_app =
     command_app (codes "advise")
-    (settle_rule ∷ judged_rule ∷ less_rule ∷ over_rule ∷ best_rule ∷ strict_rule ∷ file_rule ∷ [])
+    (settle_rule ∷ keep_work_rule ∷ ties_rule ∷ judged_rule ∷ less_rule ∷ over_rule ∷ best_rule
+    ∷ strict_rule ∷ file_rule ∷ [])
 
 abbrev pub simulate_app : App
 simulate_app = command_app (codes "simulate") (ticks_rule ∷ strict_rule ∷ file_rule ∷ [])
@@ -174,6 +194,25 @@ abbrev pub no_families : List ℕ
 no_families =
     codes "error: --over takes priority, mask, pin and order, with commas between them" ++ try_help
 
+-- that the options name two ways to make runs
+abbrev pub two_ways : List ℕ
+two_ways =
+    codes "error: --settle and --keep-work are two ways to make runs: take one" ++ try_help
+
+-- that they say which calls come first, and not that runs keep work
+abbrev pub lone_ties : List ℕ
+lone_ties = codes "error: --ties is for --keep-work" ++ try_help
+
+-- that a word names no order of calls
+abbrev pub no_order : List ℕ
+no_order = codes "error: --ties takes oldest or core" ++ try_help
+
+-- where the options don't say how runs are made, what is told of that
+abbrev pub fault_text : RunsFault → List ℕ
+fault_text TwoWays = two_ways
+fault_text LoneTies = lone_ties
+fault_text NoOrder = no_order
+
 -- by the name of a command, what is told where it lacks what clap does not ask for
 abbrev pub lacking_text : Text → List ℕ
 lacking_text name =
@@ -181,28 +220,38 @@ lacking_text name =
     else (if bytes_eq name (codes "timeline") then no_axis
     else (if bytes_eq name (codes "page") then no_axis else no_families))
 
--- what a command that lacks nothing is about
-abbrev pub job_with : Text → List Row → Command → Job
-job_with name options command = record {
+-- what a command that lacks nothing is about, by how the runs of sessions are made
+abbrev pub job_with : Text → List Row → SessionRuns → Command → Job
+job_with name options sessions command = record {
   command = command;
-  settled = settled_in name options;
+  sessions = sessions;
   documents = documents_in name options;
   strict = strict_in options;
 }
 
 -- the same; none, where it lacks what clap does not ask for
-abbrev pub job_of : Text → List Row → Option Job
-job_of name options = option_map (job_with name options) (command_of name options)
+abbrev pub job_of : Text → List Row → SessionRuns → Option Job
+job_of name options sessions =
+    option_map (job_with name options sessions) (command_of name options)
 
 -- a job and the name of a file, or this is told
 abbrev asked_with : List ℕ → Option Job → Option Text → Asked
 asked_with lack (Some job) file = a_view job file
 asked_with lack None file = lacks lack
 
+-- what a command with this name and these options asks for, by how the runs of sessions are made
+abbrev pub asked_of : Text → List Row → SessionRuns → Asked
+asked_of name options sessions =
+    asked_with (lacking_text name) (job_of name options sessions) (file_in options)
+
+-- the same; this is told where the options don't say how
+abbrev pub asked_by_runs : Text → List Row → Result SessionRuns RunsFault → Asked
+asked_by_runs name options (Ok sessions) = asked_of name options sessions
+asked_by_runs name options (Err fault) = lacks (fault_text fault)
+
 -- what a command with this name and these options asks for
 abbrev pub asked_for : Text → List Row → Asked
-asked_for name options =
-    asked_with (lacking_text name) (job_of name options) (file_in options)
+asked_for name options = asked_by_runs name options (runs_in name options)
 
 -- by what clap answers
 abbrev pub asked_by : Answered → Asked

@@ -1,6 +1,7 @@
 -- Worked command lines.
 use Rattle.std.specs.Prelude.{◌≡◌, ℕ, List, [], ◌∷◌, Bool, true, false, Option, Some, None, codes}
 use Rattle.clap.specs.Words.{Text}
+use Rattle.kept_runs.specs.declared.call_order.CallOrder.TheVariants.{Oldest, LeastCore}
 use Rattle.ranked_changes.specs.declared.change.Family.{Family}
 use Rattle.report_figures.specs.declared.limits.Bound.TheVariants.{AtMost, AtLeast}
 use Rattle.run_pictures.specs.declared.frame.Axis.TheVariants as by
@@ -12,35 +13,29 @@ use Rattle.shown_runs.specs.declared.ask.Ask.{Ask}
 use Rattle.shown_runs.specs.declared.ask.Ask.TheVariants as ask
 use Rattle.view_commands.specs.declared.request.Command.TheVariants.{Advise, Show}
 use Rattle.view_commands.specs.declared.request.Documents.TheVariants as documents
-use Rattle.view_commands.specs.CommandLine.{Asked, a_view, help, version, lacks, a_mistake, asked, no_axis, no_families, no_limits}
+use Rattle.view_commands.specs.declared.request.SessionRuns.{SessionRuns}
+use Rattle.view_commands.specs.declared.request.SessionRuns.TheVariants.{AsWritten, Settled, Kept}
+use Rattle.view_commands.specs.CommandLine.{Asked, a_view, help, version, lacks, a_mistake, asked, lone_ties, no_axis, no_families, no_limits, no_order, two_ways}
 
--- without the flag `--strict`, of the runs as their steps stand or of settled ones, of a file or of
--- standard input
-abbrev pub a_lenient : Bool → Ask → Option Text → Asked
-a_lenient settled asked =
+-- without the flag `--strict`, of runs that are made so, of a file or of standard input
+abbrev pub a_lenient : SessionRuns → Ask → Option Text → Asked
+a_lenient sessions asked =
     a_view (record {
       command = Show asked;
-      settled = settled;
+      sessions = sessions;
       documents = documents.All;
       strict = false;
     })
 
 -- the same with the flag
-abbrev pub a_strict : Bool → Ask → Option Text → Asked
-a_strict settled asked =
+abbrev pub a_strict : SessionRuns → Ask → Option Text → Asked
+a_strict sessions asked =
     a_view (record {
       command = Show asked;
-      settled = settled;
+      sessions = sessions;
       documents = documents.All;
       strict = true;
     })
-
--- the runs as their steps stand, and settled ones
-abbrev pub as_written : Bool
-as_written = false
-
-abbrev pub settled : Bool
-settled = true
 
 -- by the words after the program's name
 abbrev pub asked_after : List Text → Asked
@@ -65,13 +60,13 @@ most = 4294967295
 -- a trace of these places, tasks and cores, of a file or of standard input
 abbrev pub a_trace : Places → List Text → List ℕ → Option Text → Asked
 a_trace places tasks cores =
-    a_lenient as_written
+    a_lenient AsWritten
     (ask.Trace (record { places = places; tasks = tasks; cores = cores }))
 
 -- the same of the settled run
 abbrev pub a_settled_trace : Places → List Text → List ℕ → Option Text → Asked
 a_settled_trace places tasks cores =
-    a_lenient settled (ask.Trace (record { places = places; tasks = tasks; cores = cores }))
+    a_lenient Settled (ask.Trace (record { places = places; tasks = tasks; cores = cores }))
 
 pub record WorkedTraces : Type 0 where
   pub bare : asked_after (codes "trace" ∷ []) ≡ a_trace (places 0 most) [] [] None
@@ -106,53 +101,81 @@ pub record WorkedTraces : Type 0 where
       ≡ a_settled_trace (places 3 most) [] [] None
 
 pub record WorkedViews : Type 0 where
-  pub session : asked_after (codes "session" ∷ []) ≡ a_lenient as_written ask.Session None
+  pub session : asked_after (codes "session" ∷ []) ≡ a_lenient AsWritten ask.Session None
   pub session_of_file :
       asked_after (codes "session" ∷ codes "run.json" ∷ [])
-      ≡ a_lenient as_written ask.Session (Some (codes "run.json"))
-  pub settle : asked_after (codes "settle" ∷ codes "-" ∷ []) ≡ a_lenient settled ask.Session None
-  pub compare : asked_after (codes "compare" ∷ []) ≡ a_lenient as_written ask.Compare None
+      ≡ a_lenient AsWritten ask.Session (Some (codes "run.json"))
+  pub settle : asked_after (codes "settle" ∷ codes "-" ∷ []) ≡ a_lenient Settled ask.Session None
+  pub compare : asked_after (codes "compare" ∷ []) ≡ a_lenient AsWritten ask.Compare None
   pub compare_settled :
       asked_after (codes "compare" ∷ codes "run.json" ∷ codes "--settle" ∷ [])
-      ≡ a_lenient settled ask.Compare (Some (codes "run.json"))
+      ≡ a_lenient Settled ask.Compare (Some (codes "run.json"))
   pub strict_session :
       asked_after (codes "session" ∷ codes "--strict" ∷ codes "run.json" ∷ [])
-      ≡ a_strict as_written ask.Session (Some (codes "run.json"))
+      ≡ a_strict AsWritten ask.Session (Some (codes "run.json"))
   pub strict_settle :
       asked_after (codes "settle" ∷ codes "-" ∷ codes "--strict" ∷ [])
-      ≡ a_strict settled ask.Session None
+      ≡ a_strict Settled ask.Session None
   pub strict_comparison :
       asked_after (codes "compare" ∷ codes "--strict" ∷ codes "--settle" ∷ [])
-      ≡ a_strict settled ask.Compare None
+      ≡ a_strict Settled ask.Compare None
   pub picture :
-      asked_after (codes "timeline" ∷ []) ≡ a_lenient as_written (ask.Timeline (by_places 0 most)) None
+      asked_after (codes "timeline" ∷ []) ≡ a_lenient AsWritten (ask.Timeline (by_places 0 most)) None
   pub picture_between :
       asked_after (codes "timeline" ∷ codes "--from" ∷ codes "3" ∷ codes "--to" ∷ codes "7" ∷ [])
-      ≡ a_lenient as_written (ask.Timeline (by_places 3 7)) None
+      ≡ a_lenient AsWritten (ask.Timeline (by_places 3 7)) None
   pub picture_settled :
       asked_after (codes "timeline" ∷ codes "--to" ∷ codes "7" ∷ codes "--settle" ∷ [])
-      ≡ a_lenient settled (ask.Timeline (by_places 0 7)) None
+      ≡ a_lenient Settled (ask.Timeline (by_places 0 7)) None
   pub picture_by_ticks :
       asked_after (codes "timeline" ∷ codes "--axis" ∷ codes "tick" ∷ [])
-      ≡ a_lenient as_written (ask.Timeline (by_ticks 0 most)) None
+      ≡ a_lenient AsWritten (ask.Timeline (by_ticks 0 most)) None
   pub picture_by_time :
       asked_after (codes "timeline" ∷ codes "--axis=time" ∷ codes "--settle" ∷ [])
-      ≡ a_lenient settled (ask.Timeline (by_time 0 most)) None
+      ≡ a_lenient Settled (ask.Timeline (by_time 0 most)) None
   pub page :
       asked_after (codes "page" ∷ codes "--from" ∷ codes "3" ∷ codes "run.json" ∷ [])
-      ≡ a_lenient as_written (ask.Page (by_places 3 most))
+      ≡ a_lenient AsWritten (ask.Page (by_places 3 most))
       (Some (codes "run.json"))
   pub page_settled :
       asked_after (codes "page" ∷ codes "--settle" ∷ codes "--to=7" ∷ [])
-      ≡ a_lenient settled (ask.Page (by_places 0 7)) None
+      ≡ a_lenient Settled (ask.Page (by_places 0 7)) None
   pub page_by_ticks :
       asked_after (codes "page" ∷ codes "--axis=tick" ∷ [])
-      ≡ a_lenient as_written (ask.Page (by_ticks 0 most)) None
+      ≡ a_lenient AsWritten (ask.Page (by_ticks 0 most)) None
   pub report :
-      asked_after (codes "report" ∷ []) ≡ a_lenient as_written (ask.Report Table) None
+      asked_after (codes "report" ∷ []) ≡ a_lenient AsWritten (ask.Report Table) None
   pub report_as_json :
       asked_after (codes "report" ∷ codes "--json" ∷ codes "--settle" ∷ [])
-      ≡ a_lenient settled (ask.Report Json) None
+      ≡ a_lenient Settled (ask.Report Json) None
+
+pub record WorkedKeptRuns : Type 0 where
+  pub compare :
+      asked_after (codes "compare" ∷ codes "--keep-work" ∷ [])
+      ≡ a_lenient (Kept Oldest) ask.Compare None
+  pub settle :
+      asked_after (codes "settle" ∷ codes "--keep-work" ∷ codes "--ties" ∷ codes "core" ∷ [])
+      ≡ a_lenient (Kept LeastCore) ask.Session None
+  pub trace :
+      asked_after (codes "trace" ∷ codes "--ties=core" ∷ codes "run.json"
+      ∷ codes "--keep-work" ∷ codes "--from=3" ∷ [])
+      ≡ a_lenient (Kept LeastCore)
+      (ask.Trace (record { places = places 3 most; tasks = []; cores = [] })) (Some (codes "run.json"))
+  pub report :
+      asked_after (codes "report" ∷ codes "--keep-work" ∷ codes "--ties=oldest"
+      ∷ codes "--strict" ∷ [])
+      ≡ a_strict (Kept Oldest) (ask.Report Table) None
+  pub both_ways :
+      asked_after (codes "compare" ∷ codes "--settle" ∷ codes "--keep-work" ∷ []) ≡ lacks two_ways
+  pub ties_alone :
+      asked_after (codes "settle" ∷ codes "--ties" ∷ codes "core" ∷ []) ≡ lacks lone_ties
+  pub settled_ties :
+      asked_after (codes "page" ∷ codes "--settle" ∷ codes "--ties=oldest" ∷ []) ≡ lacks lone_ties
+  pub unknown_order :
+      asked_after (codes "timeline" ∷ codes "--keep-work" ∷ codes "--ties" ∷ codes "cores" ∷ [])
+      ≡ lacks no_order
+  pub session : asked_after (codes "session" ∷ codes "--keep-work" ∷ []) ≡ a_mistake
+  pub simulate : asked_after (codes "simulate" ∷ codes "--ties=core" ∷ []) ≡ a_mistake
 
 -- the run of a workload that goes on for so many ticks, or for as many as it says, of a file or of
 -- standard input
@@ -160,7 +183,7 @@ abbrev pub a_simulation : Option ℕ → Option Text → Asked
 a_simulation ticks =
     a_view (record {
       command = Show ask.Session;
-      settled = false;
+      sessions = AsWritten;
       documents = documents.Workloads ticks;
       strict = false;
     })
@@ -183,21 +206,21 @@ abbrev pub at_least : Text → ℕ → limit.Asked
 at_least name number = record { name = name; bound = AtLeast number }
 
 -- a check of these limits, of a file or of standard input
-abbrev pub a_check : Bool → List limit.Asked → Option Text → Asked
-a_check made limits = a_lenient made (ask.Check limits)
+abbrev pub a_check : SessionRuns → List limit.Asked → Option Text → Asked
+a_check sessions limits = a_lenient sessions (ask.Check limits)
 
 pub record WorkedChecks : Type 0 where
   pub one_limit :
       asked_after (codes "check" ∷ codes "--at-most" ∷ codes "A.run=3" ∷ [])
-      ≡ a_check as_written (at_most (codes "A.run") 3 ∷ []) None
+      ≡ a_check AsWritten (at_most (codes "A.run") 3 ∷ []) None
   pub greatest_first :
       asked_after (codes "check" ∷ codes "--at-least=A.run=1" ∷ codes "--settle"
       ∷ codes "run.json" ∷ codes "--at-most=B.run=+2" ∷ [])
-      ≡ a_check settled (at_most (codes "B.run") 2 ∷ at_least (codes "A.run") 1 ∷ [])
+      ≡ a_check Settled (at_most (codes "B.run") 2 ∷ at_least (codes "A.run") 1 ∷ [])
       (Some (codes "run.json"))
   pub last_sign :
       asked_after (codes "check" ∷ codes "--at-most" ∷ codes "a=b.run=3" ∷ [])
-      ≡ a_check as_written (at_most (codes "a=b.run") 3 ∷ []) None
+      ≡ a_check AsWritten (at_most (codes "a=b.run") 3 ∷ []) None
   pub no_limit : asked_after (codes "check" ∷ codes "run.json" ∷ []) ≡ lacks no_limits
   pub no_number :
       asked_after (codes "check" ∷ codes "--at-most" ∷ codes "A.run=x" ∷ []) ≡ lacks no_limits
@@ -206,11 +229,11 @@ pub record WorkedChecks : Type 0 where
 
 -- advice on the number of this name, over these families, and so many of the best, of a file or of
 -- standard input
-abbrev pub some_advice : Text → Bool → Family → ℕ → Option Text → Asked
-some_advice name made family best =
+abbrev pub some_advice : Text → SessionRuns → Family → ℕ → Option Text → Asked
+some_advice name sessions family best =
     a_view (record {
       command = Advise (record { name = name; family = family; best = best });
-      settled = made;
+      sessions = sessions;
       documents = documents.All;
       strict = false;
     })
@@ -222,15 +245,15 @@ families priority mask pin order =
 pub record WorkedAdvice : Type 0 where
   pub usual :
       asked_after (codes "advise" ∷ codes "--task" ∷ codes "A" ∷ codes "--less=run" ∷ [])
-      ≡ some_advice (codes "A.run") as_written (families true true false true) 10 None
+      ≡ some_advice (codes "A.run") AsWritten (families true true false true) 10 None
   pub settled_best :
       asked_after (codes "advise" ∷ codes "--settle" ∷ codes "--less=ready" ∷ codes "run.json"
       ∷ codes "--task=B" ∷ codes "--best=3" ∷ codes "--over" ∷ codes "order,priority" ∷ [])
-      ≡ some_advice (codes "B.ready") settled (families true false false true) 3 (Some (codes "run.json"))
+      ≡ some_advice (codes "B.ready") Settled (families true false false true) 3 (Some (codes "run.json"))
   pub pinned :
       asked_after (codes "advise" ∷ codes "--task=A" ∷ codes "--less=run" ∷ codes "--over=pin"
       ∷ [])
-      ≡ some_advice (codes "A.run") as_written (families false false true false) 10 None
+      ≡ some_advice (codes "A.run") AsWritten (families false false true false) 10 None
   pub no_task : asked_after (codes "advise" ∷ codes "--less=run" ∷ []) ≡ a_mistake
   pub no_number : asked_after (codes "advise" ∷ codes "--task=A" ∷ []) ≡ a_mistake
   pub no_family :

@@ -1,13 +1,14 @@
 -- What is told of an input.
-use Rattle.std.specs.Prelude.{◌≡◌, ℕ, List, length, Bool, true, false, ◌&&◌, nat_lt, Result, Ok, Err}
+use Rattle.std.specs.Prelude.{◌≡◌, ℕ, List, length, Bool, true, false, ◌&&◌, nat_lt, Option, Some, None, is_none, position, Result, Ok, Err}
 use Rattle.serde_json.specs.Data.{Data}
 use Rattle.bench_types.specs.Limits.{max_input, max_steps}
-use Rattle.bench_types.specs.declared.edit.Edit.{Edit}
+use Rattle.kept_edits.specs.declared.edit.KeptEdit.{KeptEdit}
+use Rattle.kept_edits.specs.Edits.{plain_edit}
 use Rattle.session_text.specs.declared.bench.Bench.{Bench}
 use Rattle.session_text.specs.declared.fault.TextFault.{TextFault}
 use Rattle.session_text.specs.declared.fault.Why.{Why}
 use Rattle.session_text.specs.declared.fault.Why.TheVariants.{NotJson}
-use Rattle.session_text.specs.Bench.{bench_text}
+use Rattle.session_text.specs.Bench.{kept_bench_text}
 use Rattle.session_text.specs.Session.{document}
 use Rattle.task_programs.specs.declared.flaw.WorkloadFlaw.{WorkloadFlaw}
 use Rattle.edited_workloads.specs.declared.document.EditedWorkload.{EditedWorkload}
@@ -20,9 +21,11 @@ use Rattle.view_commands.specs.declared.edited.EditedSource.TheVariants as edite
 use Rattle.view_commands.specs.declared.request.Documents.{Documents}
 use Rattle.view_commands.specs.declared.request.Documents.TheVariants.{All, Workloads}
 use Rattle.view_commands.specs.declared.request.Job.{Job}
+use Rattle.view_commands.specs.declared.request.SessionRuns.{SessionRuns}
+use Rattle.view_commands.specs.declared.request.SessionRuns.TheVariants.{AsWritten, Settled, Kept}
 use Rattle.view_commands.specs.Answers.{IsNoted}
 use Rattle.view_commands.specs.EditedSources.{session_source}
-use Rattle.view_commands.specs.Refusals.{no_workload, refused_lines, too_long_input, too_many_steps, too_many_ticks}
+use Rattle.view_commands.specs.Refusals.{no_kept, no_workload, refused_lines, too_long_input, too_many_steps, too_many_ticks}
 use Rattle.view_commands.specs.Ticks.{both_ticked, ticks_of}
 
 -- a refusal where the test says so, and else what the claim says
@@ -30,17 +33,36 @@ abbrev pub IsRefusedOr : Bool → Printed → Type 0 → Printed → Type 0
 IsRefusedOr true refused claim printed = printed ≡ refused
 IsRefusedOr false refused claim printed = claim
 
--- J2 comes after all other refusals of the document; what is told begins with lines
-abbrev pub IsPrintedOfBench : List ℕ → Job → Bench Edit → Printed → Type 0
-IsPrintedOfBench lines job bench printed =
+-- where the first of the edits stands for which a session is not shown by such runs: changes of
+-- work are shown by runs that keep work alone
+abbrev pub unshown_edit : SessionRuns → List KeptEdit → Option ℕ
+unshown_edit AsWritten edits = position (λ edit. is_none (plain_edit edit)) edits
+unshown_edit Settled edits = position (λ edit. is_none (plain_edit edit)) edits
+unshown_edit (Kept order) edits = None
+
+-- J2 comes after all other refusals of the document
+abbrev pub IsPrintedOfSession : List ℕ → Job → Bench KeptEdit → Printed → Type 0
+IsPrintedOfSession lines job bench printed =
     IsRefusedOr (nat_lt max_steps (length bench.steps)) (warned lines too_many_steps)
     (IsNoted lines job
-    (session_source job.settled (record { header = bench.header; steps = bench.steps }) bench.edits)
+    (session_source job.sessions (record { header = bench.header; steps = bench.steps })
+    bench.edits)
     printed)
     printed
 
+-- by the first of its edits for which it is not shown
+abbrev pub IsPrintedUnless : Option ℕ → List ℕ → Job → Bench KeptEdit → Printed → Type 0
+IsPrintedUnless (Some place) lines job bench printed = printed ≡ warned lines (no_kept place)
+IsPrintedUnless None lines job bench printed = IsPrintedOfSession lines job bench printed
+
+-- what is told begins with lines
+abbrev pub IsPrintedOfBench : List ℕ → Job → Bench KeptEdit → Printed → Type 0
+IsPrintedOfBench lines job bench printed =
+    IsPrintedUnless (unshown_edit job.sessions bench.edits) lines job bench printed
+
 -- the first line says that a member stands twice, where one does
-abbrev pub IsPrintedOfText : Job → List ℕ → Result (Bench Edit) TextFault → Printed → Type 0
+abbrev pub IsPrintedOfText :
+    Job → List ℕ → Result (Bench KeptEdit) TextFault → Printed → Type 0
 IsPrintedOfText job input (Ok bench) printed = IsPrintedOfBench (twice_note input) job bench printed
 IsPrintedOfText job input (Err fault) printed = IsPrintedFault refused_lines input fault printed
 
@@ -63,7 +85,7 @@ IsPrintedOfNone input (Err fault) printed = IsPrintedFault refused_lines input f
 
 -- by which documents are read, what is told of a text that is no workload
 abbrev pub IsPrintedOfOther : Documents → Job → List ℕ → Printed → Type 0
-IsPrintedOfOther All job input printed = IsPrintedOfText job input (bench_text input) printed
+IsPrintedOfOther All job input printed = IsPrintedOfText job input (kept_bench_text input) printed
 IsPrintedOfOther (Workloads ticks) job input printed =
     IsPrintedOfNone input (document input) printed
 
@@ -92,7 +114,7 @@ is_json (Err fault) = is_json_fault fault.why
 
 -- the text is not, whatever it is read as
 abbrev pub is_json_text : List ℕ → Bool
-is_json_text input = is_json (bench_text input) && is_json (edited_workload_text input)
+is_json_text input = is_json (kept_bench_text input) && is_json (edited_workload_text input)
 
 -- The same is told. Only of a text that is no JSON nothing is said of the place that is told.
 pub record IsSame (input : List ℕ) (printed other : Printed) : Type 0 where

@@ -4,10 +4,12 @@ pub mod CommandLines
 pub mod Commands
 pub mod EditedSources
 pub mod Families
+pub mod Known
 pub mod Options
 pub mod Parts
 pub mod Progress
 pub mod Refusals
+pub mod RunOptions
 pub mod ShownRuns
 pub mod Source
 pub mod Strict

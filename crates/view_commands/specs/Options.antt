@@ -1,5 +1,5 @@
 -- What clap's answers mean: the options of a command, a row for each, and the name of a file.
-use Rattle.std.specs.Prelude.{◌≡◌, ◌&&◌, ◌||◌, ◌^◌, ◌-◌, ◌==◌, ℕ, List, [], ◌∷◌, ◌++◌, flat_map, length, map, Bool, true, false, codes, Option, Some, None, IfSome}
+use Rattle.std.specs.Prelude.{◌≡◌, ◌&&◌, ◌^◌, ◌-◌, ◌==◌, ℕ, List, [], ◌∷◌, ◌++◌, flat_map, length, map, Bool, true, false, codes, Option, Some, None, IfSome}
 use Rattle.std.specs.Prelude.{is_some, option_and_then, option_map, unwrap_or, if◌then◌else◌}
 use Rattle.std.specs.Path.{rsplit_once}
 use Rattle.std.specs.List.{list_all}
@@ -43,9 +43,6 @@ is_ticks = is_unsigned_in 0 max_ticks
 -- ---- each option
 
 -- whether the flag is there
-abbrev pub settle_in : List Row → Bool
-settle_in = flag_in (codes "settle")
-
 abbrev pub strict_in : List Row → Bool
 strict_in = flag_in (codes "strict")
 
@@ -213,10 +210,6 @@ command_of name options =
     if bytes_eq name (codes "advise") then advice_of options
     else option_map Show (ask_of name options)
 
--- settled runs are shown: of each session by `settle`, and else by the flag
-abbrev pub settled_in : Text → List Row → Bool
-settled_in name options = bytes_eq name (codes "settle") || settle_in options
-
 -- by the name of a command, which documents it reads
 abbrev pub documents_in : Text → List Row → Documents
 documents_in name options =
@@ -227,6 +220,7 @@ documents_in name options =
 -- options whose values clap took
 pub record AreTaken (options : List Row) : Type 0 where
   pub settle : IfSome (one_of (codes "settle") options) (λ text. is_flag text ≡ true)
+  pub keep_work : IfSome (one_of (codes "keep-work") options) (λ text. is_flag text ≡ true)
   pub strict : IfSome (one_of (codes "strict") options) (λ text. is_flag text ≡ true)
   pub json : IfSome (one_of (codes "json") options) (λ text. is_flag text ≡ true)
   pub from : IfSome (one_of (codes "from") options) (λ text. is_number text ≡ true)

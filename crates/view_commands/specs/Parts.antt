@@ -1,7 +1,7 @@
 -- The parts of a command.
 use Rattle.std.specs.Prelude.{ℕ, ◌+◌, length, Bool, nat_le}
 use Rattle.shown_runs.specs.declared.ask.Making.{Making}
-use Rattle.shown_runs.specs.declared.ask.Making.TheVariants.{AsWritten, Settled, Simulated}
+use Rattle.shown_runs.specs.declared.ask.Making.TheVariants.{AsWritten, Settled, Simulated, Kept}
 use Rattle.shown_runs.specs.Parts.{ask_parts, one_if}
 use Rattle.view_commands.specs.declared.edited.EditedSource.{EditedSource}
 use Rattle.view_commands.specs.declared.edited.EditedSource.TheVariants as edited
@@ -23,12 +23,14 @@ abbrev pub is_long : EditedSource → Bool
 is_long (edited.Session made) = nat_le long_session (length made.session.steps)
 is_long (edited.Settled made) = nat_le long_session (length made.session.steps)
 is_long (edited.Workload made) = nat_le long_workload made.workload.ticks
+is_long (edited.Kept made order) = nat_le long_session (length made.session.steps)
 
 -- runs are made in a part of its own, but for those of sessions as their steps stand
 abbrev pub making_parts : Making → ℕ
 making_parts AsWritten = 0
 making_parts Settled = 1
 making_parts Simulated = 1
+making_parts Kept = 1
 
 -- How many parts a command has, but for refusals. Advice tells by itself how far it is.
 abbrev pub own_parts : Command → EditedSource → ℕ

@@ -33,6 +33,19 @@ settled_too_long_line =
 abbrev pub settled_too_long : Printed
 settled_too_long = refused_for (codes "J2") settled_too_long_line
 
+-- that the first change of work, which stands at this place among the edits, is shown by runs that
+-- keep work alone
+abbrev pub work_path : ℕ → List ℕ
+work_path place = codes "edits[" ++ decimal place ++ codes "].edit"
+
+abbrev pub no_kept_line : ℕ → List ℕ
+no_kept_line place =
+    work_path place ++ codes ": a change of work is shown by --keep-work alone\n"
+
+-- H2: the same, with the refusal line
+abbrev pub no_kept : ℕ → Printed
+no_kept place = refused_lines (refusal_line (codes "H2") (work_path place)) (no_kept_line place)
+
 -- that the run that keeps work, or the settled run before the edits, has
 abbrev pub kept_too_long_line : List ℕ
 kept_too_long_line =

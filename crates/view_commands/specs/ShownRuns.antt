@@ -1,6 +1,10 @@
 -- Which runs of a document are shown.
 use Rattle.std.specs.Prelude.{◌≡◌, List, [], ◌∷◌, ◌&&◌, Bool, true, false}
-use Rattle.run_comparisons.specs.Pairs.{edited_pair, IsSettledPair, IsSimulatedPair, PairView}
+use Rattle.kept_edits.specs.Edits.{plain_edits}
+use Rattle.kept_runs.specs.declared.call_order.CallOrder.{CallOrder}
+use Rattle.kept_sessions.specs.Runs.{IsKeptRunOf, IsKnownRunOf}
+use Rattle.kept_sessions.specs.Sessions.{without_edits, KeptView}
+use Rattle.run_comparisons.specs.Pairs.{edited_pair, IsKeptPair, IsSettledPair, IsSimulatedPair, PairView}
 use Rattle.run_sources.specs.declared.source.Source.{Source}
 use Rattle.run_sources.specs.Sources.{IsRunOfSource, IsSimulated}
 use Rattle.shown_runs.specs.declared.ask.Ask.{Ask}
@@ -10,7 +14,7 @@ use Rattle.shown_runs.specs.declared.shown.Shown.TheVariants.{One, Two}
 use Rattle.edited_workloads.specs.declared.document.EditedWorkload.{EditedWorkload}
 use Rattle.view_commands.specs.declared.edited.EditedSource.{EditedSource}
 use Rattle.view_commands.specs.declared.edited.EditedSource.TheVariants as edited
-use Rattle.view_commands.specs.EditedSources.{after_of, before_of, has_edits, last_workload}
+use Rattle.view_commands.specs.EditedSources.{after_of, before_of, has_edits, last_workload, refused_of}
 
 -- what is asked is told of the run before the edits and of that after them
 abbrev pub asks_both : Ask → Bool
@@ -37,11 +41,21 @@ pub record AreSimulated (made : EditedWorkload) (pair : PairView) : Type 0 where
   pub after : IsSimulated (last_workload made) pair.after
   pub beside : IsSimulatedPair pair.before pair.after pair
 
+-- The runs that keep work of a session without edits and with them, of which the second is known
+-- up to where the pair is. Of all edits some are refused; those of the session alone tell which
+-- steps stand beside each other.
+pub record AreKept (made : KeptView) (order : CallOrder) (pair : PairView) : Type 0 where
+  pub before : IsKeptRunOf order (without_edits made) pair.before
+  pub after : IsKnownRunOf order made pair.after pair.known
+  pub beside : IsKeptPair made.session (plain_edits made.edits)
+      (refused_of (edited.Kept made order)) pair.known pair.before pair.after pair
+
 -- both runs of a source
 abbrev pub IsPair : EditedSource → PairView → Type 0
 IsPair (edited.Session made) pair = pair ≡ edited_pair made.session made.edits
 IsPair (edited.Settled made) pair = IsSettledPair made.session made.edits pair
 IsPair (edited.Workload made) pair = AreSimulated made pair
+IsPair (edited.Kept made order) pair = AreKept made order pair
 
 -- both, or the run of what the edits leave
 abbrev pub IsShown : Bool → EditedSource → Shown → Type 0

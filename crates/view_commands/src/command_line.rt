@@ -4,7 +4,7 @@ ghost use Rattle.clap.specs.Words.{app_of, rule_of};
 ghost use Rattle.command_words.specs.Answered.{said};
 ghost use Rattle.command_words.specs.Said.{SaysMistake, class_in, text_in};
 ghost use Rattle.command_words.specs.Printed.{IsPrinted};
-ghost use Rattle.view_commands.specs.CommandLine.{advise_app, asked, asked_by, asked_in, at_least_rule, at_most_rule, axis_rule, best_rule, check_app, compare_app, core_rule, file_rule, from_rule, json_rule, judged_rule, less_rule, over_rule, page_app, report_app, session_app, settle_app, settle_rule, showing_app, simulate_app, strict_rule, task_rule, TellsMistake, text_told, ticks_rule, timeline_app, to_rule, trace_app, view_app};
+ghost use Rattle.view_commands.specs.CommandLine.{advise_app, asked, asked_by, asked_in, at_least_rule, at_most_rule, axis_rule, best_rule, check_app, compare_app, core_rule, file_rule, from_rule, json_rule, judged_rule, keep_work_rule, less_rule, over_rule, page_app, report_app, session_app, settle_app, settle_rule, showing_app, simulate_app, strict_rule, task_rule, TellsMistake, text_told, ticks_rule, ties_rule, timeline_app, to_rule, trace_app, view_app};
 
 use crate::options::asked_for;
 use crate::request::Request;
@@ -27,7 +27,7 @@ const DOCUMENTS: &str = r#"Documents, each a JSON text, in FILE or on standard i
 
 Exit status:
   0  it was shown
-  1  the document or its settled run is refused, or has no such task or core, or its picture has
+  1  the document or a run made of it is refused, or has no such task or core, or its picture has
      more than 4000 places, or a limit is not kept; with --strict also where an edit is refused,
      or a step of the run after the edits
   2  a bad command line, or a number that has no such name
@@ -53,12 +53,12 @@ Example: smp_view session examples/another-call.json";
 const SETTLED_RUNS: &str =
     "A settled run is what a target makes of the calls, ticks and interrupts of a session: each switch
 and each return from a call is made by itself. Standard error says how many calls of which tasks
-were not made.
+were not made. With --keep-work the run that keeps work is printed in its place.
 
 Example: smp_view settle examples/held-kernel.json";
 
 // Below the options of a comparison.
-const COMPARISONS: &str = "With --settle it also says which calls were not made.
+const COMPARISONS: &str = "With --settle or --keep-work it also says which calls were not made.
 
 Example: smp_view compare --settle examples/settled/shorter-timeout.json";
 
@@ -115,6 +115,22 @@ fn settle_flag<'a>(alloc: Global) -> Arg<'a>
 {
     flag(alloc, "settle").help(
         "Shows settled runs: what a target makes of the calls, ticks and interrupts",
+    )
+}
+
+fn keep_work_flag<'a>(alloc: Global) -> Arg<'a>
+    ensures { rule_of result ≡ keep_work_rule }
+{
+    flag(alloc, "keep-work").help(
+        "Shows runs that keep work: a call comes when its task worked as long as before",
+    )
+}
+
+fn ties_option<'a>(alloc: Global) -> Arg<'a>
+    ensures { rule_of result ≡ ties_rule }
+{
+    option(alloc, "ties", "WHICH").help(
+        "Which of several calls at one time is first: oldest, also if left out, or core",
     )
 }
 
@@ -242,6 +258,8 @@ fn trace_command<'a>(alloc: Global) -> Result<Command<'a>, AllocError>
         .after_help(TRACES)
         .about("Prints each place of a run, and each step with all that it changed")
         .arg(settle_flag(alloc))?
+        .arg(keep_work_flag(alloc))?
+        .arg(ties_option(alloc))?
         .arg(from_option(alloc))?
         .arg(to_option(alloc))?
         .arg(task_option(alloc))?
@@ -266,6 +284,8 @@ fn settle_command<'a>(alloc: Global) -> Result<Command<'a>, AllocError>
     Command::new(alloc, "settle")
         .after_help(SETTLED_RUNS)
         .about("Prints the settled run of the session with its edits made, as a document")
+        .arg(keep_work_flag(alloc))?
+        .arg(ties_option(alloc))?
         .arg(strict_flag(alloc))?
         .arg(file_argument(alloc))
 }
@@ -277,6 +297,8 @@ fn compare_command<'a>(alloc: Global) -> Result<Command<'a>, AllocError>
         .after_help(COMPARISONS)
         .about("Shows the runs before and after the edits, and what each task gained and lost")
         .arg(settle_flag(alloc))?
+        .arg(keep_work_flag(alloc))?
+        .arg(ties_option(alloc))?
         .arg(strict_flag(alloc))?
         .arg(file_argument(alloc))
 }
@@ -288,6 +310,8 @@ fn timeline_command<'a>(alloc: Global) -> Result<Command<'a>, AllocError>
         .after_help(PICTURES)
         .about("Draws the runs before and after the edits, as an SVG picture")
         .arg(settle_flag(alloc))?
+        .arg(keep_work_flag(alloc))?
+        .arg(ties_option(alloc))?
         .arg(axis_option(alloc))?
         .arg(from_option(alloc))?
         .arg(to_option(alloc))?
@@ -302,6 +326,8 @@ fn page_command<'a>(alloc: Global) -> Result<Command<'a>, AllocError>
         .after_help(PAGES)
         .about("Writes one HTML file of the runs: picture, trace, comparison and report")
         .arg(settle_flag(alloc))?
+        .arg(keep_work_flag(alloc))?
+        .arg(ties_option(alloc))?
         .arg(axis_option(alloc))?
         .arg(from_option(alloc))?
         .arg(to_option(alloc))?
@@ -316,6 +342,8 @@ fn report_command<'a>(alloc: Global) -> Result<Command<'a>, AllocError>
         .after_help(REPORTS)
         .about("Prints the numbers of the run, or of the runs before and after the edits")
         .arg(settle_flag(alloc))?
+        .arg(keep_work_flag(alloc))?
+        .arg(ties_option(alloc))?
         .arg(json_flag(alloc))?
         .arg(strict_flag(alloc))?
         .arg(file_argument(alloc))
@@ -328,6 +356,8 @@ fn check_command<'a>(alloc: Global) -> Result<Command<'a>, AllocError>
         .after_help(CHECKS)
         .about("Says whether numbers of the run after the edits keep limits")
         .arg(settle_flag(alloc))?
+        .arg(keep_work_flag(alloc))?
+        .arg(ties_option(alloc))?
         .arg(at_most_option(alloc))?
         .arg(at_least_option(alloc))?
         .arg(strict_flag(alloc))?
@@ -341,6 +371,8 @@ fn advise_command<'a>(alloc: Global) -> Result<Command<'a>, AllocError>
         .after_help(ADVICE)
         .about("Tries changes of the tasks, and prints those that make a number lowest")
         .arg(settle_flag(alloc))?
+        .arg(keep_work_flag(alloc))?
+        .arg(ties_option(alloc))?
         .arg(judged_option(alloc))?
         .arg(less_option(alloc))?
         .arg(over_option(alloc))?

@@ -3,7 +3,11 @@ ghost use Rattle.std.specs.Prelude.{◌≡◌, ◌++◌, IfOk, OnOk, string_byte
 ghost use Rattle.view_commands.specs.EditedSources.{after_of, edit_lines, has_edits, last_workload, making_of, refused_of, session_source};
 ghost use Rattle.view_commands.specs.Parts.{is_long};
 
+use crate::kept::{notes_of, places_refused};
+use crate::request::SessionRuns;
 use edited_workloads::EditedWorkload;
+use kept_runs::CallOrder;
+use kept_sessions::KeptSession;
 use run_comparisons::refused_places;
 use run_sources::Source;
 use session_edits::EditedSession;
@@ -26,6 +30,8 @@ pub(crate) enum EditedSource {
     Settled(EditedSession),
     /// A workload.
     Workload(EditedWorkload),
+    /// A session whose runs keep work.
+    Kept(KeptSession, CallOrder),
 }
 
 /// The workload that the edits leave.
@@ -39,14 +45,15 @@ pub(crate) fn last_workload(edited: &EditedWorkload) -> &CheckedWorkload
 }
 
 impl EditedSource {
-    /// A session with its edits.
-    pub(crate) fn of_session(edited: EditedSession, settled: bool) -> Self
-        ensures { result ≡ session_source settled edited.session edited.edits }
+    /// A session with its edits, whose runs are made so. Changes of work are passed over where they
+    /// do not keep work.
+    pub(crate) fn of_session(made: KeptSession, sessions: SessionRuns) -> Self
+        ensures { result ≡ session_source sessions made.session made.edits }
     {
-        if settled {
-            EditedSource::Settled(edited)
-        } else {
-            EditedSource::Session(edited)
+        match sessions {
+            SessionRuns::AsWritten => EditedSource::Session(made.into_plain()),
+            SessionRuns::Settled => EditedSource::Settled(made.into_plain()),
+            SessionRuns::Kept(order) => EditedSource::Kept(made, order),
         }
     }
 
@@ -58,6 +65,7 @@ impl EditedSource {
                 edited.edits().len() > 0
             }
             EditedSource::Workload(edited) => edited.edited.is_some(),
+            EditedSource::Kept(made, _) => made.edits().len() > 0,
         }
     }
 
@@ -70,6 +78,7 @@ impl EditedSource {
                 edited.session().steps().len() >= LONG_SESSION
             }
             EditedSource::Workload(edited) => edited.workload.ticks() >= LONG_WORKLOAD,
+            EditedSource::Kept(made, _) => made.session().steps().len() >= LONG_SESSION,
         }
     }
 
@@ -81,6 +90,7 @@ impl EditedSource {
             EditedSource::Session(_) => Making::AsWritten,
             EditedSource::Settled(_) => Making::Settled,
             EditedSource::Workload(_) => Making::Simulated,
+            EditedSource::Kept(_, _) => Making::Kept,
         }
     }
 
@@ -94,6 +104,7 @@ impl EditedSource {
             EditedSource::Workload(edited) => {
                 Ok(Source::Workload(last_workload(edited).copy(alloc)?))
             }
+            EditedSource::Kept(made, order) => Ok(Source::Kept(made.copy(alloc)?, *order)),
         }
     }
 
@@ -106,6 +117,7 @@ impl EditedSource {
                 refused_places(alloc, edited)
             }
             EditedSource::Workload(_) => Ok(Vec::new(alloc)),
+            EditedSource::Kept(made, _) => places_refused(alloc, made),
         }
     }
 
@@ -116,6 +128,7 @@ impl EditedSource {
         match self {
             EditedSource::Session(edited) | EditedSource::Settled(edited) => edited.notes(alloc),
             EditedSource::Workload(_) => Ok(String::new(alloc)),
+            EditedSource::Kept(made, _) => notes_of(alloc, made),
         }
     }
 }

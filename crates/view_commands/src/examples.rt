@@ -1,5 +1,5 @@
 //! Command lines that were worked out by hand.
-ghost use Rattle.view_commands.specs.CommandLines.{WorkedAdvice, WorkedChecks, WorkedHelp, WorkedMistakes, WorkedSimulations, WorkedTraces, WorkedVersions, WorkedViews};
+ghost use Rattle.view_commands.specs.CommandLines.{WorkedAdvice, WorkedChecks, WorkedHelp, WorkedKeptRuns, WorkedMistakes, WorkedSimulations, WorkedTraces, WorkedVersions, WorkedViews};
 
 /// Command lines with what they ask for. It does nothing: its contract is the laws, one a clause.
 pub fn examples_of_command_lines()
@@ -7,6 +7,9 @@ pub fn examples_of_command_lines()
     ensures traces { WorkedTraces }
     // Another view is asked for.
     ensures views { WorkedViews }
+    // Runs that keep work are asked for, or options name two ways to make runs, ties alone, or an
+    // unknown order.
+    ensures kept_runs { WorkedKeptRuns }
     // The run of a workload is asked for.
     ensures simulations { WorkedSimulations }
     // A check is asked for, or limits are missing.

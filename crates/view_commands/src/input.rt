@@ -1,25 +1,27 @@
 //! What is told of an input.
-ghost use Rattle.std.specs.Prelude.{◌≡◌, IfOk, string_bytes};
-ghost use Rattle.session_text.specs.Bench.{IsCheckedBench, bench_text};
+ghost use Rattle.std.specs.Prelude.{◌≡◌, is_none, position, IfOk, string_bytes};
+ghost use Rattle.kept_edits.specs.Edits.{plain_edit};
+ghost use Rattle.session_text.specs.Bench.{kept_bench_text, IsKeptBench};
 ghost use Rattle.session_text.specs.Session.{document};
 ghost use Rattle.workload_text.specs.Documents.{is_workload_text};
 ghost use Rattle.edited_workloads.specs.Edited.{edited_workload_text};
 ghost use Rattle.program_io.specs.Refusal.{IsPrintedFault};
-ghost use Rattle.view_commands.specs.Commands.{IsPrintedOfBench, IsPrintedOfDocument, IsPrintedOfNone, IsPrintedOfText, IsPrintedOfTicked, IsPrintedOfWorkload, IsView, ViewIsOne};
+ghost use Rattle.view_commands.specs.Commands.{unshown_edit, IsPrintedOfBench, IsPrintedOfDocument, IsPrintedOfNone, IsPrintedOfSession, IsPrintedOfText, IsPrintedOfTicked, IsPrintedOfWorkload, IsView, ViewIsOne};
 ghost use Rattle.view_commands.specs.Refusals.{refused_lines};
 ghost use Rattle.view_commands.specs.Ticks.{both_ticked, ticks_of};
 
 use crate::answer::noted_answer;
 use crate::edited::EditedSource;
-use crate::refusals::{refused_document, refused_length, refused_ticks};
-use crate::request::{Documents, Job};
+use crate::refusals::{refused_document, refused_length, refused_ticks, refused_work};
+use crate::request::{Documents, Job, SessionRuns};
 use crate::ticks::both_ticked;
 use bench_types::{CheckedSession, MAX_INPUT};
 use edited_workloads::{EditedWorkload, read_edited_workload};
 use json_data::Scratch;
+use kept_edits::KeptEdit;
+use kept_sessions::KeptSession;
 use program_io::{Output, explained, too_long, twice_note, twice_note_of_refused, warned};
-use session_edits::EditedSession;
-use session_text::{Bench, Noted, TextFault, document, read_bench_noted};
+use session_text::{Bench, Noted, TextFault, document, read_kept_bench_noted};
 use shown_runs::PartProgress;
 use std::alloc::{AllocError, Global};
 use std::thread::Threads;
@@ -34,19 +36,36 @@ fn refused_text(alloc: Global, input: &[u8], fault: TextFault) -> Result<Output,
     warned(explained(alloc, input, fault)?.on_error(alloc)?, line)
 }
 
-// What is told of a document that was read, after these lines. Texts may have any number of steps,
-// so J2 is found here.
-fn printed_of_bench<T: Threads + Sync, P: PartProgress>(
+// Where the first change of work stands.
+fn first_change_of_work(edits: &[KeptEdit]) -> Option<usize>
+    ensures { result ≡ position (λ edit. is_none (plain_edit edit)) edits.now }
+{
+    edits.iter().position(|edit| edit.plain().is_none())
+}
+
+// Where the first of the edits stands for which a session is not shown by such runs.
+fn unshown_edit(sessions: SessionRuns, edits: &[KeptEdit]) -> Option<usize>
+    ensures { result ≡ unshown_edit sessions edits.now }
+{
+    match sessions {
+        SessionRuns::AsWritten | SessionRuns::Settled => first_change_of_work(edits),
+        SessionRuns::Kept(_) => None,
+    }
+}
+
+// What is told, after these lines, of a document whose edits are shown by the runs. Texts may have
+// any number of steps, so J2 is found here.
+fn printed_of_session<T: Threads + Sync, P: PartProgress>(
     rt: &T,
     host: &HostRuntime,
     progress: &mut P,
     alloc: Global,
     lines: String,
-    bench: Bench,
+    bench: Bench<KeptEdit>,
     job: &Job,
 ) -> Result<Output, AllocError>
-    requires { IsCheckedBench bench }
-    ensures { IfOk result (IsPrintedOfBench (string_bytes lines) job.now bench) }
+    requires { IsKeptBench bench }
+    ensures { IfOk result (IsPrintedOfSession (string_bytes lines) job.now bench) }
 {
     let Bench {
         header,
@@ -57,11 +76,30 @@ fn printed_of_bench<T: Threads + Sync, P: PartProgress>(
         Some(session) => {
             // A session that was checked has no more steps than it may have.
             let _steps = session.steps();
-            let edited = EditedSession::make(alloc, session, edits.into_vec())?;
-            let source = EditedSource::of_session(edited, job.settled);
+            let made = KeptSession::make(alloc, session, edits.into_vec())?;
+            let source = EditedSource::of_session(made, job.sessions);
             noted_answer(rt, host, progress, alloc, lines, &source, job)
         }
         None => refused_length(alloc, lines),
+    }
+}
+
+// What is told, after these lines, of a document that was read.
+fn printed_of_bench<T: Threads + Sync, P: PartProgress>(
+    rt: &T,
+    host: &HostRuntime,
+    progress: &mut P,
+    alloc: Global,
+    lines: String,
+    bench: Bench<KeptEdit>,
+    job: &Job,
+) -> Result<Output, AllocError>
+    requires { IsKeptBench bench }
+    ensures { IfOk result (IsPrintedOfBench (string_bytes lines) job.now bench) }
+{
+    match unshown_edit(job.sessions, bench.edits.as_slice()) {
+        Some(place) => refused_work(alloc, lines, place),
+        None => printed_of_session(rt, host, progress, alloc, lines, bench, job),
     }
 }
 
@@ -75,9 +113,9 @@ fn printed_of_text<T: Threads + Sync, P: PartProgress>(
     job: &Job,
 ) -> Result<Output, AllocError>
     ensures { IfOk result
-        (λ printed. IsPrintedOfText job.now input.now (bench_text input.now) printed) }
+        (λ printed. IsPrintedOfText job.now input.now (kept_bench_text input.now) printed) }
 {
-    match read_bench_noted(alloc, input) {
+    match read_kept_bench_noted(alloc, input) {
         Err(fault) => refused_text(alloc, input, fault),
         Ok(Noted { document, doubled }) => {
             let line = twice_note(alloc, input, doubled)?;

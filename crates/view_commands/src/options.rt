@@ -3,12 +3,13 @@ ghost use Rattle.std.specs.Prelude.{◌≡◌, codes, IfOk, IfSome, map, option_
 ghost use Rattle.std.specs.Option.{IsSomeAnd};
 ghost use Rattle.clap.specs.Words.{found_of, rows_of, subcommand_rows_of};
 ghost use Rattle.command_words.specs.Asking.{number_in};
-ghost use Rattle.view_commands.specs.CommandLine.{TellsMistake, asked_for, asked_in, job_of, lacking_text};
-ghost use Rattle.view_commands.specs.Options.{AreTaken, advice_of, advice_with, ask_of, axis_in, axis_of, check_of, command_of, cores_in, documents_in, extent_by, family_in, file_in, json_in, number_name, page_of, picture_of, places_in, report_of, selection_in, settle_in, settled_in, strict_in, tasks_in, texts_in, ticks_in, usual_best, view_of};
+ghost use Rattle.view_commands.specs.CommandLine.{TellsMistake, asked_for, asked_in, asked_of, job_of, lacking_text};
+ghost use Rattle.view_commands.specs.Options.{AreTaken, advice_of, advice_with, ask_of, axis_in, axis_of, check_of, command_of, cores_in, documents_in, extent_by, family_in, file_in, json_in, number_name, page_of, picture_of, places_in, report_of, selection_in, strict_in, tasks_in, texts_in, ticks_in, usual_best, view_of};
 
 use crate::families::family_of;
 use crate::limits::{are_limits, limits_in};
-use crate::request::{Command, Documents, FileName, Job, Request};
+use crate::request::{Command, Documents, FileName, Job, Request, SessionRuns};
+use crate::run_options::runs_in;
 use bench_types::Items;
 use clap::ArgMatches;
 use ranked_changes::Family;
@@ -51,13 +52,6 @@ const USUAL_FAMILIES: Family = Family {
 
 /// How many of the best changes are told, where the command line has no number.
 const USUAL_BEST: u32 = 10;
-
-fn settle_in(options: &ArgMatches) -> bool
-    requires { AreTaken (rows_of (found_of options.now)) }
-    ensures { result ≡ settle_in (rows_of (found_of options.now)) }
-{
-    options.get_flag("settle")
-}
 
 fn strict_in(options: &ArgMatches) -> bool
     requires { AreTaken (rows_of (found_of options.now)) }
@@ -370,25 +364,23 @@ fn command_of(
     }
 }
 
-// Whether settled runs are shown of sessions.
-fn settled_in(name: &str, options: &ArgMatches) -> bool
-    requires { AreTaken (rows_of (found_of options.now)) }
-    ensures { result ≡ settled_in name.now (rows_of (found_of options.now)) }
-{
-    name == "settle" || settle_in(options)
-}
-
 // What a command is about, if it lacks nothing.
-fn job_of(alloc: Global, name: &str, options: &ArgMatches) -> Result<Option<Job>, AllocError>
+fn job_of(
+    alloc: Global,
+    name: &str,
+    options: &ArgMatches,
+    sessions: SessionRuns,
+) -> Result<Option<Job>, AllocError>
     requires { AreTaken (rows_of (found_of options.now)) }
-    ensures { IfOk result (λ job. job ≡ job_of name.now (rows_of (found_of options.now))) }
+    ensures { IfOk result
+        (λ job. job ≡ job_of name.now (rows_of (found_of options.now)) sessions) }
 {
     let Some(command) = command_of(alloc, name, options)? else {
         return Ok(None);
     };
     Ok(Some(Job {
         command,
-        settled: settled_in(name, options),
+        sessions,
         documents: documents_in(name, options),
         strict: strict_in(options),
     }))
@@ -407,6 +399,26 @@ fn lacking(name: &str) -> &'static str
     }
 }
 
+// What a command asks for, by how the runs of sessions are made.
+fn asked_of(
+    alloc: Global,
+    name: &str,
+    options: &ArgMatches,
+    sessions: SessionRuns,
+) -> Result<Request, AllocError>
+    requires { AreTaken (rows_of (found_of options.now)) }
+    ensures asked { IfOk result
+        (λ request. asked_in request
+        ≡ asked_of name.now (rows_of (found_of options.now)) sessions) }
+    ensures mark { IfOk result TellsMistake }
+{
+    let Some(job) = job_of(alloc, name, options, sessions)? else {
+        return Ok(Request::Lacking(String::from_str(alloc, lacking(name))?));
+    };
+    let file = file_in(alloc, options)?;
+    Ok(Request::Show(job, file))
+}
+
 /// What the command that was met asks for.
 pub(crate) fn asked_for(alloc: Global, matches: &ArgMatches) -> Result<Request, AllocError>
     requires { IsSomeAnd (subcommand_rows_of matches.now) (λ met. AreTaken met.1) }
@@ -416,9 +428,8 @@ pub(crate) fn asked_for(alloc: Global, matches: &ArgMatches) -> Result<Request, 
     ensures mark { IfOk result TellsMistake }
 {
     let (name, options) = matches.subcommand().unwrap();
-    let Some(job) = job_of(alloc, name, options)? else {
-        return Ok(Request::Lacking(String::from_str(alloc, lacking(name))?));
-    };
-    let file = file_in(alloc, options)?;
-    Ok(Request::Show(job, file))
+    match runs_in(name, options) {
+        Ok(sessions) => asked_of(alloc, name, options, sessions),
+        Err(fault) => Ok(Request::Lacking(String::from_str(alloc, fault.text())?)),
+    }
 }

@@ -39,7 +39,7 @@ fn making_parts(making: Making) -> usize
 {
     match making {
         Making::AsWritten => 0,
-        Making::Settled | Making::Simulated => 1,
+        Making::Settled | Making::Simulated | Making::Kept => 1,
     }
 }
 
@@ -81,7 +81,7 @@ pub(crate) fn course_of<'a, P>(
 pub(crate) fn begin_making<P: PartProgress>(course: &mut Course<P>, making: Making) {
     match making {
         Making::AsWritten => {}
-        Making::Settled => course.begin(Part::Settling),
+        Making::Settled | Making::Kept => course.begin(Part::Settling),
         Making::Simulated => course.begin(Part::Simulating),
     }
 }

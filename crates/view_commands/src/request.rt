@@ -1,4 +1,5 @@
 //! What the program may be asked for.
+use kept_runs::CallOrder;
 use session_advice::Question;
 use shown_runs::Ask;
 use std::marker::Model;
@@ -36,12 +37,24 @@ impl Documents {
     }
 }
 
+/// How the runs of sessions are made.
+#[derive(Clone, Copy, Debug, PartialEq, Eq)]
+pub enum SessionRuns {
+    /// Their steps are made as they stand.
+    AsWritten,
+    /// They are settled.
+    Settled,
+    /// They keep the work of tasks. Of several calls that could come at one time this one comes
+    /// first.
+    Kept(CallOrder),
+}
+
 /// What is to be told of a document, and how.
 #[derive(Drop)]
 pub struct Job {
     pub command: Command,
-    /// Whether sessions are settled. The runs of workloads are settled ones anyhow.
-    pub settled: bool,
+    /// How the runs of sessions are made. Those of workloads are settled ones anyhow.
+    pub sessions: SessionRuns,
     pub documents: Documents,
     /// Whether the exit status tells that an edit is refused, or a step of the run.
     pub strict: bool,

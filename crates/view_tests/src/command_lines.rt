@@ -1,5 +1,6 @@
 //! What a command line asks for.
 
+use kept_runs::CallOrder;
 use report_figures::Bound;
 use run_pictures::{Axis, Extent, MAX_PLACES};
 use run_views::Places;
@@ -9,11 +10,11 @@ use shown_runs::{Ask, Selection};
 use std::alloc::{AllocError, Global};
 use std::process::Abort;
 use std::test::Fail;
-use view_commands::{Command, Documents, FileName, Job, Request, request_of};
+use view_commands::{Command, Documents, FileName, Job, Request, SessionRuns, request_of};
 
 /// Command lines, and what each asks for: a trace with its first place, its last, its tasks and its
-/// cores, maybe of a settled run, another command, each with the file that is named, help with its
-/// first line, or nothing that the program does.
+/// cores, maybe of a settled run or of one that keeps work, another command, each with the file
+/// that is named, help with its first line, or nothing that the program does.
 const COMMAND_LINES: &str = "\
 smp_view trace => 0 4294967295
 smp_view trace --from 3 => 3 4294967295
@@ -32,8 +33,18 @@ smp_view compare --settle --strict => strict settled compare
 smp_view trace --strict --to 7 => strict 0 7
 smp_view check --strict --at-most A.run=3 f => strict check A.run most 3 file f
 smp_view settle => settled session
+smp_view settle --keep-work => kept session
+smp_view settle --ties core --keep-work - => kept by core session
 smp_view compare => compare
 smp_view compare --settle => settled compare
+smp_view compare --keep-work => kept compare
+smp_view compare --ties=oldest --keep-work --strict => strict kept compare
+smp_view trace --keep-work --ties core --to 7 f => kept by core 0 7 file f
+smp_view timeline --keep-work --axis tick => kept picture by ticks 0 4294967295
+smp_view page --keep-work --ties=core --from 3 => kept by core page 3 4294967295
+smp_view report --keep-work --json => kept report object
+smp_view check --keep-work --at-most A.run=3 => kept check A.run most 3
+smp_view advise --keep-work --less=run --task=A --over mask => kept advise A.run mask best 10
 smp_view timeline => picture 0 4294967295
 smp_view timeline --to 7 --from 3 => picture 3 7
 smp_view timeline --settle => settled picture 0 4294967295
@@ -125,6 +136,17 @@ smp_view session --strict=no => bad
 smp_view --strict session => bad
 smp_view session --from 3 => bad
 smp_view session --settle => bad
+smp_view session --keep-work => bad
+smp_view simulate --keep-work => bad
+smp_view compare --settle --keep-work => bad
+smp_view compare --keep-work --keep-work => bad
+smp_view compare --keep-work=yes => bad
+smp_view compare --keep-work --ties => bad
+smp_view compare --keep-work --ties cores => bad
+smp_view compare --keep-work --ties core --ties core => bad
+smp_view compare --ties core => bad
+smp_view compare --settle --ties oldest => bad
+smp_view settle --ties oldest => bad
 smp_view settle --settle => bad
 smp_view settle --ticks 3 => bad
 smp_view simulate --ticks 1000001 => bad
@@ -255,9 +277,12 @@ fn view_printed(alloc: Global, job: &Job, file: Option<&FileName>) -> Result<Str
     if job.strict {
         text.push_str("strict ")?;
     }
-    if job.settled {
-        text.push_str("settled ")?;
-    }
+    text.push_str(match job.sessions {
+        SessionRuns::AsWritten => "",
+        SessionRuns::Settled => "settled ",
+        SessionRuns::Kept(CallOrder::Oldest) => "kept ",
+        SessionRuns::Kept(CallOrder::LeastCore) => "kept by core ",
+    })?;
     text.push_str(documents_printed(alloc, job.documents)?.as_str())?;
     text.push_str(command_printed(alloc, &job.command)?.as_str())?;
     if let Some(file) = file {

@@ -13,7 +13,7 @@ use std::process::Abort;
 use std::test::Fail;
 use std::thread::Threads;
 use view_commands::{
-    Command, DocumentSource, Documents, FileName, Folder, Job, Request, carry_out,
+    Command, DocumentSource, Documents, FileName, Folder, Job, Request, SessionRuns, carry_out,
 };
 
 /// A folder with one file.
@@ -76,7 +76,7 @@ fn expect<R: Threads + Abort + Sync>(
     let mut writer = Counted::new(&mut shown);
     let job = Job {
         command: Command::Show(Ask::Session),
-        settled: false,
+        sessions: SessionRuns::AsWritten,
         documents: Documents::All,
         strict: false,
     };

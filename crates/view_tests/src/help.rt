@@ -36,7 +36,7 @@ Documents, each a JSON text, in FILE or on standard input:
 
 Exit status:
   0  it was shown
-  1  the document or its settled run is refused, or has no such task or core, or its picture has
+  1  the document or a run made of it is refused, or has no such task or core, or its picture has
      more than 4000 places, or a limit is not kept; with --strict also where an edit is refused,
      or a step of the run after the edits
   2  a bad command line, or a number that has no such name
@@ -56,6 +56,8 @@ Arguments:
 
 Options:
       --settle        Shows settled runs: what a target makes of the calls, ticks and interrupts
+      --keep-work     Shows runs that keep work: a call comes when its task worked as long as before
+      --ties <WHICH>  Which of several calls at one time is first: oldest, also if left out, or core
       --from <PLACE>  The first place that is shown, or 0 if left out
       --to <PLACE>    The last place that is shown, or the last of the run if left out
       --task <NAME>   Shows the steps that concern this task; may stand several times
@@ -93,13 +95,15 @@ Arguments:
   [FILE]  The file of the document; standard input if it is - or left out
 
 Options:
-      --strict  Ends with status 1 where an edit or a step of the run is refused
-  -h, --help    Print help
+      --keep-work     Shows runs that keep work: a call comes when its task worked as long as before
+      --ties <WHICH>  Which of several calls at one time is first: oldest, also if left out, or core
+      --strict        Ends with status 1 where an edit or a step of the run is refused
+  -h, --help          Print help
 
 A settled run is what a target makes of the calls, ticks and interrupts of a session: each \
     switch
 and each return from a call is made by itself. Standard error says how many calls of which tasks
-were not made.
+were not made. With --keep-work the run that keeps work is printed in its place.
 
 Example: smp_view settle examples/held-kernel.json
 ";
@@ -113,11 +117,13 @@ Arguments:
   [FILE]  The file of the document; standard input if it is - or left out
 
 Options:
-      --settle  Shows settled runs: what a target makes of the calls, ticks and interrupts
-      --strict  Ends with status 1 where an edit or a step of the run is refused
-  -h, --help    Print help
+      --settle        Shows settled runs: what a target makes of the calls, ticks and interrupts
+      --keep-work     Shows runs that keep work: a call comes when its task worked as long as before
+      --ties <WHICH>  Which of several calls at one time is first: oldest, also if left out, or core
+      --strict        Ends with status 1 where an edit or a step of the run is refused
+  -h, --help          Print help
 
-With --settle it also says which calls were not made.
+With --settle or --keep-work it also says which calls were not made.
 
 Example: smp_view compare --settle examples/settled/shorter-timeout.json
 ";
@@ -131,6 +137,8 @@ Arguments:
 
 Options:
       --settle        Shows settled runs: what a target makes of the calls, ticks and interrupts
+      --keep-work     Shows runs that keep work: a call comes when its task worked as long as before
+      --ties <WHICH>  Which of several calls at one time is first: oldest, also if left out, or core
       --axis <AXIS>   What a column is of: place, also if left out, tick or time
       --from <PLACE>  The first place that is shown, or 0 if left out
       --to <PLACE>    The last place that is shown, or the last of the run if left out
@@ -153,10 +161,12 @@ Arguments:
   [FILE]  The file of the document; standard input if it is - or left out
 
 Options:
-      --settle  Shows settled runs: what a target makes of the calls, ticks and interrupts
-      --json    Prints one JSON object
-      --strict  Ends with status 1 where an edit or a step of the run is refused
-  -h, --help    Print help
+      --settle        Shows settled runs: what a target makes of the calls, ticks and interrupts
+      --keep-work     Shows runs that keep work: a call comes when its task worked as long as before
+      --ties <WHICH>  Which of several calls at one time is first: oldest, also if left out, or core
+      --json          Prints one JSON object
+      --strict        Ends with status 1 where an edit or a step of the run is refused
+  -h, --help          Print help
 
 Time in each condition with the longest stretch of it, switches, refusals and the like, of
 each task, core and mutex. The table leaves out what is 0; the JSON object has everything.
@@ -174,6 +184,10 @@ Arguments:
 Options:
       --settle             Shows settled runs: what a target makes of the calls, ticks and \
     interrupts
+      --keep-work          Shows runs that keep work: a call comes when its task worked as long as \
+    before
+      --ties <WHICH>       Which of several calls at one time is first: oldest, also if left out, \
+    or core
       --at-most <NAME=N>   The number of this name is to be N or less; may stand several times
       --at-least <NAME=N>  The number of this name is to be N or more; may stand several times
       --strict             Ends with status 1 where an edit or a step of the run is refused
@@ -197,6 +211,10 @@ Arguments:
 Options:
       --settle          Shows settled runs: what a target makes of the calls, ticks and \
     interrupts
+      --keep-work       Shows runs that keep work: a call comes when its task worked as long as \
+    before
+      --ties <WHICH>    Which of several calls at one time is first: oldest, also if left out, or \
+    core
       --task <NAME>     The task that is to have less of a number
       --less <NUMBER>   The number of the task, as `report` names it: blocked.mutex, \
     ready.longest, ..
@@ -226,6 +244,8 @@ Arguments:
 
 Options:
       --settle        Shows settled runs: what a target makes of the calls, ticks and interrupts
+      --keep-work     Shows runs that keep work: a call comes when its task worked as long as before
+      --ties <WHICH>  Which of several calls at one time is first: oldest, also if left out, or core
       --axis <AXIS>   What a column is of: place, also if left out, tick or time
       --from <PLACE>  The first place that is shown, or 0 if left out
       --to <PLACE>    The last place that is shown, or the last of the run if left out

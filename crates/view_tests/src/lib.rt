@@ -15,6 +15,8 @@ mod files;
 #[cfg(test)]
 mod help;
 #[cfg(test)]
+mod kept;
+#[cfg(test)]
 mod opened;
 #[cfg(test)]
 mod pages;

@@ -15,7 +15,7 @@ use std::alloc::{AllocError, Global};
 use std::process::Abort;
 use std::test::Fail;
 use std::thread::Threads;
-use view_commands::{Command, Documents, Job, run};
+use view_commands::{Command, Documents, Job, SessionRuns, run};
 
 /// What the trace tells of place 2 of the first run, where place 3 is shown too.
 const SECOND: &str = "place 2, tick 0; core 0 C; core 1 B
@@ -109,18 +109,22 @@ fn the_hash_of_the_script(rt: HostRuntime) -> Result<(), Fail> {
     Ok(())
 }
 
+/// The steps of sessions as they stand.
+const PLAIN: SessionRuns = SessionRuns::AsWritten;
+
 #[test]
 fn pages_of_documents(rt: HostRuntime) -> Result<(), Fail> {
     let all = from_on(0);
-    expect(&rt, &rt, false, all, SHARED_MUTEX, SHARED, NO_NINTH);
-    expect(&rt, &rt, true, from_on(2), FIRST_RUN, SETTLED, "");
-    expect(&rt, &rt, false, all, EDITED, SIMULATED, "");
+    expect(&rt, &rt, PLAIN, all, SHARED_MUTEX, SHARED, NO_NINTH);
+    let settled = SessionRuns::Settled;
+    expect(&rt, &rt, settled, from_on(2), FIRST_RUN, SETTLED, "");
+    expect(&rt, &rt, PLAIN, all, EDITED, SIMULATED, "");
     Ok(())
 }
 
 #[test]
 fn a_picture_of_a_workload(rt: HostRuntime) -> Result<(), Fail> {
-    let picture = told_of(&rt, &rt, false, Ask::Timeline(from_on(0)), EDITED, "");
+    let picture = told_of(&rt, &rt, PLAIN, Ask::Timeline(from_on(0)), EDITED, "");
     for printed in ASIDE.lines() {
         expect_part(&rt, picture.as_slice(), printed);
     }
@@ -134,7 +138,7 @@ fn a_page_compares_its_places(rt: HostRuntime) -> Result<(), Fail> {
         places: Places { from: 2, to: 3 },
         axis: Axis::Places,
     };
-    let page = told_of(&rt, &rt, false, Ask::Page(extent), SHARED_MUTEX, NO_NINTH);
+    let page = told_of(&rt, &rt, PLAIN, Ask::Page(extent), SHARED_MUTEX, NO_NINTH);
     expect_part(&rt, page.as_slice(), SHARED_AT);
     Ok(())
 }
@@ -173,13 +177,13 @@ fn from_on(from: u32) -> Extent {
 fn expect<R: Threads + Abort + Sync>(
     rt: &R,
     host: &HostRuntime,
-    settled: bool,
+    sessions: SessionRuns,
     extent: Extent,
     document: &str,
     wanted: &str,
     note: &str,
 ) {
-    let page = told_of(rt, host, settled, Ask::Page(extent), document, note);
+    let page = told_of(rt, host, sessions, Ask::Page(extent), document, note);
     for printed in wanted.lines() {
         expect_part(rt, page.as_slice(), printed);
     }
@@ -190,14 +194,14 @@ fn expect<R: Threads + Abort + Sync>(
 fn told_of<R: Threads + Abort + Sync>(
     rt: &R,
     host: &HostRuntime,
-    settled: bool,
+    sessions: SessionRuns,
     asked: Ask,
     document: &str,
     note: &str,
 ) -> Vec<u8> {
     let job = Job {
         command: Command::Show(asked),
-        settled,
+        sessions,
         documents: Documents::All,
         strict: false,
     };

@@ -125,6 +125,18 @@ const RULES: &str = "<path class='g' d='M150 22V250'/>
 <path class='g' d='M150 278V506'/>
 <path class='g' d='M390 278V506'/>";
 
+/// The places from 3 on are pale through all rows, which take 228 pixels, and a dashed line stands
+/// where place 3 begins. The legend has it behind the four signs of the first run.
+const UNKNOWN: &str = "<g><title>not known from place 3 on</title>\
+<rect class='b f' x='390' y='4' width='240' height='228'/><path class='y' d='M390 4v228'/></g>
+<g transform='translate(8,262)'><rect class='c0' width='20' height='14'/>\
+<rect class='b f' x='8' width='12' height='14'/><path class='y' d='M8 0v14'/>\
+<text class='s' x='26' y='11'>not known</text></g>";
+
+/// Where place 1 is not shown no line stands, and all places that are shown are pale.
+const UNKNOWN_BEFORE: &str = "<g><title>not known from place 1 on</title>\
+<rect class='b f' x='150' y='4' width='320' height='228'/></g>";
+
 /// Steps with their ticks at other places.
 const UPPER: [Step; 3] = [Step::Switch { core: 0 }, Step::Tick, Step::Tick];
 
@@ -260,6 +272,7 @@ fn a_picture_of_two_runs_in_columns(rt: HostRuntime) -> Result<(), Fail> {
     let before = PlacedRun {
         session: &session,
         columns: &[0, 2, 3, 4, 5, 6, 7],
+        known: None,
     };
     let after = PlacedRun {
         columns: &[],
@@ -273,11 +286,65 @@ fn a_picture_of_two_runs_in_columns(rt: HostRuntime) -> Result<(), Fail> {
     Ok(())
 }
 
+#[test]
+fn a_picture_of_a_run_that_is_known_in_part(rt: HostRuntime) -> Result<(), Fail> {
+    let alloc = rt.alloc();
+    let session = session_in(alloc, FIRST_RUN)?;
+    let mut meter = Meter::new(&rt);
+    let run = PlacedRun {
+        known: Some(3),
+        ..alone(&session)
+    };
+    match timeline(alloc, &mut meter, ALL, &run)? {
+        Ok(picture) => expect_printed(&rt, picture.as_str(), UNKNOWN),
+        Err(_) => panic!(rt; "too long"),
+    }
+    match timelines(alloc, &mut meter, ALL, &alone(&session), &run)? {
+        Ok(picture) => assert!(rt; picture.contains("y='278' width='240' height='228'/>")),
+        Err(_) => panic!(rt; "too long"),
+    }
+    Ok(())
+}
+
+/// The first place that is shown may lie behind that from which on the run is not known, and the
+/// last one before it.
+#[test]
+fn pictures_beside_where_a_run_is_known(rt: HostRuntime) -> Result<(), Fail> {
+    let alloc = rt.alloc();
+    let session = session_in(alloc, FIRST_RUN)?;
+    let mut meter = Meter::new(&rt);
+    let before = PlacedRun {
+        known: Some(1),
+        ..alone(&session)
+    };
+    let later = Extent {
+        places: Places {
+            from: 2,
+            ..ALL.places
+        },
+        ..ALL
+    };
+    match timeline(alloc, &mut meter, later, &before)? {
+        Ok(picture) => expect_printed(&rt, picture.as_str(), UNKNOWN_BEFORE),
+        Err(_) => panic!(rt; "too long"),
+    }
+    let behind = PlacedRun {
+        known: Some(6),
+        ..before
+    };
+    match timeline(alloc, &mut meter, ALL, &behind)? {
+        Ok(picture) => assert!(rt; !picture.contains("not known")),
+        Err(_) => panic!(rt; "too long"),
+    }
+    Ok(())
+}
+
 // A run whose places stand at their numbers.
 fn alone(session: &CheckedSession) -> PlacedRun<'_> {
     PlacedRun {
         session,
         columns: &[],
+        known: None,
     }
 }
 
@@ -306,6 +373,7 @@ fn a_picture_by_ticks(rt: HostRuntime) -> Result<(), Fail> {
     let run = PlacedRun {
         session: &session,
         columns: columns.before.as_slice(),
+        known: None,
     };
     let extent = Extent {
         axis: Axis::Ticks,
@@ -349,6 +417,7 @@ fn a_picture_by_time(rt: HostRuntime) -> Result<(), Fail> {
     let run = PlacedRun {
         session: &session,
         columns: columns.before.as_slice(),
+        known: None,
     };
     let extent = Extent {
         axis: Axis::Time,

@@ -9,7 +9,7 @@ use std::alloc::{AllocError, Global};
 use std::process::Abort;
 use std::test::Fail;
 use std::thread::Threads;
-use view_commands::{Command, Documents, Job};
+use view_commands::{Command, Documents, Job, SessionRuns};
 
 /// More than a thousand.
 const TICKS: u32 = 1_500;
@@ -80,7 +80,7 @@ fn push_tick(text: &mut String, at: u32) -> Result<(), AllocError> {
 fn lenient(asked: Ask) -> Job {
     Job {
         command: Command::Show(asked),
-        settled: false,
+        sessions: SessionRuns::AsWritten,
         documents: Documents::All,
         strict: false,
     }

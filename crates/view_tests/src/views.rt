@@ -9,7 +9,7 @@ use std::alloc::{AllocError, Global};
 use std::process::Abort;
 use std::test::Fail;
 use std::thread::Threads;
-use view_commands::{Command, Documents, Job, run};
+use view_commands::{Command, Documents, Job, SessionRuns, run};
 
 const COMPARED: &str =
     "  0 0 mutex_take core 1 by logger mutex 0 ticks 0: true: the mutex was taken; control logger
@@ -90,7 +90,7 @@ fn expect<R: Threads + Abort + Sync>(
 ) {
     let job = Job {
         command: Command::Show(asked),
-        settled: false,
+        sessions: SessionRuns::AsWritten,
         documents: Documents::All,
         strict: false,
     };

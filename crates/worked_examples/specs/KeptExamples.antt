@@ -124,4 +124,4 @@ pub record WorkedKeptRuns : Type 0 where
   -- what task 2 does where it was not notified is not known
   pub known_until_it_returns :
       known_until Oldest notified without_interrupt notified.steps in_vain
-      ≡ Some (record { place = 6; task = 2; reason = Answer })
+      ≡ Some (record { place = 6; task = 2; reason = Answer false })

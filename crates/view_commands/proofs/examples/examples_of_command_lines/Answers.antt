@@ -1,4 +1,4 @@
-use Rattle.view_commands.proofs.CommandLines.{advice, checks, helps, mistakes, simulations, traces, versions, views}
+use Rattle.view_commands.proofs.CommandLines.{advice, checks, helps, kept_runs, mistakes, simulations, traces, versions, views}
 use Rattle.view_commands.proofs.examples.examples_of_command_lines.Goals as goal
 
 pub returns-clause-traces : goal.returns-clause-traces
@@ -6,6 +6,9 @@ returns-clause-traces c = traces
 
 pub returns-clause-views : goal.returns-clause-views
 returns-clause-views c = views
+
+pub returns-clause-kept_runs : goal.returns-clause-kept_runs
+returns-clause-kept_runs c = kept_runs
 
 pub returns-clause-simulations : goal.returns-clause-simulations
 returns-clause-simulations c = simulations

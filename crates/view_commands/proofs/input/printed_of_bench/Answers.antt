@@ -1,9 +1,14 @@
-use Rattle.std.proofs.Common.{string_bytes}
-use Rattle.view_commands.proofs.Outputs.{bench_told}
+use Rattle.std.proofs.Common.{◌∙◌, Some, None, ap, string_bytes}
+use Rattle.view_commands.specs.Commands.{unshown_edit}
+use Rattle.view_commands.proofs.Outputs.{unless_told}
 use Rattle.view_commands.proofs.input.printed_of_bench.Goals as goal
 
-pub returns-in_ok-edited-in-Some : goal.returns-in_ok-edited-in-Some
-returns-in_ok-edited-in-Some g c =
-    bench_told (string_bytes c.args.lines) c.args.job.now c.args.bench c.into_vec.result.items c.into_vec-in-Some.result.items c.in-Some.session
-    c.in_ok-edited-in-Some.edited c.of_session-source.result c.noted_answer.result c.into_vec.ensures c.into_vec-in-Some.ensures c.in-Some.ensures.session
-    c.steps-steps.ensures.checked.few c.in_ok-edited-in-Some.ensures c.of_session-source.ensures c.noted_answer.ensures
+pub returns-in-Some : goal.returns-in-Some
+returns-in-Some g c =
+    unless_told (string_bytes c.args.lines) c.args.job.now c.args.bench (Some c.in-Some.place) c.refused_work.result
+    (c.in-Some.ensures ∙ ap (unshown_edit c.args.job.now.sessions) c.as_slice.ensures) c.refused_work.ensures
+
+pub returns-in-None : goal.returns-in-None
+returns-in-None g c =
+    unless_told (string_bytes c.args.lines) c.args.job.now c.args.bench None c.printed_of_session.result
+    (c.in-None.ensures ∙ ap (unshown_edit c.args.job.now.sessions) c.as_slice.ensures) c.printed_of_session.ensures

@@ -10,7 +10,7 @@ of_parts-requires c =
 
 pub returns : goal.returns
 returns c =
-    subst (λ (pair : PairView). IsKeptPair c.args.edited.now.session c.args.edited.now.edits c.args.refused.items c.args.before c.args.after pair)
+    subst (λ (pair : PairView). IsKeptPair c.args.edited.now.session c.args.edited.now.edits c.args.refused.items c.args.known c.args.before c.args.after pair)
     (sym c.of_parts.ensures)
     (record {
       is_before = refl;
@@ -19,4 +19,5 @@ returns c =
       of_edited = c.requires.after;
       rows = c.in_ok-rows.ensures;
       is_refused = refl;
+      is_known = refl;
     })

@@ -1,4 +1,4 @@
-use Rattle.std.proofs.Common.{subst, sym}
+use Rattle.std.proofs.Common.{refl, subst, sym}
 use Rattle.run_comparisons.specs.Pairs.{IsSettledPair, PairView}
 use Rattle.run_comparisons.proofs.MadePairs.{settled_stands}
 use Rattle.run_comparisons.proofs.pair.RunPair.of_settled.Goals as goal
@@ -11,4 +11,4 @@ of_parts-requires c =
 pub returns-clause-pair : goal.returns-clause-pair
 returns-clause-pair c =
     subst (λ (pair : PairView). IsSettledPair c.args.edited.now.session c.args.edited.now.edits pair) (sym c.of_parts.ensures)
-    (record { before = c.requires.before; after = c.requires.after; rows = c.in_ok-rows.ensures; refused = c.in_ok-refused.ensures })
+    (record { before = c.requires.before; after = c.requires.after; rows = c.in_ok-rows.ensures; refused = c.in_ok-refused.ensures; known = refl })

@@ -1,5 +1,5 @@
 use Rattle.kept_sessions.proofs.Made.{run_is}
-use Rattle.kept_sessions.proofs.run.kept_run.Goals as goal
+use Rattle.kept_sessions.proofs.run.worked_run.Goals as goal
 
 pub returns-clause-run : goal.returns-clause-run
 returns-clause-run c = run_is c.args.order c.args.made.now c.in_ok-runs.runs.settled c.in_ok-runs.runs.kept c.in_ok-runs.ensures.runs

@@ -1,7 +1,7 @@
 use Rattle.std.proofs.Common.{◌+◌, length, ◌∙◌, arith}
 use Rattle.kept_runs.specs.Known.{known_until}
 use Rattle.kept_sessions.proofs.Made.{known_behind, known_is, on_err}
-use Rattle.kept_sessions.proofs.run.known_run.Goals as goal
+use Rattle.kept_sessions.proofs.run.worked_known_run.Goals as goal
 
 pub returns-in_err-limit-clause-some : goal.returns-in_err-limit-clause-some
 returns-in_err-limit-clause-some c =

@@ -46,10 +46,13 @@ check-library.sh
 check-lengths.sh
 check-links.sh
 check-colours.py python3
+check-conform.py python3
 check-examples.sh smp_bench smp_view
 check-install.sh smp_bench smp_view python3
 check-schemas.sh smp_bench python3-jsonschema python3-referencing
 check-settled.py smp_view python3
+check-kept.py python3
+check-kept-runs.py smp_view python3
 check-reports.py smp_view python3
 check-advice.py smp_view python3
 check-workloads.py smp_view python3
